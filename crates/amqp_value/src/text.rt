@@ -1,0 +1,106 @@
+//! Strings of Unicode characters in UTF-8 (OASIS AMQP 1.0, part 1, section 1.6.20).
+ghost use Rattle.std.specs.Prelude.{◌≡◌, ◌↔◌, List, ℕ, [], length, IsUtf8, IsTrue, IfOk, IfErr, IsErrOf};
+ghost use Rattle.amqp_value.specs.declared.text.TextError.{TextError};
+ghost use Rattle.amqp_value.specs.declared.text.TextError.TheVariants.{Memory, NotUtf8};
+ghost use Rattle.std.specs.String.{string_bytes};
+
+use std::alloc::{AllocError, Global};
+use std::marker::Model;
+use std::str;
+use thiserror::Error;
+
+/// Why bytes give no text.
+#[derive(Clone, Copy, Debug, PartialEq, Eq, Error)]
+pub enum TextError {
+    /// There was not enough memory.
+    #[error("Memory")]
+    Memory(AllocError),
+    /// The bytes are no UTF-8.
+    #[error("NotUtf8")]
+    NotUtf8,
+}
+
+impl From<AllocError> for TextError {
+    ghost from_gives = { λ a e. e ≡ Memory a };
+
+    fn from(error: AllocError) -> Self {
+        TextError::Memory(error)
+    }
+}
+
+/// A text, seen as the list of its bytes, which are UTF-8.
+#[derive(Debug, Drop)]
+pub struct Text {
+    text: String,
+}
+
+impl Model for Text {
+    ghost use Rattle.std.specs.Prelude.{List, ℕ};
+    ghost use Rattle.std.specs.String.{string_bytes};
+
+    ghost Value = { List ℕ };
+
+    ghost view = { λ t. string_bytes t.text };
+}
+
+impl Text {
+    /// The empty text; takes no memory.
+    pub fn new(alloc: Global) -> Self
+        ensures { result ≡ [] }
+    {
+        Text {
+            text: String::new(alloc),
+        }
+    }
+
+    /// A copy of `text`; the one error is want of memory.
+    pub fn from_str(alloc: Global, text: &str) -> Result<Self, AllocError>
+        ensures { IfOk result (λ t. t ≡ text.now) }
+    {
+        let text = String::from_str(alloc, text)?;
+        Ok(Text { text })
+    }
+
+    /// The text that `bytes` spell: `NotUtf8` exactly where they are no UTF-8.
+    pub fn from_utf8(alloc: Global, bytes: &[u8]) -> Result<Self, TextError>
+        ensures ok { IfOk result (λ t. t ≡ bytes.now) }
+        ensures utf8 { IfOk result (λ _. IsUtf8 bytes.now) }
+        ensures refused { IsErrOf result TextError.NotUtf8 → IsUtf8 bytes.now → ⊥ }
+    {
+        match str::from_utf8(bytes) {
+            Ok(text) => {
+                let text = Text::from_str(alloc, text)?;
+                Ok(text)
+            }
+            Err(_) => Err(TextError::NotUtf8),
+        }
+    }
+
+    /// The text, lent.
+    pub fn as_str(&self) -> &str
+        ensures { result.now ≡ self.now }
+    {
+        self.text.as_str()
+    }
+
+    /// The text's bytes, lent.
+    pub fn as_bytes(&self) -> &[u8]
+        ensures { result.now ≡ self.now }
+    {
+        self.text.as_bytes()
+    }
+
+    /// The number of bytes.
+    pub fn len(&self) -> usize
+        ensures { result ≡ length self.now }
+    {
+        self.text.as_bytes().len()
+    }
+
+    /// A copy; the one error is want of memory.
+    pub fn try_clone(&self, alloc: Global) -> Result<Self, AllocError>
+        ensures { IfOk result (λ t. t ≡ self.now) }
+    {
+        Text::from_str(alloc, self.as_str())
+    }
+}
