@@ -1,0 +1,44 @@
+-- How a frame lies in the bytes.
+use Rattle.std.specs.Prelude.{◌≡◌, ◌≢◌, ℕ, ◌+◌, ◌*◌, ◌<◌, ◌≤◌, ◌⊎◌, List, [], ◌∷◌, ◌++◌, length, take, drop, slice_index}
+use Rattle.std.specs.Int.{w16, w32, to_be_bytes}
+use Rattle.amqp_wire.specs.Size.{size_of, start_of, channel_of}
+use Rattle.amqp_wire.specs.declared.frame.Front.{Front}
+use Rattle.amqp_wire.specs.declared.frame.Front.TheVariants.{Partial, Refused, Foreign, Whole}
+
+-- the size is there, and is from 8 to the limit
+pub record HasSize (limit : ℕ) (bytes : List ℕ) : Type 0 where
+  pub there : 4 ≤ length bytes
+  pub least : 8 ≤ size_of bytes
+  pub most : size_of bytes ≤ limit
+
+-- a size that is refused as soon as it is there
+abbrev pub IsRefusedSize : ℕ → List ℕ → Type 0
+IsRefusedSize limit bytes = (4 ≤ length bytes) × ((size_of bytes < 8) ⊎ (limit < size_of bytes))
+
+abbrev pub IsBadOffset : List ℕ → Type 0
+IsBadOffset bytes = (start_of bytes < 8) ⊎ (size_of bytes < start_of bytes)
+
+-- a whole frame, whose size may be read
+pub record IsWhole (limit : ℕ) (bytes : List ℕ) : Type 0 where
+  pub size : HasSize limit bytes
+  pub all : size_of bytes ≤ length bytes
+
+pub record HasBody (kind limit : ℕ) (bytes : List ℕ) (size start channel : ℕ) : Type 0 where
+  pub whole : IsWhole limit bytes
+  pub size_is : size ≡ size_of bytes
+  pub start_is : start ≡ start_of bytes
+  pub channel_is : channel ≡ channel_of bytes
+  pub least : 8 ≤ start
+  pub most : start ≤ size
+  pub type : slice_index bytes 5 ≡ kind
+
+-- what bytes begin with, under a limit of the size and for a type of frames
+abbrev pub IsFront : ℕ → ℕ → List ℕ → Front → Type 0
+IsFront kind limit bytes Partial = (length bytes < 4) ⊎ (HasSize limit bytes × (length bytes < size_of bytes))
+IsFront kind limit bytes Refused = IsRefusedSize limit bytes ⊎ (IsWhole limit bytes × IsBadOffset bytes)
+IsFront kind limit bytes Foreign = IsWhole limit bytes × (8 ≤ start_of bytes) × (start_of bytes ≤ size_of bytes) × (slice_index bytes 5 ≢ kind)
+IsFront kind limit bytes (Whole size start channel) = HasBody kind limit bytes size start channel
+
+-- the frame that is written
+abbrev pub frame_of : ℕ → ℕ → List ℕ → List ℕ
+frame_of kind channel body = to_be_bytes w32 (8 + length body) ++ (2 ∷ kind ∷ []) ++ to_be_bytes w16 channel ++ body

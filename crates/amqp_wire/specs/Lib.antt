@@ -1,0 +1,11 @@
+pub mod Link
+pub mod Source
+pub mod Status
+pub mod Size
+pub mod Frame
+pub mod Steps
+pub mod Codec
+pub mod Failures
+pub mod Memory
+pub mod Piped
+pub mod Faulty
