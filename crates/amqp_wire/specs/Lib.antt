@@ -5,6 +5,7 @@ pub mod Size
 pub mod Frame
 pub mod Steps
 pub mod Codec
+pub mod Events
 pub mod Failures
 pub mod Memory
 pub mod Piped
