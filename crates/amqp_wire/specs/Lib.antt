@@ -6,6 +6,7 @@ pub mod Frame
 pub mod Steps
 pub mod Codec
 pub mod Events
+pub mod Reading
 pub mod Failures
 pub mod Memory
 pub mod Piped

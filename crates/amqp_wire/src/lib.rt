@@ -10,5 +10,6 @@ pub mod frame;
 pub mod link;
 pub mod memory;
 pub mod pipe;
+pub mod reading;
 pub mod source;
 pub mod status;
