@@ -1,11 +1,11 @@
-use Rattle.std.proofs.Common.{◌≡◌, ◌≤◌, ◌<◌, List, ℕ, [], ◌++◌, length, take, drop, Option, Some, None, refl, sym, ap, ◌∙◌, subst, append_assoc, arith}
+use Rattle.std.proofs.Common.{◌≡◌, ◌≤◌, List, ℕ, [], ◌++◌, take, Option, Some, None, refl, sym, ap, ◌∙◌, subst, append_assoc, arith}
 use Rattle.std.proofs.lemmas.List.{append-nil}
-use Rattle.list_laws.specs.Told.{Loses, Gains}
+use Rattle.list_laws.specs.Told.{Gains}
 use Rattle.list_laws.proofs.Told.{loses_none, gains_none, loses_then, gains_then}
 use Rattle.amqp_wire.specs.declared.link.Link.{Ghosts}
 use Rattle.amqp_wire.specs.declared.link.Stop.{Stop}
 use Rattle.amqp_wire.specs.declared.link.Held.{Held}
-use Rattle.amqp_wire.specs.Steps.{Gave, GaveNone, ReadBy, Took, TookNone, WroteBy}
+use Rattle.amqp_wire.specs.Steps.{Gave, ReadBy, Took, WroteBy}
 use Rattle.amqp_wire.specs.Codec.{Codec, Fed, Sent}
 
 pub gave_nothing : {L : Type 0} (link : Ghosts L) (a : L) → Gave link a [] a

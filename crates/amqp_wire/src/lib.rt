@@ -13,3 +13,5 @@ pub mod pipe;
 pub mod reading;
 pub mod source;
 pub mod status;
+#[cfg(test)]
+mod tests;
