@@ -1,0 +1,11 @@
+pub mod Error
+pub mod Code
+pub mod Field
+pub mod Grammar
+pub mod SaslCode
+pub mod SaslKind
+pub mod Sasl
+pub mod Canonical
+pub mod Reading
+pub mod Listing
+pub mod Writing
