@@ -89,7 +89,10 @@ fn blocks_into<P: Prf>(prf: &P, salt: &[u8], rounds: u32, out: &mut [u8])
     }
 }
 
-/// The key that PBKDF2 (RFC 8018, section 5.2) derives from a password and a salt, into `res`.
+/// Writes the key that PBKDF2 (RFC 8018, section 5.2) derives from a password and a salt into `res`.
+///
+/// The length of the key is that of `res`: at most 2^32 - 1 outputs of `P`. Rounds 0 count as 1. `InvalidLength` comes
+/// exactly where `P` does not take the password as its key, and leaves `res` as it was.
 pub fn pbkdf2<P: Prf>(
     password: &[u8],
     salt: &[u8],
@@ -97,23 +100,29 @@ pub fn pbkdf2<P: Prf>(
     res: &mut [u8],
 ) -> Result<(), InvalidLength>
     requires { length res.old ≤ P.OUTPUT * u32.MAX }
-    ensures refused { IsOk result ↔ (P.accepts password.now ≡ true) }
+    ensures accepted { IsOk result ↔ (P.accepts password.now ≡ true) }
     ensures ok { OnOk result (res.new ≡ pbkdf2_of (P.mac password.now) P.OUTPUT salt.now rounds (length res.old)) }
     ensures err { OnErr result (res.new ≡ res.old) }
+
+    // A shorter key is the front of a longer one, and no rounds are one round.
+    ensures front { OnOk result ((len : ℕ) → len ≤ length res.old →
+        take len res.new ≡ pbkdf2_of (P.mac password.now) P.OUTPUT salt.now rounds len) }
+    ensures no_rounds { OnOk result (rounds ≡ 0 →
+        res.new ≡ pbkdf2_of (P.mac password.now) P.OUTPUT salt.now 1 (length res.old)) }
 {
     let prf = P::new_from_slice(password)?;
     blocks_into(&prf, salt, rounds, res);
     Ok(())
 }
 
-/// As `pbkdf2`, into an array.
+/// The key that `pbkdf2` derives, of `N` bytes.
 pub fn pbkdf2_array<P: Prf, const N: usize>(
     password: &[u8],
     salt: &[u8],
     rounds: u32,
 ) -> Result<[u8; N], InvalidLength>
     requires { N ≤ P.OUTPUT * u32.MAX }
-    ensures refused { IsOk result ↔ (P.accepts password.now ≡ true) }
+    ensures accepted { IsOk result ↔ (P.accepts password.now ≡ true) }
     ensures ok { IfOk result (λ key. key ≡ pbkdf2_of (P.mac password.now) P.OUTPUT salt.now rounds N) }
 {
     let mut key = [0u8; N];
@@ -121,18 +130,26 @@ pub fn pbkdf2_array<P: Prf, const N: usize>(
     Ok(key)
 }
 
-/// The key that PBKDF2 derives with HMAC over a hash function.
+/// Writes the key that PBKDF2 derives with HMAC (RFC 2104) over the hash function `D` into `res`.
+///
+/// The length of the key is that of `res`: at most 2^32 - 1 digests of `D`. Rounds 0 count as 1.
 pub fn pbkdf2_hmac<D: HashFn>(password: &[u8], salt: &[u8], rounds: u32, res: &mut [u8])
     requires { length res.old ≤ D.OUTPUT * u32.MAX }
-    ensures { res.new ≡ pbkdf2_of (hmac_of D.digest D.BLOCK password.now) D.OUTPUT salt.now rounds (length res.old) }
+    ensures key { res.new ≡ pbkdf2_of (hmac_of D.digest D.BLOCK password.now) D.OUTPUT salt.now rounds (length res.old) }
+
+    // A shorter key is the front of a longer one, and no rounds are one round.
+    ensures front { (len : ℕ) → len ≤ length res.old →
+        take len res.new ≡ pbkdf2_of (hmac_of D.digest D.BLOCK password.now) D.OUTPUT salt.now rounds len }
+    ensures no_rounds { rounds ≡ 0 →
+        res.new ≡ pbkdf2_of (hmac_of D.digest D.BLOCK password.now) D.OUTPUT salt.now 1 (length res.old) }
 {
     match pbkdf2::<Hmac<D>>(password, salt, rounds, res) {
         Ok(()) => {}
-        Err(_) => unreachable!(),
+        Err(InvalidLength) => unreachable!(),
     }
 }
 
-/// As `pbkdf2_hmac`, into an array.
+/// The key that `pbkdf2_hmac` derives, of `N` bytes.
 pub fn pbkdf2_hmac_array<D: HashFn, const N: usize>(
     password: &[u8],
     salt: &[u8],

@@ -1,4 +1,5 @@
-use Rattle.std.proofs.Common.{◌≡◌, ◌+◌, ◌-◌, ◌*◌, ◌/◌, length, arith}
+use Rattle.std.proofs.Common.{◌≡◌, ◌*◌, length, arith}
+use Rattle.std.specs.Int.{div_ceil}
 use Rattle.std.proofs.lemmas.Grind.{common_steps}
 use Rattle.kdf_core.proofs.Rounds.{block_next, blocks_needed, key_whole}
 use Rattle.kdf_core.proofs.derivation.blocks_into.Goals as goal
@@ -19,6 +20,6 @@ pieces-preserved g c = record {
 pub returns : goal.returns
 returns g c = λ key h.
     let at : c.pieces.done ≡ length c.args.out.now = omega arith in
-    let count : c.pieces.index ≡ (length c.args.out.now + (g.P.Prf.OUTPUT - 1)) / g.P.Prf.OUTPUT =
+    let count : c.pieces.index ≡ div_ceil (length c.args.out.now) g.P.Prf.OUTPUT =
     blocks_needed _ _ _ g.met.P.Prf.output_low (omega arith) (omega arith) in
     key_whole _ _ _ _ _ _ _ _ at c.pieces.auto.out count (c.pieces.invariant.same key h)
