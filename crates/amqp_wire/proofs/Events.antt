@@ -11,7 +11,7 @@ use Rattle.amqp_wire.specs.declared.link.Held.{Held}
 use Rattle.amqp_wire.specs.declared.link.Held.TheVariants.{Full, Failed as FailedWrite, Memory}
 use Rattle.amqp_wire.specs.Steps.{Gave, GaveNone, Took, TookNone}
 use Rattle.amqp_wire.specs.Link.{Rose}
-use Rattle.amqp_wire.specs.Events.{LinkEvent, Read, Wrote, NotRead, NotWritten, IsEvent, Went, read_of, wrote_of, reads_in, Includes}
+use Rattle.amqp_wire.specs.Events.{LinkEvent, Read, Wrote, NotRead, NotWritten, IsEvent, Went, read_of, wrote_of, reads_in, Includes, HasFailed}
 
 -- events after events
 pub went_then : {L : Type 0} (link : Ghosts L) (a b c : L) (es fs : List LinkEvent) → Went link a es b → Went link b fs c → Went link a (fs ++ es) c
@@ -106,10 +106,6 @@ rose_between a b c d p q r s = elim r [ inl x ↦ inl (omega arith) | inr x ↦ 
 event_failed : {L : Type 0} (link : Ghosts L) (a b : L) (x : LinkEvent) → IsEvent link a x b → (x ≡ NotRead Failed) ⊎ (x ≡ NotWritten FailedWrite) → Rose (link.faults a) (link.faults b)
 event_failed link a b x p (inl e) = let q : IsEvent link a (NotRead Failed) b = subst (λ (y : LinkEvent). IsEvent link a y b) e p in q.why
 event_failed link a b x p (inr e) = let q : IsEvent link a (NotWritten FailedWrite) b = subst (λ (y : LinkEvent). IsEvent link a y b) e p in q.why
-
--- the link failed, at a read or at a write
-abbrev pub HasFailed : List LinkEvent → Type 0
-HasFailed es = Includes es (NotRead Failed) ⊎ Includes es (NotWritten FailedWrite)
 
 failed_here : (x : LinkEvent) (es : List LinkEvent) → HasFailed (x ∷ es) → ((x ≡ NotRead Failed) ⊎ (x ≡ NotWritten FailedWrite)) ⊎ HasFailed es
 failed_here x es (inl (inl e)) = inl (inl e)

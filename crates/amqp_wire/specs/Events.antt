@@ -2,7 +2,9 @@
 use Rattle.std.specs.Prelude.{◌≡◌, ◌<◌, ◌+◌, ◌⊎◌, ℕ, List, [], ◌∷◌, ◌++◌, length}
 use Rattle.amqp_wire.specs.declared.link.Link.{Ghosts}
 use Rattle.amqp_wire.specs.declared.link.Stop.{Stop}
+use Rattle.amqp_wire.specs.declared.link.Stop.TheVariants.{Failed}
 use Rattle.amqp_wire.specs.declared.link.Held.{Held}
+use Rattle.amqp_wire.specs.declared.link.Held.TheVariants.{Failed as FailedWrite}
 use Rattle.amqp_wire.specs.Steps.{Gave, GaveNone, Took, TookNone}
 
 -- a read that gave bytes, writes that took bytes, and a read or a write that moved none
@@ -51,3 +53,7 @@ reads_in (NotWritten held ∷ events) = reads_in events
 abbrev pub Includes : List LinkEvent → LinkEvent → Type 0
 Includes [] y = ⊥
 Includes (x ∷ events) y = (x ≡ y) ⊎ Includes events y
+
+-- the link failed, at a read or at a write
+abbrev pub HasFailed : List LinkEvent → Type 0
+HasFailed events = Includes events (NotRead Failed) ⊎ Includes events (NotWritten FailedWrite)

@@ -95,3 +95,12 @@ pub enum Held {
     /// Memory was wanting.
     Memory,
 }
+
+/// How input or output failed.
+#[derive(Clone, Copy, Debug, PartialEq, Eq)]
+pub enum IoKind {
+    /// The link's count of faults rose.
+    Fault,
+    /// The input ended where a header or a frame was wanted, or inside one.
+    End,
+}

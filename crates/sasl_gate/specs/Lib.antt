@@ -1,7 +1,11 @@
 pub mod Check
+pub mod Exchange
+pub mod Frames
+pub mod Negotiation
 pub mod Keys
 pub mod Parts
 pub mod Profile
 pub mod Refusals
 pub mod States
+pub mod Steps
 pub mod Texts

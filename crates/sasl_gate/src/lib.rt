@@ -7,4 +7,5 @@ pub use scram::provider::{NoUsers, OneUser, ScramCredentialProvider};
 pub use scram::server::{Challenge, ScramServer, ServerPhase};
 pub use scram::stored::StoredPassword;
 
+pub mod gate;
 pub mod scram;

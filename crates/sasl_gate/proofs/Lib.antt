@@ -1,0 +1,2 @@
+pub mod Negotiations
+pub mod GateSteps
