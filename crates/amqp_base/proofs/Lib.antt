@@ -1,0 +1,6 @@
+pub mod Ascii
+pub mod Numbers
+pub mod Sound
+pub mod Complete
+pub mod Lists
+pub mod Bodies
