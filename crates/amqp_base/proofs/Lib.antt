@@ -4,3 +4,5 @@ pub mod Sound
 pub mod Complete
 pub mod Lists
 pub mod Bodies
+pub mod Loops
+pub mod Canonical
