@@ -1,11 +1,14 @@
 -- SASL bodies: what is read is spelled so, and what is spelled so is read.
-use Rattle.std.proofs.Common.{◌≡◌, ℕ, zero, suc, ◌≤◌, Bool, true, false, cond, eqb, List, [], ◌∷◌, ◌++◌, length, Option, Some, None, refl, sym, ap, subst, ◌∙◌, arith}
+use Rattle.std.proofs.Common.{◌≡◌, ℕ, zero, suc, ◌≤◌, Bool, true, false, cond, eqb, List, [], ◌∷◌, ◌++◌, length, Option, Some, None, Result, Ok, Err, refl, sym, ap, subst, ◌∙◌, arith}
+use Rattle.std.specs.Prelude.{IfOk, IsErrOf}
 use Rattle.std.specs.Str.{bytes_eq}
 use Rattle.std.specs.List.{find}
 use Rattle.std.proofs.lemmas.Bool.{eqb-true}
 use Rattle.std.proofs.lemmas.Option.{none-some}
 use Rattle.std.proofs.lemmas.List.{append-nil}
 use Rattle.std.proofs.lemmas.Slice.Eq.{bytes_eq-Decides}
+use Rattle.amqp_base.specs.declared.error.BaseError.{BaseError}
+use Rattle.amqp_base.specs.declared.error.BaseError.TheVariants as errors
 use Rattle.amqp_base.specs.declared.fields.field.Field.{Field}
 use Rattle.amqp_base.specs.declared.fields.field.Field.TheVariants as field
 use Rattle.amqp_base.specs.declared.sasl.body.SaslCode.{SaslCode}
@@ -24,7 +27,7 @@ use Rattle.amqp_base.specs.Grammar.{SpellsDescribed}
 use Rattle.amqp_base.specs.Sasl.{AreMechanisms, AreInit, AreChallenge, AreResponse, AreOutcome, AreFields, kind_of, Spells}
 use Rattle.amqp_base.specs.SaslCode.{code_number}
 use Rattle.amqp_base.specs.SaslKind.{number_of, name_of, all_kinds, kind_numbered, kind_named}
-use Rattle.amqp_base.specs.Reading.{◌>>=◌, Left, taken, end_at, only, binary_in, symbol_in, symbols_in, optional_binary_in, optional_text_in, outcome_in, Label, number, name, described_at, kind_labelled, mechanisms_at, init_at, challenge_at, response_at, outcome_at, body_at, sasl_at}
+use Rattle.amqp_base.specs.Reading.{◌>>=◌, Gives, Left, taken, end_at, only, binary_in, symbol_in, symbols_in, optional_binary_in, optional_text_in, outcome_in, Label, number, name, described_at, kind_labelled, mechanisms_at, init_at, challenge_at, response_at, outcome_at, body_at, sasl_at}
 use Rattle.amqp_base.proofs.Numbers.{IsBytes, bind_some, some_is}
 use Rattle.amqp_base.proofs.Sound.{only_is}
 use Rattle.amqp_base.proofs.Lists.{Holds, rest_of, rest_at, rest_length, Again, Before, IsPicker, taken_again, taken_sound, end_again, end_sound, IsLabel, described_sound, described_again}
@@ -345,3 +348,14 @@ sasl_again bytes x s =
 -- bytes spell one body at most
 pub spelled_once : (bytes : List ℕ) (x y : SaslBody) → Spells bytes x → Spells bytes y → x ≡ y
 spelled_once bytes x y s t = some_is x y (sym (sasl_again bytes x s) ∙ sasl_again bytes y t)
+
+-- what a reader of the whole returned
+pub read_is_spelled : (r : Result SaslBody BaseError) (bytes : List ℕ) → IsBytes bytes → Gives (λ x. x) r (sasl_at bytes) → IfOk r (λ x. Spells bytes x)
+read_is_spelled (Ok x) bytes fits h = sasl_sound bytes x fits h
+read_is_spelled (Err e) bytes fits h = tt
+
+pub refused_is_not : (r : Result SaslBody BaseError) (bytes : List ℕ) → Gives (λ x. x) r (sasl_at bytes) → IsErrOf r errors.Decode → (x : SaslBody) → Spells bytes x → ⊥
+refused_is_not (Ok y) bytes h e x s = absurd cc
+refused_is_not (Err (errors.Memory a)) bytes h e x s = absurd cc
+refused_is_not (Err errors.Decode) bytes h e x s = none-some x (sym h ∙ sasl_again bytes x s)
+refused_is_not (Err errors.Size) bytes h e x s = h

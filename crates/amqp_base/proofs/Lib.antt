@@ -6,3 +6,4 @@ pub mod Lists
 pub mod Bodies
 pub mod Loops
 pub mod Canonical
+pub mod Written

@@ -77,13 +77,16 @@ ubyte_is (field.Symbols ss) n e = absurd (none-some n e)
 no_outcome : (n : ℕ) → ((c : SaslCode) → n ≡ code_number c → ⊥) → outcome_in (field.Ubyte n) ≡ None
 no_outcome n h = rw (ne_eqb n 0 (h outcome.Ok), ne_eqb n 1 (h outcome.Auth), ne_eqb n 2 (h outcome.Sys), ne_eqb n 3 (h outcome.SysPerm), ne_eqb n 4 (h outcome.SysTemp)) refl
 
-no_code_by : (r : Option (Field × Left)) (x : ℕ × Left) → (r >>= λ f. ubyte_in f.0 >>= λ n. Some (n, f.1)) ≡ Some x → ((c : SaslCode) → x.0 ≡ code_number c → ⊥)
-    → (r >>= λ f. outcome_in f.0 >>= λ c. Some (c, f.1)) ≡ None
+abbrev picked : {A : Type 0} → Option A → Left → Option (A × Left)
+picked o left = o >>= λ x. Some (x, left)
+
+no_code_by : (r : Option (Field × Left)) (x : ℕ × Left) → (r >>= λ f. picked (ubyte_in f.0) f.1) ≡ Some x → ((c : SaslCode) → x.0 ≡ code_number c → ⊥) → (r >>= λ f. picked (outcome_in f.0) f.1) ≡ None
 no_code_by None x e h = refl
 no_code_by (Some f) x e h =
     let a = bind_some (ubyte_in f.0) (λ n. Some (n, f.1)) x e in
     let n-is : a.0 ≡ x.0 = ap (λ (y : ℕ × Left). y.0) (some_is (a.0, f.1) x a.2) in
-    rw (ubyte_is f.0 a.0 a.1 ∙ ap field.Ubyte n-is, no_outcome x.0 h) refl
+    let f-is : f.0 ≡ field.Ubyte x.0 = ubyte_is f.0 a.0 a.1 ∙ ap field.Ubyte n-is in
+    rw (f-is, no_outcome x.0 h) refl
 
 pub code_fails : (e : BaseError) (left : Left) (n : ℕ) (rest : Left) → taken ubyte_in left ≡ Some (n, rest) → IsSaslCode n (Err e) → Fails e (taken outcome_in left)
 unfolding taken

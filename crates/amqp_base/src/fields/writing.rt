@@ -182,20 +182,20 @@ fn put_list(alloc: Global, out: &mut Binary, fields: &[FieldRef<'_>]) -> Result<
     let mut content = Binary::new(alloc);
     put_fields(alloc, &mut content, fields)?;
     let width = fitting_width(fields.len(), content.as_slice())?;
-    let byte = match width {
-        SizeWidth::One => 0xc0,
-        SizeWidth::Four => 0xd0,
-    };
-    put_compound(out, byte, width, fields.len(), content.as_slice())?;
+    put_compound(out, width.list_byte(), width, fields.len(), content.as_slice())?;
     Ok(())
 }
 
 fn without_last_nulls<'a, 'b>(fields: &'a [FieldRef<'b>]) -> &'a [FieldRef<'b>]
     ensures { map lent result.now ≡ trimmed (map lent fields.now) }
 {
-    match fields.split_last() {
-        Some((FieldRef::Null, front)) => without_last_nulls(front),
-        _ => fields,
+    let Some((last, front)) = fields.split_last() else {
+        return fields;
+    };
+    if last.is_null() {
+        without_last_nulls(front)
+    } else {
+        fields
     }
 }
 
