@@ -1,5 +1,5 @@
 -- SASL bodies: what is read is spelled so, and what is spelled so is read.
-use Rattle.std.proofs.Common.{◌≡◌, ℕ, zero, suc, ◌≤◌, Bool, true, false, cond, eqb, List, [], ◌∷◌, ◌++◌, length, Option, Some, None, Result, Ok, Err, refl, sym, ap, subst, ◌∙◌, arith}
+use Rattle.std.proofs.Common.{◌≡◌, ℕ, Bool, true, false, cond, eqb, List, [], ◌∷◌, ◌++◌, Option, Some, None, Result, Ok, Err, refl, sym, ap, subst, ◌∙◌, arith}
 use Rattle.std.specs.Prelude.{IfOk, IsErrOf}
 use Rattle.std.specs.Str.{bytes_eq}
 use Rattle.std.specs.List.{find}
@@ -22,7 +22,7 @@ use Rattle.amqp_base.specs.declared.sasl.body.SaslBody.{SaslBody}
 use Rattle.amqp_base.specs.declared.sasl.body.SaslBody.TheVariants as body
 use Rattle.amqp_base.specs.declared.sasl.kind.SaslKind.{SaslKind}
 use Rattle.amqp_base.specs.declared.sasl.kind.SaslKind.TheVariants as kind
-use Rattle.amqp_base.specs.Field.{field_at, IsOptional, AreSymbols, one_symbol, array_of_symbols}
+use Rattle.amqp_base.specs.Field.{IsOptional, AreSymbols, one_symbol, array_of_symbols}
 use Rattle.amqp_base.specs.Grammar.{SpellsDescribed}
 use Rattle.amqp_base.specs.Sasl.{AreMechanisms, AreInit, AreChallenge, AreResponse, AreOutcome, AreFields, kind_of, Spells}
 use Rattle.amqp_base.specs.SaslCode.{code_number}
@@ -30,7 +30,7 @@ use Rattle.amqp_base.specs.SaslKind.{number_of, name_of, all_kinds, kind_numbere
 use Rattle.amqp_base.specs.Reading.{◌>>=◌, Gives, Left, taken, end_at, only, binary_in, symbol_in, symbols_in, optional_binary_in, optional_text_in, outcome_in, Label, number, name, described_at, kind_labelled, mechanisms_at, init_at, challenge_at, response_at, outcome_at, body_at, sasl_at}
 use Rattle.amqp_base.proofs.Numbers.{IsBytes, bind_some, some_is}
 use Rattle.amqp_base.proofs.Sound.{only_is}
-use Rattle.amqp_base.proofs.Lists.{Holds, rest_of, rest_at, rest_length, Again, Before, IsPicker, taken_again, taken_sound, end_again, end_sound, IsLabel, described_sound, described_again}
+use Rattle.amqp_base.proofs.Lists.{Holds, rest_of, rest_at, rest_length, IsPicker, taken_again, taken_sound, end_again, end_sound, IsLabel, described_sound, described_again}
 
 -- ---- what a field holds
 

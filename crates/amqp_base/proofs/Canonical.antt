@@ -1,25 +1,24 @@
 -- What is written canonically spells what it is written of.
-use Rattle.std.proofs.Common.{◌≡◌, ℕ, zero, suc, ◌+◌, ◌^◌, ◌<◌, ◌≤◌, Bool, true, false, cond, eqb, ltb, List, [], ◌∷◌, ◌++◌, length, Option, Some, None, refl, sym, ap, subst, ◌∙◌, append_assoc, arith}
-use Rattle.std.specs.Prelude.{IsUtf8, ◌&&◌}
+use Rattle.std.proofs.Common.{◌≡◌, ℕ, zero, suc, ◌+◌, ◌^◌, ◌<◌, ◌≤◌, Bool, true, false, ltb, List, [], ◌∷◌, length, Option, Some, None, refl, sym, subst, ◌∙◌, arith}
+use Rattle.std.specs.Prelude.{◌&&◌}
 use Rattle.std.specs.List.{list_all, All}
 use Rattle.std.proofs.lemmas.Bool.{ltb-true}
 use Rattle.std.proofs.lemmas.List.{length-append}
-use Rattle.std.proofs.lemmas.List.Elements.{All-nil, All-cons, All-head, All-tail, All-weaker}
+use Rattle.std.proofs.lemmas.List.Elements.{All-nil, All-cons, All-head, All-tail}
 use Rattle.amqp_base.specs.declared.fields.code.SizeWidth.{SizeWidth}
 use Rattle.amqp_base.specs.declared.fields.code.SizeWidth.TheVariants.{One, Four}
-use Rattle.amqp_base.specs.declared.fields.code.Code.TheVariants as code
 use Rattle.amqp_base.specs.declared.fields.field.Field.{Field}
 use Rattle.amqp_base.specs.declared.fields.field.Field.TheVariants as field
 use Rattle.amqp_base.specs.declared.sasl.body.SaslBody.{SaslBody}
 use Rattle.amqp_base.specs.declared.sasl.body.SaslBody.TheVariants.{Mechanisms, Init, Challenge, Response, Outcome}
 use Rattle.amqp_base.specs.declared.sasl.kind.SaslKind.{SaslKind}
 use Rattle.amqp_base.specs.declared.sasl.kind.SaslKind.TheVariants as kind
-use Rattle.amqp_base.specs.Code.{octets, limit, block, byte_of, list_byte}
+use Rattle.amqp_base.specs.Code.{limit, block}
 use Rattle.amqp_base.specs.Field.{field_at, IsOptional, AreSymbols, array_of_symbols, optional}
-use Rattle.amqp_base.specs.Grammar.{IsAscii, SpellsSymbols, no_symbols, more_symbols, array_content, SpellsField, null, ubyte, binary, string, symbol, array, SpellsFields, no_fields, more_fields, list_content, SpellsList, empty_list, list, small_ulong, by_number, SpellsDescribed, described}
+use Rattle.amqp_base.specs.Grammar.{IsAscii, SpellsSymbols, no_symbols, more_symbols, SpellsField, null, ubyte, binary, string, symbol, array, SpellsFields, no_fields, more_fields, list_content, SpellsList, empty_list, list, small_ulong, by_number, SpellsDescribed, described}
 use Rattle.amqp_base.specs.SaslKind.{number_of, name_of}
 use Rattle.amqp_base.specs.Sasl.{AreFields, kind_of, Spells}
-use Rattle.amqp_base.specs.Canonical.{narrow_if, width_of, compound_width, element_width, symbol_blocks, array_elements, array_bytes, canonical_field, canonical_fields, kept_before, trimmed, list_bytes, canonical_list, canonical_described, fields_of, canonical_of, IsFieldSized, IsListSized, IsSized, IsFieldWellFormed, IsWellFormed, IsWrittenWellFormed}
+use Rattle.amqp_base.specs.Canonical.{narrow_if, width_of, compound_width, element_width, symbol_blocks, array_elements, canonical_field, canonical_fields, kept_before, trimmed, canonical_list, canonical_described, fields_of, canonical_of, IsFieldSized, IsListSized, IsSized, IsFieldWellFormed, IsWellFormed, IsWrittenWellFormed}
 use Rattle.amqp_base.proofs.Ascii.{and_parts}
 
 -- ---- widths

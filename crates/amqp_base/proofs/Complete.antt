@@ -1,7 +1,5 @@
 -- A field that is spelled so is read, whatever follows.
-use Rattle.std.proofs.Common.{◌≡◌, ℕ, zero, suc, ◌+◌, ◌^◌, ◌<◌, ◌≤◌, Bool, true, false, cond, eqb, List, [], ◌∷◌, ◌++◌, length, Option, Some, None, refl, sym, ap, subst, ◌∙◌, append_assoc, arith}
-use Rattle.std.specs.Prelude.{IsUtf8}
-use Rattle.std.specs.Str.{is_utf8}
+use Rattle.std.proofs.Common.{◌≡◌, ℕ, suc, ◌<◌, List, [], ◌∷◌, ◌++◌, length, Some, refl, sym, ap, ◌∙◌, append_assoc}
 use Rattle.std.proofs.lemmas.List.{append-nil}
 use Rattle.std.proofs.lemmas.Str.{is_utf8-from_IsUtf8}
 use Rattle.amqp_base.specs.declared.fields.code.SizeWidth.{SizeWidth}
@@ -9,10 +7,9 @@ use Rattle.amqp_base.specs.declared.fields.code.SizeWidth.TheVariants.{One, Four
 use Rattle.amqp_base.specs.declared.fields.code.Code.{Code}
 use Rattle.amqp_base.specs.declared.fields.code.Code.TheVariants as code
 use Rattle.amqp_base.specs.declared.fields.field.Field.{Field}
-use Rattle.amqp_base.specs.declared.fields.field.Field.TheVariants as field
-use Rattle.amqp_base.specs.Code.{octets, limit, block, byte_of, find_code}
+use Rattle.amqp_base.specs.Code.{limit, block, byte_of, find_code}
 use Rattle.amqp_base.specs.Grammar.{IsAscii, SpellsSymbols, no_symbols, more_symbols, array_content, SpellsField, null, ubyte, binary, string, symbol, array}
-use Rattle.amqp_base.specs.Reading.{◌>>=◌, Parse, byte_at, size_at, block_at, is_ascii, ascii, symbol_at, symbols_at, code_at, element_of, element_at, only, content_at, array_at, text_at, value_at, read_at}
+use Rattle.amqp_base.specs.Reading.{symbol_at, symbols_at, code_at, element_at, content_at, array_at, text_at, value_at, read_at}
 use Rattle.amqp_base.proofs.Ascii.{is_ascii-from_IsAscii}
 use Rattle.amqp_base.proofs.Numbers.{sizes, block_again}
 

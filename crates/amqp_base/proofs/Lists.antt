@@ -1,9 +1,9 @@
 -- Described lists: what is read is spelled so, and what is spelled so is read.
-use Rattle.std.proofs.Common.{◌≡◌, ℕ, zero, suc, ◌+◌, ◌-◌, ◌^◌, ◌<◌, ◌≤◌, Bool, true, false, cond, eqb, List, [], ◌∷◌, ◌++◌, length, get_or, Option, Some, None, refl, sym, ap, subst, ◌∙◌, ◌⊎◌, inl, inr, append_assoc, arith}
+use Rattle.std.proofs.Common.{◌≡◌, ℕ, suc, ◌-◌, ◌^◌, ◌<◌, ◌≤◌, Bool, true, false, cond, eqb, List, [], ◌∷◌, ◌++◌, length, get_or, Option, Some, None, refl, sym, ap, subst, ◌∙◌, ◌⊎◌, inl, inr, append_assoc, arith}
 use Rattle.std.specs.Int.{w64, to_be_bytes}
 use Rattle.std.proofs.lemmas.Bool.{eqb-true, eqb-false}
 use Rattle.std.proofs.lemmas.Option.{none-some}
-use Rattle.std.proofs.lemmas.List.{append-nil, nil_from_length}
+use Rattle.std.proofs.lemmas.List.{nil_from_length}
 use Rattle.amqp_base.specs.declared.fields.code.SizeWidth.{SizeWidth}
 use Rattle.amqp_base.specs.declared.fields.code.SizeWidth.TheVariants.{One, Four}
 use Rattle.amqp_base.specs.declared.fields.code.Code.TheVariants as code
@@ -11,10 +11,10 @@ use Rattle.amqp_base.specs.declared.fields.field.Field.{Field}
 use Rattle.amqp_base.specs.declared.fields.field.Field.TheVariants as field
 use Rattle.amqp_base.specs.Code.{octets, limit, block, byte_of, list_byte}
 use Rattle.amqp_base.specs.Field.{field_at}
-use Rattle.amqp_base.specs.Grammar.{IsAscii, SpellsField, SpellsFields, no_fields, more_fields, list_content, SpellsList, empty_list, list, SpellsUlong, ulong0, small_ulong, ulong, SpellsDescriptor, by_number, by_name, SpellsDescribed, described}
-use Rattle.amqp_base.specs.Reading.{◌>>=◌, Parse, byte_at, number_at, size_at, block_at, symbol_at, read_at, Left, next_at, taken, end_at, Label, number, name, numbered, named, label_in, label_at, counted_at, list_in, list_at, mark_at, described_at}
-use Rattle.amqp_base.proofs.Numbers.{IsBytes, bind_some, some_is, Takes, byte_takes, number_takes, number_again, wide64, sizes, block_takes, block_again}
-use Rattle.amqp_base.proofs.Sound.{TookSymbol, symbol_takes, field_sound}
+use Rattle.amqp_base.specs.Grammar.{IsAscii, SpellsFields, no_fields, more_fields, list_content, SpellsList, empty_list, list, SpellsUlong, ulong0, small_ulong, ulong, SpellsDescriptor, by_number, by_name, SpellsDescribed, described}
+use Rattle.amqp_base.specs.Reading.{◌>>=◌, byte_at, number_at, size_at, block_at, symbol_at, read_at, Left, next_at, taken, end_at, Label, number, name, numbered, named, label_in, label_at, counted_at, list_in, list_at, mark_at, described_at}
+use Rattle.amqp_base.proofs.Numbers.{IsBytes, bind_some, some_is, byte_takes, number_takes, number_again, wide64, sizes, block_takes, block_again}
+use Rattle.amqp_base.proofs.Sound.{symbol_takes, field_sound}
 use Rattle.amqp_base.proofs.Complete.{symbol_again, field_again}
 
 -- ---- choices by a byte

@@ -1,5 +1,5 @@
 -- What the small readers take from the front, and what they read again.
-use Rattle.std.proofs.Common.{◌≡◌, ℕ, zero, suc, ◌+◌, ◌^◌, ◌<◌, ◌≤◌, Bool, true, false, cond, ltb, List, [], ◌∷◌, ◌++◌, length, get_or, take, drop, Option, Some, None, refl, sym, ap, subst, ◌∙◌, append_assoc, arith, inl, inr}
+use Rattle.std.proofs.Common.{◌≡◌, ℕ, suc, ◌+◌, ◌^◌, ◌<◌, ◌≤◌, Bool, true, false, cond, ltb, List, [], ◌∷◌, ◌++◌, length, get_or, take, drop, Option, Some, None, refl, sym, ap, ◌∙◌, append_assoc, arith, inl, inr}
 use Rattle.std.specs.Int.{Width, w32, w64, byte_len, from_be_bytes, to_be_bytes}
 use Rattle.std.proofs.lemmas.Bool.{cases_lt, ltb-false, le-ltb}
 use Rattle.std.proofs.lemmas.List.{take_at, drop_at, take-append-drop, length-append, length-take, get_or-drop, get_or-take, get_or_past}
@@ -54,10 +54,11 @@ bytes_takes k bytes s rest fits e =
     let g = guard_none (ltb (length bytes) k) (take k bytes, drop k bytes) (s, rest) e in
     let long : k ≤ length bytes = ltb-false _ _ g.0 in
     let s-is : take k bytes ≡ s = ap (λ (p : List ℕ × List ℕ). p.0) g.1 in
-    let rest-is : drop k bytes ≡ rest = ap (λ (p : List ℕ × List ℕ). p.1) g.1 in
-    (record { parts = rw (← s-is, ← rest-is) (sym (take-append-drop k bytes)); rest_fits = rw (← rest-is) (IsBytes-drop k bytes fits) },
+    let rest-is : drop k bytes ≡ rest = ap (λ (p : List ℕ × List ℕ). p.1) g.1 in (
+      record { parts = rw (← s-is, ← rest-is) (sym (take-append-drop k bytes)); rest_fits = rw (← rest-is) (IsBytes-drop k bytes fits) },
       rw (← s-is) (omega (arith, length-take k bytes)),
-      rw (← s-is) (IsBytes-take k bytes fits))
+      rw (← s-is) (IsBytes-take k bytes fits),
+    )
 
 pub bytes_again : (s rest : List ℕ) → bytes_at (length s) (s ++ rest) ≡ Some (s, rest)
 bytes_again s rest =

@@ -1,21 +1,19 @@
 -- What is read is spelled so.
-use Rattle.std.proofs.Common.{◌≡◌, ℕ, zero, suc, ◌+◌, ◌-◌, ◌^◌, ◌<◌, ◌≤◌, Bool, true, false, cond, eqb, List, [], ◌∷◌, ◌++◌, length, Option, Some, None, refl, sym, ap, ap₂, subst, ◌∙◌, append_assoc, arith}
-use Rattle.std.specs.Int.{w64, to_be_bytes}
+use Rattle.std.proofs.Common.{◌≡◌, ℕ, zero, suc, ◌<◌, Bool, true, false, cond, eqb, List, [], ◌∷◌, ◌++◌, length, Option, Some, refl, sym, ap, subst, ◌∙◌, append_assoc, arith}
 use Rattle.std.specs.Str.{is_utf8}
 use Rattle.std.proofs.lemmas.Bool.{eqb-true}
-use Rattle.std.proofs.lemmas.Option.{cond_some, some_pair_parts, none-some}
+use Rattle.std.proofs.lemmas.Option.{cond_some, none-some}
 use Rattle.std.proofs.lemmas.List.{append-nil, nil_from_length}
 use Rattle.std.proofs.lemmas.Str.{IsUtf8-from_is_utf8}
 use Rattle.amqp_base.specs.declared.fields.code.SizeWidth.{SizeWidth}
-use Rattle.amqp_base.specs.declared.fields.code.SizeWidth.TheVariants.{One, Four}
 use Rattle.amqp_base.specs.declared.fields.code.Code.{Code}
 use Rattle.amqp_base.specs.declared.fields.code.Code.TheVariants as code
 use Rattle.amqp_base.specs.declared.fields.field.Field.{Field}
 use Rattle.amqp_base.specs.declared.fields.field.Field.TheVariants as field
-use Rattle.amqp_base.specs.Code.{octets, limit, block, byte_of, list_byte, all_codes, code_among, find_code}
-use Rattle.amqp_base.specs.Grammar.{IsAscii, SpellsSymbols, no_symbols, more_symbols, array_content, SpellsField, null, ubyte, binary, string, symbol, array, SpellsFields, no_fields, more_fields, list_content}
-use Rattle.amqp_base.specs.Reading.{◌>>=◌, Parse, byte_at, size_at, block_at, is_ascii, ascii, utf8, symbol_at, symbols_at, code_at, element_of, element_at, only, content_at, array_at, text_at, value_at, read_at}
-use Rattle.amqp_base.proofs.Numbers.{IsBytes, bind_some, some_is, Takes, byte_takes, sizes, TookBlock, block_takes}
+use Rattle.amqp_base.specs.Code.{octets, limit, block, byte_of, all_codes, code_among, find_code}
+use Rattle.amqp_base.specs.Grammar.{IsAscii, SpellsSymbols, no_symbols, more_symbols, array_content, SpellsField, null, ubyte, binary, string, symbol, array}
+use Rattle.amqp_base.specs.Reading.{◌>>=◌, byte_at, size_at, block_at, is_ascii, ascii, utf8, symbol_at, symbols_at, code_at, element_of, element_at, only, content_at, array_at, text_at, value_at, read_at}
+use Rattle.amqp_base.proofs.Numbers.{IsBytes, bind_some, some_is, Takes, byte_takes, sizes, block_takes}
 use Rattle.amqp_base.proofs.Ascii.{IsAscii-from_is_ascii}
 
 -- ---- symbols
@@ -179,8 +177,8 @@ array_sound w bytes x fits e =
     let t = block_takes w bytes b.0 fits b.1 in
     let u = content_sound w b.0.0 c.0 t.fits c.1 in
     let rule : SpellsField (byte_of (code.Array w) ∷ block w b.0.0) (field.Symbols c.0) =
-        subst (λ (z : List ℕ). SpellsField (byte_of (code.Array w) ∷ block w z) (field.Symbols c.0)) (sym u.parts)
-        (array w u.element c.0 u.text u.spelled u.few (subst (λ (z : List ℕ). length z < limit w) u.parts t.short)) in
+    subst (λ (z : List ℕ). SpellsField (byte_of (code.Array w) ∷ block w z) (field.Symbols c.0)) (sym u.parts)
+    (array w u.element c.0 u.text u.spelled u.few (subst (λ (z : List ℕ). length z < limit w) u.parts t.short)) in
     let made : Behind (code.Array w) bytes (field.Symbols c.0, b.0.1) = blocked (code.Array w) w (field.Symbols c.0) bytes b.0.0 b.0.1 t.takes rule in
     subst (Behind (code.Array w) bytes) (ap (λ (y : List (List ℕ) × List ℕ). (field.Symbols y.0, y.1)) (some_is (c.0, b.0.1) a.0 c.2) ∙ some_is (field.Symbols a.0.0, a.0.1) x a.2) made
 
@@ -189,7 +187,7 @@ ubyte_sound bytes x fits e =
     let a = bind_some (byte_at bytes) (λ n. Some (field.Ubyte n.0, n.1)) x e in
     let t = byte_takes bytes a.0.0 a.0.1 fits a.1 in
     let made : Behind code.Ubyte bytes (field.Ubyte a.0.0, a.0.1) =
-        record { text = byte_of code.Ubyte ∷ a.0.0 ∷ []; parts = ap (λ (z : List ℕ). byte_of code.Ubyte ∷ z) t.0.parts; spelled = ubyte a.0.0 t.1; rest_fits = t.0.rest_fits } in
+    record { text = byte_of code.Ubyte ∷ a.0.0 ∷ []; parts = ap (λ (z : List ℕ). byte_of code.Ubyte ∷ z) t.0.parts; spelled = ubyte a.0.0 t.1; rest_fits = t.0.rest_fits } in
     subst (Behind code.Ubyte bytes) (some_is (field.Ubyte a.0.0, a.0.1) x a.2) made
 
 value_sound : (c : Code) (bytes : List ℕ) (x : Field × List ℕ) → IsBytes bytes → value_at c bytes ≡ Some x → Behind c bytes x

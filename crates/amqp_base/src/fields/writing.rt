@@ -78,7 +78,12 @@ fn put_block(out: &mut Binary, width: SizeWidth, bytes: &[u8]) -> Result<(), All
     out.append(bytes)
 }
 
-fn put_variable(out: &mut Binary, code: Code, width: SizeWidth, bytes: &[u8]) -> Result<(), AllocError>
+fn put_variable(
+    out: &mut Binary,
+    code: Code,
+    width: SizeWidth,
+    bytes: &[u8],
+) -> Result<(), AllocError>
     requires { length bytes.now < limit width }
     ensures { OnOk result (out.new ≡ out.old ++ byte_of code ∷ block width bytes.now) }
 {
@@ -126,7 +131,13 @@ fn put_array(alloc: Global, out: &mut Binary, symbols: &[Symbol]) -> Result<(), 
     elements.push(Code::Symbol(element).byte())?;
     put_symbols(&mut elements, element, symbols)?;
     let width = fitting_width(symbols.len(), elements.as_slice())?;
-    put_compound(out, Code::Array(width).byte(), width, symbols.len(), elements.as_slice())?;
+    put_compound(
+        out,
+        Code::Array(width).byte(),
+        width,
+        symbols.len(),
+        elements.as_slice(),
+    )?;
     Ok(())
 }
 
@@ -182,7 +193,13 @@ fn put_list(alloc: Global, out: &mut Binary, fields: &[FieldRef<'_>]) -> Result<
     let mut content = Binary::new(alloc);
     put_fields(alloc, &mut content, fields)?;
     let width = fitting_width(fields.len(), content.as_slice())?;
-    put_compound(out, width.list_byte(), width, fields.len(), content.as_slice())?;
+    put_compound(
+        out,
+        width.list_byte(),
+        width,
+        fields.len(),
+        content.as_slice(),
+    )?;
     Ok(())
 }
 

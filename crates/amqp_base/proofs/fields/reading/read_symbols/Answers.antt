@@ -1,4 +1,3 @@
-use Rattle.std.proofs.Common.{◌≡◌, ◌++◌, ◌∷◌, []}
 use Rattle.std.proofs.lemmas.Result.{err_from_is_err_and}
 use Rattle.amqp_base.specs.Reading.{symbols_at}
 use Rattle.amqp_base.proofs.Loops.{goes_on, ends, is_done}

@@ -1,5 +1,3 @@
-use Rattle.std.proofs.Common.{◌≡◌}
-use Rattle.amqp_base.specs.Code.{block}
 use Rattle.amqp_base.proofs.Written.{next_block}
 use Rattle.amqp_base.proofs.fields.writing.put_symbols.Goals as goal
 
