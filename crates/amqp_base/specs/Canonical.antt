@@ -1,5 +1,5 @@
 -- The one spelling that is written (OASIS AMQP 1.0, part 1, sections 1.2 to 1.6).
-use Rattle.std.specs.Prelude.{ℕ, ◌+◌, ◌<◌, ◌^◌, List, [], ◌∷◌, ◌++◌, length, Option, All, IfSome, IsUtf8, Bool, nat_lt, ◌&&◌, if◌then◌else◌}
+use Rattle.std.specs.Prelude.{ℕ, ◌+◌, ◌<◌, ◌^◌, List, [], ◌∷◌, ◌++◌, length, All, IsUtf8, Bool, nat_lt, ◌&&◌, if◌then◌else◌}
 use Rattle.std.specs.List.{list_all}
 use Rattle.amqp_base.specs.declared.fields.code.SizeWidth.{SizeWidth}
 use Rattle.amqp_base.specs.declared.fields.code.SizeWidth.TheVariants.{One, Four}
@@ -8,7 +8,7 @@ use Rattle.amqp_base.specs.declared.fields.field.Field.{Field}
 use Rattle.amqp_base.specs.declared.fields.field.Field.TheVariants as field
 use Rattle.amqp_base.specs.declared.sasl.body.SaslBody.{SaslBody}
 use Rattle.amqp_base.specs.declared.sasl.body.SaslBody.TheVariants.{Mechanisms, Init, Challenge, Response, Outcome}
-use Rattle.amqp_base.specs.Code.{octets, block, byte_of, list_byte}
+use Rattle.amqp_base.specs.Code.{block, byte_of, list_byte}
 use Rattle.amqp_base.specs.Field.{optional}
 use Rattle.amqp_base.specs.Grammar.{IsAscii, array_content, list_content}
 use Rattle.amqp_base.specs.Sasl.{kind_of}

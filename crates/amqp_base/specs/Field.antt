@@ -1,5 +1,5 @@
--- What the fields of a list hold (OASIS AMQP 1.0, part 1, sections 1.3 and 1.4).
-use Rattle.std.specs.Prelude.{◌≡◌, ℕ, zero, suc, ◌≤◌, List, [], ◌∷◌, Option, Some, None, length}
+-- What the fields of a list hold (OASIS AMQP 1.0, part 1, section 1.4).
+use Rattle.std.specs.Prelude.{◌≡◌, ℕ, zero, suc, List, [], ◌∷◌, Option, Some, None}
 use Rattle.amqp_base.specs.declared.fields.field.Field.{Field}
 use Rattle.amqp_base.specs.declared.fields.field.Field.TheVariants as field
 use Rattle.amqp_base.specs.declared.fields.field.FieldRef.{FieldRef}

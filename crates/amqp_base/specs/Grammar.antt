@@ -20,7 +20,7 @@ pub data SpellsSymbols : SizeWidth → List ℕ → List (List ℕ) → Type 0 w
 abbrev pub array_content : SizeWidth → SizeWidth → ℕ → List ℕ → List ℕ
 array_content w e count symbols = octets w count ++ byte_of (code.Symbol e) ∷ symbols
 
--- a constructor and its value (sections 1.6.1, 1.6.3 and 1.6.19 to 1.6.21, 1.6.24)
+-- a constructor and its value (sections 1.6.1, 1.6.3, 1.6.19 to 1.6.21 and 1.6.24)
 pub data SpellsField : List ℕ → Field → Type 0 where
   null : SpellsField (byte_of code.Null ∷ []) field.Null
   ubyte : (n : ℕ) → n < 256 → SpellsField (byte_of code.Ubyte ∷ n ∷ []) (field.Ubyte n)
@@ -30,7 +30,7 @@ pub data SpellsField : List ℕ → Field → Type 0 where
   array : (w e : SizeWidth) (ss : List (List ℕ)) (symbols : List ℕ) → SpellsSymbols e symbols ss → length ss < limit w → length (array_content w e (length ss) symbols) < limit w
       → SpellsField (byte_of (code.Array w) ∷ block w (array_content w e (length ss) symbols)) (field.Symbols ss)
 
--- fields one after another
+-- fields one after another (section 1.4)
 pub data SpellsFields : List ℕ → List Field → Type 0 where
   no_fields : SpellsFields [] []
   more_fields : (f : Field) (fs : List Field) (first rest : List ℕ) → SpellsField first f → SpellsFields rest fs → SpellsFields (first ++ rest) (f ∷ fs)
@@ -51,12 +51,12 @@ pub data SpellsUlong : List ℕ → ℕ → Type 0 where
   small_ulong : (n : ℕ) → n < 256 → SpellsUlong (0x53 ∷ n ∷ []) n
   ulong : (n : ℕ) → n < 2 ^ 64 → SpellsUlong (0x80 ∷ to_be_bytes w64 n) n
 
--- a descriptor, by its number or by its name as a symbol (section 1.2.1 and section 1.4)
+-- a descriptor, by its number or by its name as a symbol (section 1.5)
 pub data SpellsDescriptor : List ℕ → ℕ → List ℕ → Type 0 where
   by_number : (bytes : List ℕ) (number : ℕ) (name : List ℕ) → SpellsUlong bytes number → SpellsDescriptor bytes number name
   by_name : (w : SizeWidth) (number : ℕ) (name : List ℕ) → IsAscii name → length name < limit w → SpellsDescriptor (byte_of (code.Symbol w) ∷ block w name) number name
 
--- a described list: the byte 0, the descriptor, the list (section 1.2.1)
+-- a described list: the byte 0, the descriptor, the list (sections 1.2 and 1.4)
 pub data SpellsDescribed : List ℕ → ℕ → List ℕ → List Field → Type 0 where
   described : (descriptor list : List ℕ) (number : ℕ) (name : List ℕ) (fs : List Field) → SpellsDescriptor descriptor number name → SpellsList list fs
       → SpellsDescribed (0x00 ∷ (descriptor ++ list)) number name fs

@@ -12,8 +12,10 @@ pub use sasl::writing::encode_sasl;
 pub mod error;
 pub mod fields;
 pub mod sasl;
+#[cfg(test)]
+mod tests;
 
-/// The type of a frame that carries a performative (part 2, section 2.3.1).
+/// The type of a frame that carries a performative (part 2, section 2.3.2).
 pub const FRAME_TYPE_AMQP: u8 = 0;
 
 /// The type of a frame that carries a SASL body (part 5, section 5.3.1).

@@ -1,6 +1,6 @@
 //! Constructors of fields: the first byte of a spelling (part 1, section 1.2).
 ghost use Rattle.std.specs.Prelude.{◌≡◌};
-ghost use Rattle.amqp_base.specs.Code.{byte_of, find_code};
+ghost use Rattle.amqp_base.specs.Code.{byte_of, find_code, list_byte};
 
 /// How many octets a size and a count take (part 1, sections 1.2.2 to 1.2.4).
 #[derive(Clone, Copy, Debug)]
@@ -44,6 +44,18 @@ pub fn code_of(byte: u8) -> Option<Code>
         0xe0 => Some(Code::Array(SizeWidth::One)),
         0xf0 => Some(Code::Array(SizeWidth::Four)),
         _ => None,
+    }
+}
+
+impl SizeWidth {
+    /// The constructor of a list with a size and a count of that width (part 1, section 1.6.22).
+    pub fn list_byte(self) -> u8
+        ensures { result ≡ list_byte self }
+    {
+        match self {
+            SizeWidth::One => 0xc0,
+            SizeWidth::Four => 0xd0,
+        }
     }
 }
 

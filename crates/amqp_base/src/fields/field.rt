@@ -1,5 +1,5 @@
 //! The kinds of value that a field of a described list may have (part 1, section 1.6).
-ghost use Rattle.std.specs.Prelude.{◌≡◌};
+ghost use Rattle.std.specs.Prelude.{◌≡◌, ◌↔◌, IsTrue};
 ghost use Rattle.amqp_base.specs.Field.{lent, lent_binary, lent_text};
 ghost use Rattle.amqp_base.specs.Reading.{Gives, binary_in, symbol_in, ubyte_in, symbols_in, optional_binary_in, optional_text_in};
 
@@ -111,6 +111,13 @@ pub enum FieldRef<'a> {
 }
 
 impl<'a> FieldRef<'a> {
+    /// Whether the field has no value.
+    pub fn is_null(&self) -> bool
+        ensures { IsTrue result ↔ (lent self.now ≡ Field.Null) }
+    {
+        matches!(self, FieldRef::Null)
+    }
+
     /// The field of octets that may be absent.
     pub fn optional_binary(bytes: &'a Option<Binary>) -> FieldRef<'a>
         ensures { lent result ≡ lent_binary bytes.now }

@@ -74,10 +74,7 @@ impl<'a> Fields<'a> {
 
     /// The next field, which may have octets.
     #[tactic(auto, unfolding(crate::specs::Reading::taken))]
-    pub fn optional_binary(
-        self,
-        alloc: Global,
-    ) -> Result<(Option<Binary>, Fields<'a>), BaseError>
+    pub fn optional_binary(self, alloc: Global) -> Result<(Option<Binary>, Fields<'a>), BaseError>
         ensures { Gives (λ x. (x.0, left_of x.1)) result (taken optional_binary_in (left_of self.entry)) }
     {
         let (field, rest) = self.next(alloc)?;
@@ -107,7 +104,7 @@ impl<'a> Fields<'a> {
     }
 }
 
-/// What a described value is: the descriptor, by its number or by its name (part 1, section 1.2.1).
+/// What a described value is: the descriptor, by its number or by its name (part 1, section 1.5).
 #[derive(Debug, Drop)]
 pub enum Descriptor {
     /// The number of the type.
@@ -169,10 +166,13 @@ fn read_list(bytes: &[u8]) -> Result<(Fields<'_>, &[u8]), BaseError>
 {
     let (byte, rest) = read_byte(bytes)?;
     match byte {
-        0x45 => Ok((Fields {
-            count: 0,
-            bytes: &[],
-        }, rest)),
+        0x45 => Ok((
+            Fields {
+                count: 0,
+                bytes: &[],
+            },
+            rest,
+        )),
         0xc0 => read_counted(SizeWidth::One, rest),
         0xd0 => read_counted(SizeWidth::Four, rest),
         _ => Err(BaseError::Decode),
@@ -196,5 +196,9 @@ pub fn read_described(alloc: Global, bytes: &[u8]) -> Result<Described<'_>, Base
     let marked = read_mark(bytes)?;
     let (descriptor, list) = read_descriptor(alloc, marked)?;
     let (fields, rest) = read_list(list)?;
-    Ok(Described { descriptor, fields, rest })
+    Ok(Described {
+        descriptor,
+        fields,
+        rest,
+    })
 }

@@ -1,5 +1,6 @@
 //! Described lists, canonically (part 1, sections 1.2 to 1.6).
-ghost use Rattle.std.specs.Prelude.{◌≡◌, ◌≤◌, ◌<◌, ◌+◌, ◌^◌, ◌++◌, ◌∷◌, [], List, ℕ, length, map, All, OnOk, MatchResult};
+ghost use Rattle.std.specs.Prelude.{◌≡◌, ◌≤◌, ◌<◌, ◌+◌, ◌^◌, ◌++◌, ◌∷◌, [], List, ℕ, length, map, All, OnOk, nat_lt};
+ghost use Rattle.std.specs.List.{list_all};
 ghost use Rattle.amqp_base.specs.declared.fields.code.SizeWidth.TheVariants.{Four};
 ghost use Rattle.amqp_base.specs.declared.fields.field.Field.TheVariants as field;
 ghost use Rattle.amqp_base.specs.Code.{octets, limit, block, byte_of};
@@ -14,14 +15,14 @@ use crate::fields::field::FieldRef;
 use amqp_value::{Binary, Symbol};
 use std::alloc::{AllocError, Global};
 
-const MAX_SIZE: usize = 0xffff_ffff;
+const SIZE_LIMIT: usize = 0x1_0000_0000;
 
 fn block_width(bytes: &[u8]) -> Result<SizeWidth, BaseError>
     ensures { FitsBlock result bytes.now }
 {
     if bytes.len() < 256 {
         Ok(SizeWidth::One)
-    } else if bytes.len() <= MAX_SIZE {
+    } else if bytes.len() < SIZE_LIMIT {
         Ok(SizeWidth::Four)
     } else {
         Err(BaseError::Size)
@@ -34,19 +35,25 @@ fn fitting_width(count: usize, rest: &[u8]) -> Result<SizeWidth, BaseError>
 {
     if count < 256 && rest.len() < 255 {
         Ok(SizeWidth::One)
-    } else if rest.len() <= MAX_SIZE - 4 {
+    } else if rest.len() < SIZE_LIMIT - 4 {
         Ok(SizeWidth::Four)
     } else {
         Err(BaseError::Size)
     }
 }
 
+fn are_shorter(symbols: &[Symbol], limit: usize) -> bool
+    ensures { result ≡ list_all (λ s. nat_lt (length s) limit) symbols.now }
+{
+    symbols.iter().all(|symbol| symbol.len() < limit)
+}
+
 fn common_width(symbols: &[Symbol]) -> Result<SizeWidth, BaseError>
     ensures { FitsElements result symbols.now }
 {
-    if symbols.iter().all(|symbol| symbol.len() < 256) {
+    if are_shorter(symbols, 256) {
         Ok(SizeWidth::One)
-    } else if symbols.iter().all(|symbol| symbol.len() <= MAX_SIZE) {
+    } else if are_shorter(symbols, SIZE_LIMIT) {
         Ok(SizeWidth::Four)
     } else {
         Err(BaseError::Size)
@@ -71,7 +78,12 @@ fn put_block(out: &mut Binary, width: SizeWidth, bytes: &[u8]) -> Result<(), All
     out.append(bytes)
 }
 
-fn put_variable(out: &mut Binary, code: Code, width: SizeWidth, bytes: &[u8]) -> Result<(), AllocError>
+fn put_variable(
+    out: &mut Binary,
+    code: Code,
+    width: SizeWidth,
+    bytes: &[u8],
+) -> Result<(), AllocError>
     requires { length bytes.now < limit width }
     ensures { OnOk result (out.new ≡ out.old ++ byte_of code ∷ block width bytes.now) }
 {
@@ -110,6 +122,7 @@ fn put_symbols(out: &mut Binary, width: SizeWidth, symbols: &[Symbol]) -> Result
     Ok(())
 }
 
+#[tactic(auto, unfolding(crate::specs::Canonical::canonical_field, crate::specs::Canonical::IsFieldSized))]
 fn put_array(alloc: Global, out: &mut Binary, symbols: &[Symbol]) -> Result<(), BaseError>
     ensures { Puts result out.old out.new (canonical_field (field.Symbols symbols.now)) (IsFieldSized (field.Symbols symbols.now)) (IsFieldWellFormed (field.Symbols symbols.now)) }
 {
@@ -118,10 +131,17 @@ fn put_array(alloc: Global, out: &mut Binary, symbols: &[Symbol]) -> Result<(), 
     elements.push(Code::Symbol(element).byte())?;
     put_symbols(&mut elements, element, symbols)?;
     let width = fitting_width(symbols.len(), elements.as_slice())?;
-    put_compound(out, Code::Array(width).byte(), width, symbols.len(), elements.as_slice())?;
+    put_compound(
+        out,
+        Code::Array(width).byte(),
+        width,
+        symbols.len(),
+        elements.as_slice(),
+    )?;
     Ok(())
 }
 
+#[tactic(auto, unfolding(crate::specs::Canonical::canonical_field, crate::specs::Canonical::IsFieldSized))]
 fn put_field(alloc: Global, out: &mut Binary, field: &FieldRef<'_>) -> Result<(), BaseError>
     ensures { Puts result out.old out.new (canonical_field (lent field.now)) (IsFieldSized (lent field.now)) (IsFieldWellFormed (lent field.now)) }
 {
@@ -162,6 +182,7 @@ fn put_fields(alloc: Global, out: &mut Binary, fields: &[FieldRef<'_>]) -> Resul
     Ok(())
 }
 
+#[tactic(auto, unfolding(crate::specs::Canonical::canonical_list, crate::specs::Canonical::IsListSized))]
 fn put_list(alloc: Global, out: &mut Binary, fields: &[FieldRef<'_>]) -> Result<(), BaseError>
     ensures { Puts result out.old out.new (canonical_list (map lent fields.now)) (IsListSized (map lent fields.now)) (All IsFieldWellFormed (map lent fields.now)) }
 {
@@ -172,20 +193,26 @@ fn put_list(alloc: Global, out: &mut Binary, fields: &[FieldRef<'_>]) -> Result<
     let mut content = Binary::new(alloc);
     put_fields(alloc, &mut content, fields)?;
     let width = fitting_width(fields.len(), content.as_slice())?;
-    let byte = match width {
-        SizeWidth::One => 0xc0,
-        SizeWidth::Four => 0xd0,
-    };
-    put_compound(out, byte, width, fields.len(), content.as_slice())?;
+    put_compound(
+        out,
+        width.list_byte(),
+        width,
+        fields.len(),
+        content.as_slice(),
+    )?;
     Ok(())
 }
 
 fn without_last_nulls<'a, 'b>(fields: &'a [FieldRef<'b>]) -> &'a [FieldRef<'b>]
     ensures { map lent result.now ≡ trimmed (map lent fields.now) }
 {
-    match fields.split_last() {
-        Some((FieldRef::Null, front)) => without_last_nulls(front),
-        _ => fields,
+    let Some((last, front)) = fields.split_last() else {
+        return fields;
+    };
+    if last.is_null() {
+        without_last_nulls(front)
+    } else {
+        fields
     }
 }
 
