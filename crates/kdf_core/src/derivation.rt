@@ -93,6 +93,7 @@ fn blocks_into<P: Prf>(prf: &P, salt: &[u8], rounds: u32, out: &mut [u8])
 ///
 /// The length of the key is that of `res`: at most 2^32 - 1 outputs of `P`. Rounds 0 count as 1. `InvalidLength` comes
 /// exactly where `P` does not take the password as its key, and leaves `res` as it was.
+#[tactic(auto, using(crate::proofs::Rounds::key_laws))]
 pub fn pbkdf2<P: Prf>(
     password: &[u8],
     salt: &[u8],
