@@ -1,4 +1,5 @@
 pub mod Check
+pub mod ClientGate
 pub mod Exchange
 pub mod Frames
 pub mod Negotiation
@@ -6,6 +7,7 @@ pub mod Keys
 pub mod Parts
 pub mod Profile
 pub mod Refusals
+pub mod ScramBodies
 pub mod States
 pub mod Steps
 pub mod Texts

@@ -2,6 +2,7 @@
 //! frames, and an exchange of bodies that decides who passes.
 
 
+pub mod client;
 pub mod error;
 pub mod exchange;
 pub mod negotiation;

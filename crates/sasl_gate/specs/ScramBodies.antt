@@ -1,0 +1,45 @@
+-- The SASL bodies of an exchange with SCRAM-SHA-256 (OASIS AMQP 1.0, part 5, section 5.3.3; RFC 7677).
+use Rattle.std.specs.Prelude.{◌≡◌, ◌<◌, ℕ, List, [], ◌∷◌, ◌++◌, Option, Result, OnErr, codes}
+use Rattle.std.specs.declared.alloc.AllocError.{AllocError}
+use Rattle.amqp_base.specs.declared.sasl.body.SaslBody.{SaslBody}
+use Rattle.amqp_base.specs.declared.sasl.body.SaslBody.TheVariants.{Mechanisms, Init, Challenge, Response, Outcome}
+use Rattle.amqp_base.specs.declared.sasl.body.SaslCode.{SaslCode}
+use Rattle.amqp_base.specs.declared.sasl.body.SaslCode.TheVariants as sasl
+use Rattle.sasl_gate.specs.declared.gate.exchange.Exchange.{Ghosts as Mechanism}
+use Rattle.sasl_gate.specs.declared.gate.exchange.Verdict.{Verdict}
+use Rattle.sasl_gate.specs.Exchange.{OnTaken, OnRefused}
+use Rattle.sasl_gate.specs.Frames.{said}
+
+-- the mechanism's name
+abbrev pub own_mechanism : List ℕ
+own_mechanism = codes "SCRAM-SHA-256"
+
+abbrev pub mechanisms_body : List (List ℕ) → SaslBody
+mechanisms_body names = Mechanisms (record { sasl_server_mechanisms = names })
+
+abbrev pub init_body : List ℕ → Option (List ℕ) → Option (List ℕ) → SaslBody
+init_body mechanism response hostname = Init (record { mechanism = mechanism; initial_response = response; hostname = hostname })
+
+abbrev pub challenge_body : List ℕ → SaslBody
+challenge_body text = Challenge (record { challenge = text })
+
+abbrev pub response_body : List ℕ → SaslBody
+response_body text = Response (record { response = text })
+
+abbrev pub outcome_body : SaslCode → Option (List ℕ) → SaslBody
+outcome_body code payload = Outcome (record { code = code; additional_data = payload })
+
+-- what was written is the SASL header and whole SASL frames, the last of which may be cut off
+pub record IsOnlySasl (wrote : List ℕ) : Type 0 where
+  pub bodies : List SaslBody
+  pub rest : List ℕ
+  pub frames : wrote ++ rest ≡ said bodies
+
+-- what became of a body that an end of a mechanism read
+pub record Received {X : Type 0} (mechanism : Mechanism X) (old : X) (body : SaslBody) (result : Result Verdict AllocError) (new : X) : Type 0 where
+  pub taken : OnTaken result ((given sent : List SaslBody) → mechanism.holds old given sent → mechanism.holds new (given ++ body ∷ []) sent)
+  pub less : OnTaken result (mechanism.left new < mechanism.left old)
+  pub same : OnTaken result (mechanism.same old new)
+  pub refused : OnRefused result (λ e. (given sent : List SaslBody) → mechanism.holds old given sent → mechanism.causes old e (given ++ body ∷ []) sent)
+  pub kept : OnRefused result (λ _. new ≡ old)
+  pub err : OnErr result (new ≡ old)
