@@ -1,0 +1,4 @@
+pub mod Attributes
+pub mod Encoded
+pub mod Escapes
+pub mod Extensions
