@@ -6,7 +6,7 @@ use Rattle.sasl_gate.specs.Texts.{IsValue}
 first_byte : (x : ℕ) (xs : List ℕ) → IsValue (x ∷ xs) → x ≢ 44
 first_byte x xs all = all 0 0 (grind arith)
 
-later_bytes : (x : ℕ) (xs : List ℕ) → IsValue (x ∷ xs) → IsValue xs
+pub later_bytes : (x : ℕ) (xs : List ℕ) → IsValue (x ∷ xs) → IsValue xs
 later_bytes x xs all = λ k d h. all (suc k) d (grind arith)
 
 pub split_once : (v r w s : List ℕ) → IsValue v → IsValue w → IsTail r → IsTail s → v ++ r ≡ w ++ s → (v ≡ w) × (r ≡ s)

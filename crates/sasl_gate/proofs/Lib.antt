@@ -2,3 +2,4 @@ pub mod Attributes
 pub mod Encoded
 pub mod Escapes
 pub mod Extensions
+pub mod Readers

@@ -95,7 +95,10 @@ impl<D: HashFn, P: ScramCredentialProvider> ScramServer<D, P> {
         let Some(parts) = read_client_first(text) else {
             return Err(ScramErrorKind::Malformed);
         };
-        let user = read_user(alloc, parts.name)?;
+        let user = match read_user(alloc, parts.name) {
+            Ok(user) => user,
+            Err(error) => return Err(error),
+        };
         let Some(keys) = self.provider.get(user.as_str()) else {
             return Err(ScramErrorKind::UserUnknown);
         };
@@ -148,7 +151,10 @@ impl<D: HashFn, P: ScramCredentialProvider> ScramServer<D, P> {
         let Some(keys) = self.provider.get(challenge.user.as_str()) else {
             unreachable!();
         };
-        let reply = reply::<D>(alloc, challenge, keys, text)?;
+        let reply = match reply::<D>(alloc, challenge, keys, text) {
+            Ok(reply) => reply,
+            Err(error) => return Err(error),
+        };
         self.phase = ServerPhase::Proved;
         Ok(reply)
     }
@@ -159,12 +165,12 @@ fn read_user(alloc: Global, name: &[u8]) -> Result<Text, ScramErrorKind>
     ensures ok { IfOk result (λ user. (name.now ≡ escaped_of user) × IsAllowedUser user) }
     ensures err { IfErr result (λ e. IsNameRefusal name.now e) }
 {
+    if name.is_empty() {
+        return Err(ScramErrorKind::Malformed);
+    }
     let Some(user) = unescape(alloc, name)? else {
         return Err(ScramErrorKind::Malformed);
     };
-    if user.is_empty() {
-        return Err(ScramErrorKind::Malformed);
-    }
     match str::from_utf8(&user) {
         Ok(text) if is_allowed_user(text.as_bytes()) => {
             let user = Text::from_str(alloc, text)?;

@@ -1,8 +1,8 @@
 //! The texts of SCRAM (RFC 5802, sections 5 and 7), read and written.
 
-ghost use Rattle.std.specs.Prelude.{◌≡◌, ◌↔◌, ◌≤◌, ℕ, List, length, IsTrue, IfSome, IfNone, IfOk};
+ghost use Rattle.std.specs.Prelude.{◌≡◌, ◌↔◌, ◌≤◌, ℕ, List, ◌∷◌, ◌++◌, length, IsTrue, IfSome, IfNone, IfOk};
 ghost use Rattle.sasl_gate.specs.Parts.{IsClientFirstBare, IsClientFinalBare};
-ghost use Rattle.sasl_gate.specs.Texts.{client_first_of, client_first_bare_of, server_first_of, client_final_of, client_final_bare_of, server_final_of, auth_of, Extends, IsClientFirst, IsServerFirst, IsClientFinal, IsServerFinal};
+ghost use Rattle.sasl_gate.specs.Texts.{client_first_of, client_first_bare_of, server_first_of, client_final_of, client_final_bare_of, server_final_of, auth_of, Extends, IsValue, IsClientFirst, IsServerFirst, IsClientFinal, IsServerFinal};
 
 use crate::scram::encoding::{append_encoded, is_encoded};
 use crate::scram::escape::append_escaped;
@@ -128,25 +128,35 @@ fn read_client_final_bare<'a>(header: &[u8], bare: &'a [u8]) -> Option<&'a [u8]>
     }
 }
 
+// What stands before the last comma of a text, and what stands after it.
+fn split_last(text: &[u8]) -> Option<(&[u8], &[u8])>
+    ensures found { IfSome result (λ r. (text.now ≡ r.0.now ++ (44 ∷ r.1.now)) × IsValue r.1.now) }
+    ensures missing { IfNone result ((front : List ℕ) (last : List ℕ) → ¬ (text.now ≡ front ++ (44 ∷ last))) }
+{
+    let mut at = text.len();
+    'bytes: while at > 0 {
+        at -= 1;
+        if text[at] == b',' {
+            return Some((&text[..at], &text[at + 1..]));
+        }
+    }
+    None
+}
+
 /// Reads a client final to a client first with this header.
 pub fn read_client_final<'a>(header: &[u8], text: &'a [u8]) -> Option<ClientFinal<'a>>
     requires { length header.now ≤ 3 }
     ensures found { IfSome result (λ f. IsClientFinal header.now text.now f.bare.now f.nonce.now f.proof.now) }
     ensures missing { IfNone result ((b : List ℕ) (r : List ℕ) (p : List ℕ) → ¬ IsClientFinal header.now text.now b r p) }
 {
-    let Some(at) = text.iter().rposition(|b| *b == b',') else {
+    let Some((bare, last)) = split_last(text) else {
         return None;
     };
-    let (bare, last) = text.split_at(at);
-    let Some(proof) = read_next(last, b'p') else {
+    let [b'p', b'=', proof @ ..] = last else {
         return None;
     };
     match read_client_final_bare(header, bare) {
-        Some(nonce) => Some(ClientFinal {
-            bare,
-            nonce,
-            proof: proof.value,
-        }),
+        Some(nonce) => Some(ClientFinal { bare, nonce, proof }),
         None => None,
     }
 }
