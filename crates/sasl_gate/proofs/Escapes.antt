@@ -22,7 +22,7 @@ pub escaped_of-nil : escaped_of [] ≡ []
 unfolding escaped_of
 escaped_of-nil = refl
 
-escaped_of-cons : (x : ℕ) (xs : List ℕ) → escaped_of (x ∷ xs) ≡ escape_of x ++ escaped_of xs
+pub escaped_of-cons : (x : ℕ) (xs : List ℕ) → escaped_of (x ∷ xs) ≡ escape_of x ++ escaped_of xs
 unfolding escaped_of
 escaped_of-cons x xs = refl
 

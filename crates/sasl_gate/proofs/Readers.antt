@@ -1,6 +1,7 @@
 -- A text has its parts in one way.
-use Rattle.std.proofs.Common.{◌≡◌, ◌≢◌, ℕ, zero, suc, ◌+◌, ◌<◌, ◌≤◌, inl, inr, List, [], ◌∷◌, ◌++◌, length, take, drop, get_or, drop-cons, take-append-drop, add-one, refl, ap, ◌∙◌, sym, arith, subst, append_assoc, codes, length-append, Option}
-use Rattle.std.specs.Prelude.{IsUtf8, IsAscii}
+use Rattle.std.proofs.Common.{◌≡◌, ◌≢◌, ℕ, zero, suc, ◌+◌, ◌<◌, ◌≤◌, inl, inr, List, [], ◌∷◌, ◌++◌, length, take, drop, get_or, drop-cons, take-append-drop, add-one, refl, ap, ◌∙◌, sym, arith, subst, append_assoc, codes, length-append, append-nil, Option}
+use Rattle.std.specs.Prelude.{IsUtf8, IsAscii, All}
+use Rattle.base64.specs.Rfc4648.{encode_symbols}
 use Rattle.std.proofs.lemmas.Str.{IsUtf8-from_ascii}
 use Rattle.base64.specs.Engines.{standard}
 use Rattle.base64.specs.GeneralPurpose.{encode_of}
@@ -10,12 +11,19 @@ use Rattle.sasl_gate.specs.declared.scram.stored.StoredPassword.{StoredPassword}
 use Rattle.sasl_gate.specs.Parts.{IsTail, IsAttribute, IsNext, IsPair, IsClientFirstBare, IsClientFinalBare}
 use Rattle.sasl_gate.specs.Profile.{IsNonce, IsAllowedUser}
 use Rattle.sasl_gate.specs.Refusals.{IsNameRefusal, IsClientFirstRefusal}
-use Rattle.sasl_gate.specs.Texts.{escaped_of, IsName, IsValue, IsExtensions, IsClientFirst, IsServerFirst, IsClientFinal, IsServerFinal}
+use Rattle.sasl_gate.specs.Texts.{escaped_of, IsName, IsHeader, IsValue, IsExtensions, IsClientFirst, IsServerFirst, IsClientFinal, IsServerFinal}
 use Rattle.sasl_gate.proofs.Attributes.{attribute_once, next_once, pair_once, later_bytes}
-use Rattle.sasl_gate.proofs.Escapes.{escaped_of-nil}
+use Rattle.sasl_gate.proofs.Escapes.{escaped_of-nil, escaped_of-cons, no_byte}
 use Rattle.sasl_gate.proofs.Extensions.{tail_of}
 
-cons_value : (x : ℕ) (xs : List ℕ) → x ≢ 44 → IsValue xs → IsValue (x ∷ xs)
+nil_of : (xs : List ℕ) → length xs ≡ 0 → xs ≡ []
+nil_of [] e = refl
+nil_of (x ∷ xs) e = absurd (omega arith)
+
+pub nil_value : IsValue []
+nil_value k d h = absurd (omega (arith, h))
+
+pub cons_value : (x : ℕ) (xs : List ℕ) → x ≢ 44 → IsValue xs → IsValue (x ∷ xs)
 cons_value x xs n v zero d h = n
 cons_value x xs n v (suc k) d h = v k d (grind arith)
 
@@ -189,3 +197,105 @@ client_final_bare header text b r p f v = record {
   nonce_is = f.nonce_is;
   extensions_are = f.extensions_are;
 }
+
+pub no_client_final_split : (header text : List ℕ) → ((a b : List ℕ) → text ≡ a ++ (44 ∷ b) → ⊥)
+    → (b r p : List ℕ) → IsClientFinal header text b r p → ⊥
+no_client_final_split header text none b r p f = none b (112 ∷ 61 ∷ p) (client_final_split header text b r p f)
+
+pub client_final_once : (header text front last b r p : List ℕ) → text ≡ front ++ (44 ∷ last) → IsValue last
+    → IsClientFinal header text b r p → (front ≡ b) × (last ≡ 112 ∷ 61 ∷ p)
+client_final_once header text front last b r p e v f =
+    last_once front last b (112 ∷ 61 ∷ p) v (client_final_last header text b r p f) (sym e ∙ client_final_split header text b r p f)
+
+pub no_client_final : (header text front last : List ℕ) → text ≡ front ++ (44 ∷ last) → IsValue last → IsValue (encode_of standard header)
+    → ((r : List ℕ) → IsClientFinalBare header front r → ⊥) → (b r p : List ℕ) → IsClientFinal header text b r p → ⊥
+no_client_final header text front last e v h missing b r p f =
+    let P : List ℕ → Type 0 = λ t. IsClientFinalBare header t r in
+    missing r (subst P (sym (client_final_once header text front last b r p e v f).0) (client_final_bare header text b r p f h))
+
+pub client_final_found : (header text front last r p : List ℕ) → text ≡ front ++ (44 ∷ last) → last ≡ 112 ∷ 61 ∷ p → IsValue last
+    → IsClientFinalBare header front r → IsClientFinal header text front r p
+client_final_found header text front last r p e l v f =
+    let V : List ℕ → Type 0 = λ t. IsValue t in
+    record {
+  extensions = f.extensions;
+  bare_is = f.pair_is.text_is ∙ sym (flat_client_final (encode_of standard header) r f.extensions);
+  text_is = e ∙ (ap (λ t. front ++ (44 ∷ t)) l ∙ sym (append_assoc front (codes ",p=") p));
+  nonce_is = f.nonce_is;
+  proof_is = later_bytes 61 p (later_bytes 112 (61 ∷ p) (subst V l v));
+  extensions_are = f.extensions_are;
+}
+
+encoded_none : encode_of standard (codes "n,,") ≡ codes "biws"
+unfolding encode_symbols
+encoded_none = refl
+
+encoded_not_offered : encode_of standard (codes "y,,") ≡ codes "eSws"
+unfolding encode_symbols
+encoded_not_offered = refl
+
+four_value : (a b c d : ℕ) → 44 < a → 44 < b → 44 < c → 44 < d → IsValue (a ∷ b ∷ c ∷ d ∷ [])
+four_value a b c d p q r s =
+    cons_value a (b ∷ c ∷ d ∷ []) (λ e. absurd (omega (arith, e))) (cons_value b (c ∷ d ∷ []) (λ e. absurd (omega (arith, e)))
+    (cons_value c (d ∷ []) (λ e. absurd (omega (arith, e))) (cons_value d [] (λ e. absurd (omega (arith, e))) nil_value)))
+
+pub header_value : (header : List ℕ) → IsHeader header → IsValue (encode_of standard header)
+header_value header h =
+    let P : List ℕ → Type 0 = λ t. IsValue t in
+    elim h as (λ _. IsValue (encode_of standard header)) [
+      inl e ↦ subst P (sym (ap (λ t. encode_of standard t) e ∙ encoded_none)) (four_value 98 105 119 115 (omega arith) (omega arith) (omega arith) (omega arith))
+    | inr e ↦ subst P (sym (ap (λ t. encode_of standard t) e ∙ encoded_not_offered)) (four_value 101 83 119 115 (omega arith) (omega arith) (omega arith) (omega arith)) ]
+
+-- the last attribute is the whole of what stands after the last comma
+lone_attribute : (last v r : List ℕ) → IsAttribute 112 last v r → IsValue last → last ≡ 112 ∷ 61 ∷ v
+lone_attribute last v [] a value = a.text_is ∙ ap (λ t. 112 ∷ 61 ∷ t) (append-nil v)
+lone_attribute last v (x ∷ xs) a value =
+    let P : List ℕ → Type 0 = λ t. IsValue t in
+    let comma : x ≡ 44 = a.rest_is in
+    let split : last ≡ (112 ∷ 61 ∷ v) ++ (44 ∷ xs) = a.text_is ∙ ap (λ y. 112 ∷ 61 ∷ (v ++ (y ∷ xs))) comma in
+    absurd (value_splits_nowhere (112 ∷ 61 ∷ v) xs (subst P split value))
+
+pub no_client_final_proof : (header text front last : List ℕ) → (text ≡ front ++ (44 ∷ last)) × IsValue last
+    → ((v r : List ℕ) → IsAttribute 112 last v r → ⊥) → (b r p : List ℕ) → IsClientFinal header text b r p → ⊥
+no_client_final_proof header text front last e missing b r p f =
+    let same : last ≡ 112 ∷ 61 ∷ p = (client_final_once header text front last b r p e.0 e.1 f).1 in
+    missing p [] (record { text_is = same ∙ ap (λ t. 112 ∷ 61 ∷ t) (sym (append-nil p)); value_is = f.proof_is; rest_is = tt })
+
+pub client_final_read : (header text front last r p x : List ℕ) → (text ≡ front ++ (44 ∷ last)) × IsValue last
+    → IsAttribute 112 last p x → IsClientFinalBare header front r → IsClientFinal header text front r p
+client_final_read header text front last r p x e a f =
+    client_final_found header text front last r p e.0 (lone_attribute last p x a e.1) e.1 f
+
+-- ---- users
+
+pub empty_name : (name user : List ℕ) → length name ≡ 0 → IsName name user → ⊥
+empty_name name [] e n = omega (arith, n.0)
+empty_name name (x ∷ xs) e n = no_byte x (escaped_of xs) (sym (nil_of name e) ∙ (n.1 ∙ escaped_of-cons x xs))
+
+pub some_user : (name user : List ℕ) → 0 < length name → name ≡ escaped_of user → 0 < length user
+some_user name [] some e = let none : length name ≡ 0 = ap length (e ∙ escaped_of-nil) in absurd (omega arith)
+some_user name (x ∷ xs) some e = grind arith
+
+below_128 : (user : List ℕ) → All (λ b. (0x20 ≤ b) × (b ≤ 0x7e)) user → (k : ℕ) → get_or user k 0 < 128
+below_128 [] a zero = omega arith
+below_128 [] a (suc k) = omega arith
+below_128 (x ∷ xs) a zero = let small : x ≤ 0x7e = (a 0 0 (grind arith)).1 in omega arith
+below_128 (x ∷ xs) a (suc k) = below_128 xs (λ i d h. a (suc i) d (grind arith)) k
+
+pub IsUtf8-allowed : (user : List ℕ) → IsAllowedUser user → IsUtf8 user
+IsUtf8-allowed user a = IsUtf8-from_ascii user (λ k. below_128 user a.1 k)
+
+-- a name that gives no user, in a client first
+pub name_refusal : (stored : List ℕ → Option StoredPassword) (text h b n r : List ℕ) (error : ScramErrorKind)
+    → IsClientFirst text h b n r → IsNameRefusal n error → IsClientFirstRefusal stored text error
+name_refusal stored text h b n r (Memory e) f x = tt
+name_refusal stored text h b n r TextNotAllowed f x = (h, b, n, r, x.0, f, x.1, x.2)
+name_refusal stored text h b n r Malformed f x = λ h' b' n' r' user f' name.
+    let P : List ℕ → Type 0 = λ t. IsName t user in
+    x user (subst P (sym (name_once text h b n r h' b' n' r' f f')) name)
+name_refusal stored text h b n r NonceMismatch f x = x
+name_refusal stored text h b n r Iterations f x = x
+name_refusal stored text h b n r Base64 f x = x
+name_refusal stored text h b n r Signature f x = x
+name_refusal stored text h b n r UserUnknown f x = absurd x
+name_refusal stored text h b n r ProofMismatch f x = x

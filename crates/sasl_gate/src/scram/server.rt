@@ -7,7 +7,7 @@ ghost use Rattle.sasl_gate.specs.Check.{ServerAnswers, ServerCheck};
 ghost use Rattle.sasl_gate.specs.Profile.{IsAllowedUser, IsNonce};
 ghost use Rattle.sasl_gate.specs.Refusals.{IsNameRefusal, IsClientFirstRefusal, IsClientFinalRefusal};
 ghost use Rattle.sasl_gate.specs.Parts.{IsProved};
-ghost use Rattle.sasl_gate.specs.Texts.{escaped_of};
+ghost use Rattle.sasl_gate.specs.Texts.{escaped_of, IsHeader};
 ghost use Rattle.sasl_gate.specs.States.{server_challenged, server_proved, ForChallenged};
 
 use crate::scram::encoding::decode_into;
@@ -187,7 +187,8 @@ fn reply<D: HashFn>(
     keys: &StoredPassword,
     text: &[u8],
 ) -> Result<Binary, ScramErrorKind>
-    requires { 3 ≤ length challenge.now.client_first }
+    requires long { 3 ≤ length challenge.now.client_first }
+    requires header { IsHeader (take 3 challenge.now.client_first) }
     ensures ok { IfOk result (λ reply. IsProved D.digest D.BLOCK D.OUTPUT keys.now.stored_key keys.now.server_key
         (take 3 challenge.now.client_first) (drop 3 challenge.now.client_first) challenge.now.server_first challenge.now.nonce text.now reply) }
     ensures err { IfErr result (λ e. IsClientFinalRefusal D.digest D.BLOCK D.OUTPUT keys.now.stored_key

@@ -2,7 +2,7 @@
 
 ghost use Rattle.std.specs.Prelude.{◌≡◌, ◌↔◌, ◌≤◌, ℕ, List, ◌∷◌, ◌++◌, length, IsTrue, IfSome, IfNone, IfOk};
 ghost use Rattle.sasl_gate.specs.Parts.{IsClientFirstBare, IsClientFinalBare};
-ghost use Rattle.sasl_gate.specs.Texts.{client_first_of, client_first_bare_of, server_first_of, client_final_of, client_final_bare_of, server_final_of, auth_of, Extends, IsValue, IsClientFirst, IsServerFirst, IsClientFinal, IsServerFinal};
+ghost use Rattle.sasl_gate.specs.Texts.{client_first_of, client_first_bare_of, server_first_of, client_final_of, client_final_bare_of, server_final_of, auth_of, Extends, IsHeader, IsValue, IsClientFirst, IsServerFirst, IsClientFinal, IsServerFinal};
 
 use crate::scram::encoding::{append_encoded, is_encoded};
 use crate::scram::escape::append_escaped;
@@ -145,18 +145,22 @@ fn split_last(text: &[u8]) -> Option<(&[u8], &[u8])>
 
 /// Reads a client final to a client first with this header.
 pub fn read_client_final<'a>(header: &[u8], text: &'a [u8]) -> Option<ClientFinal<'a>>
-    requires { length header.now ≤ 3 }
+    requires { IsHeader header.now }
     ensures found { IfSome result (λ f. IsClientFinal header.now text.now f.bare.now f.nonce.now f.proof.now) }
     ensures missing { IfNone result ((b : List ℕ) (r : List ℕ) (p : List ℕ) → ¬ IsClientFinal header.now text.now b r p) }
 {
     let Some((bare, last)) = split_last(text) else {
         return None;
     };
-    let [b'p', b'=', proof @ ..] = last else {
+    let Some(proof) = read_attribute(last, b'p') else {
         return None;
     };
     match read_client_final_bare(header, bare) {
-        Some(nonce) => Some(ClientFinal { bare, nonce, proof }),
+        Some(nonce) => Some(ClientFinal {
+            bare,
+            nonce,
+            proof: proof.value,
+        }),
         None => None,
     }
 }
