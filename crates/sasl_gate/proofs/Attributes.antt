@@ -1,5 +1,5 @@
 -- A text is split at its first comma in one way.
-use Rattle.std.proofs.Common.{◌≡◌, ◌≢◌, ℕ, suc, List, [], ◌∷◌, ◌++◌, refl, ◌∙◌, sym, arith, subst, append_assoc, codes}
+use Rattle.std.proofs.Common.{◌≡◌, ◌≢◌, ℕ, suc, List, [], ◌∷◌, ◌++◌, refl, ◌∙◌, sym, arith, subst}
 use Rattle.sasl_gate.specs.Parts.{IsTail, IsAttribute, IsNext, IsPair}
 use Rattle.sasl_gate.specs.Texts.{IsValue}
 

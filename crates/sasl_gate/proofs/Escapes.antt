@@ -1,5 +1,5 @@
 -- User names as they are written.
-use Rattle.std.proofs.Common.{◌≡◌, ◌≢◌, ℕ, suc, ◌+◌, ◌<◌, ◌⊎◌, inl, inr, length, take, drop, get_or, arith, Bool, true, false, List, [], ◌∷◌, ◌++◌, refl, ap, sym, ◌∙◌, subst, append_assoc, append-nil, nat_eq}
+use Rattle.std.proofs.Common.{◌≡◌, ◌≢◌, ℕ, suc, ◌+◌, ◌<◌, length, take, drop, get_or, arith, Bool, true, false, List, [], ◌∷◌, ◌++◌, refl, ap, sym, ◌∙◌, append_assoc, append-nil, nat_eq}
 use Rattle.std.proofs.lemmas.List.{take_more}
 use Rattle.std.proofs.lemmas.Bool.{eqb-true, eqb-false}
 use Rattle.sasl_gate.specs.Texts.{escape_of, escaped_of}
@@ -56,25 +56,30 @@ not_fifty e = absurd (omega arith)
 -- a written byte ends in one way
 pub escape_once : (b x : ℕ) (r s : List ℕ) → escape_of b ++ r ≡ escape_of x ++ s → r ≡ s
 escape_once b x r s e = elim (escape b) as (λ _. r ≡ s) [
-    comma p m ↦ elim (escape x) as (λ _. r ≡ s) [
-        comma q n ↦ ap (drop 3) (sym (ap (λ zs. zs ++ r) m) ∙ (e ∙ ap (λ zs. zs ++ s) n))
-      | equals q n ↦ absurd (not_fifty (ap (λ zs. get_or zs 1 0) (sym (ap (λ zs. zs ++ r) m) ∙ (e ∙ ap (λ zs. zs ++ s) n))))
-      | plain q o n ↦ absurd (o (sym (ap (λ zs. get_or zs 0 0) (sym (ap (λ zs. zs ++ r) m) ∙ (e ∙ ap (λ zs. zs ++ s) n))))) ]
+  | comma p m ↦ elim (escape x) as (λ _. r ≡ s) [
+    | comma q n ↦ ap (drop 3) (sym (ap (λ zs. zs ++ r) m) ∙ (e ∙ ap (λ zs. zs ++ s) n))
+    | equals q n ↦ absurd (not_fifty (ap (λ zs. get_or zs 1 0) (sym (ap (λ zs. zs ++ r) m) ∙ (e ∙ ap (λ zs. zs ++ s) n))))
+    | plain q o n ↦ absurd (o (sym (ap (λ zs. get_or zs 0 0) (sym (ap (λ zs. zs ++ r) m) ∙ (e ∙ ap (λ zs. zs ++ s) n)))))
+  ]
   | equals p m ↦ elim (escape x) as (λ _. r ≡ s) [
-        comma q n ↦ absurd (not_fifty (sym (ap (λ zs. get_or zs 1 0) (sym (ap (λ zs. zs ++ r) m) ∙ (e ∙ ap (λ zs. zs ++ s) n)))))
-      | equals q n ↦ ap (drop 3) (sym (ap (λ zs. zs ++ r) m) ∙ (e ∙ ap (λ zs. zs ++ s) n))
-      | plain q o n ↦ absurd (o (sym (ap (λ zs. get_or zs 0 0) (sym (ap (λ zs. zs ++ r) m) ∙ (e ∙ ap (λ zs. zs ++ s) n))))) ]
+    | comma q n ↦ absurd (not_fifty (sym (ap (λ zs. get_or zs 1 0) (sym (ap (λ zs. zs ++ r) m) ∙ (e ∙ ap (λ zs. zs ++ s) n)))))
+    | equals q n ↦ ap (drop 3) (sym (ap (λ zs. zs ++ r) m) ∙ (e ∙ ap (λ zs. zs ++ s) n))
+    | plain q o n ↦ absurd (o (sym (ap (λ zs. get_or zs 0 0) (sym (ap (λ zs. zs ++ r) m) ∙ (e ∙ ap (λ zs. zs ++ s) n)))))
+  ]
   | plain p l m ↦ elim (escape x) as (λ _. r ≡ s) [
-        comma q n ↦ absurd (l (ap (λ zs. get_or zs 0 0) (sym (ap (λ zs. zs ++ r) m) ∙ (e ∙ ap (λ zs. zs ++ s) n))))
-      | equals q n ↦ absurd (l (ap (λ zs. get_or zs 0 0) (sym (ap (λ zs. zs ++ r) m) ∙ (e ∙ ap (λ zs. zs ++ s) n))))
-      | plain q o n ↦ ap (drop 1) (sym (ap (λ zs. zs ++ r) m) ∙ (e ∙ ap (λ zs. zs ++ s) n)) ] ]
+    | comma q n ↦ absurd (l (ap (λ zs. get_or zs 0 0) (sym (ap (λ zs. zs ++ r) m) ∙ (e ∙ ap (λ zs. zs ++ s) n))))
+    | equals q n ↦ absurd (l (ap (λ zs. get_or zs 0 0) (sym (ap (λ zs. zs ++ r) m) ∙ (e ∙ ap (λ zs. zs ++ s) n))))
+    | plain q o n ↦ ap (drop 1) (sym (ap (λ zs. zs ++ r) m) ∙ (e ∙ ap (λ zs. zs ++ s) n))
+  ]
+]
 
 -- what is read first
 pub plain_byte : (b : ℕ) → b ≢ 44 → b ≢ 61 → escape_of b ≡ b ∷ []
 plain_byte b n m = elim (escape b) as (λ _. escape_of b ≡ b ∷ []) [
-    comma a s ↦ absurd (n a)
+  | comma a s ↦ absurd (n a)
   | equals a s ↦ absurd (m a)
-  | plain a c s ↦ s ]
+  | plain a c s ↦ s
+]
 
 pub plain_front : (text : List ℕ) (b : ℕ) (rest : List ℕ) → b ≢ 44 → b ≢ 61 → text ≡ b ∷ rest → text ≡ escape_of b ++ rest
 plain_front text b rest n m e = e ∙ sym (ap (λ zs. zs ++ rest) (plain_byte b n m))
@@ -82,22 +87,25 @@ plain_front text b rest n m e = e ∙ sym (ap (λ zs. zs ++ rest) (plain_byte b 
 -- what no byte is written as
 pub no_comma : (b : ℕ) (tail rest : List ℕ) → 44 ∷ tail ≡ escape_of b ++ rest → ⊥
 no_comma b tail rest e = elim (escape b) as (λ _. ⊥) [
-    comma a s ↦ not_comma (ap (λ zs. get_or zs 0 0) (e ∙ ap (λ zs. zs ++ rest) s))
+  | comma a s ↦ not_comma (ap (λ zs. get_or zs 0 0) (e ∙ ap (λ zs. zs ++ rest) s))
   | equals a s ↦ not_comma (ap (λ zs. get_or zs 0 0) (e ∙ ap (λ zs. zs ++ rest) s))
-  | plain a m s ↦ a (sym (ap (λ zs. get_or zs 0 0) (e ∙ ap (λ zs. zs ++ rest) s))) ]
+  | plain a m s ↦ a (sym (ap (λ zs. get_or zs 0 0) (e ∙ ap (λ zs. zs ++ rest) s)))
+]
 
 pub no_code : (b : ℕ) (code rest : List ℕ) → ((r : List ℕ) → code ≡ 50 ∷ 67 ∷ r → ⊥) → ((r : List ℕ) → code ≡ 51 ∷ 68 ∷ r → ⊥)
     → 61 ∷ code ≡ escape_of b ++ rest → ⊥
 no_code b code rest n m e = elim (escape b) as (λ _. ⊥) [
-    comma a s ↦ n rest (ap (drop 1) (e ∙ ap (λ zs. zs ++ rest) s))
+  | comma a s ↦ n rest (ap (drop 1) (e ∙ ap (λ zs. zs ++ rest) s))
   | equals a s ↦ m rest (ap (drop 1) (e ∙ ap (λ zs. zs ++ rest) s))
-  | plain a c s ↦ c (sym (ap (λ zs. get_or zs 0 0) (e ∙ ap (λ zs. zs ++ rest) s))) ]
+  | plain a c s ↦ c (sym (ap (λ zs. get_or zs 0 0) (e ∙ ap (λ zs. zs ++ rest) s)))
+]
 
 pub no_byte : (b : ℕ) (rest : List ℕ) → [] ≡ escape_of b ++ rest → ⊥
 no_byte b rest e = elim (escape b) as (λ _. ⊥) [
-    comma a s ↦ empty (ap length (e ∙ ap (λ zs. zs ++ rest) s))
+  | comma a s ↦ empty (ap length (e ∙ ap (λ zs. zs ++ rest) s))
   | equals a s ↦ empty (ap length (e ∙ ap (λ zs. zs ++ rest) s))
-  | plain a c s ↦ empty (ap length (e ∙ ap (λ zs. zs ++ rest) s)) ]
+  | plain a c s ↦ empty (ap length (e ∙ ap (λ zs. zs ++ rest) s))
+]
 
 -- the loop over a written name: what was read, and what is left of any user
 pub read_byte_more : (name user rest : List ℕ) (b : ℕ) (tail : List ℕ) → name ≡ escaped_of user ++ rest → rest ≡ escape_of b ++ tail

@@ -1,8 +1,8 @@
 -- Extensions, one after another.
 use Rattle.std.proofs.lemmas.Bool.{eqb-false}
-use Rattle.std.proofs.Common.{nat_eq, false, ◌<◌, get_or, ◌≡◌, ◌≢◌, ℕ, suc, length, ap, arith, ◌⊎◌, inl, inr, List, [], ◌∷◌, ◌++◌, refl, subst, sym, ◌∙◌, append_assoc}
-use Rattle.sasl_gate.specs.Parts.{IsTail, IsAttribute, IsNext, IsExtension}
-use Rattle.sasl_gate.specs.Texts.{IsExtensions, IsValue}
+use Rattle.std.proofs.Common.{nat_eq, false, ◌<◌, get_or, ◌≡◌, ◌≢◌, ℕ, suc, length, ap, arith, ◌⊎◌, inl, inr, List, [], ◌∷◌, ◌++◌, refl, subst, sym, ◌∙◌}
+use Rattle.sasl_gate.specs.Parts.{IsTail, IsNext, IsExtension}
+use Rattle.sasl_gate.specs.Texts.{IsExtensions}
 use Rattle.sasl_gate.specs.Texts.IsExtensions.{none, more}
 use Rattle.sasl_gate.proofs.Attributes.{next_once}
 
@@ -12,18 +12,22 @@ tail_of t (more letter value rest l m s v e) = refl
 
 pub first_extension : (t : List ℕ) → IsExtensions t → (t ≡ []) ⊎ ((rest : List ℕ) × IsExtension t rest × IsExtensions rest)
 first_extension t none = inl refl
-first_extension t (more letter value rest l m s v e) = inr (rest, record {
-  letter = letter;
-  value = value;
-  letter_is = l;
-  not_reserved = m;
-  some = s;
-  next = record {
-    after = letter ∷ 61 ∷ value ++ rest;
-    comma = refl;
-    attribute = record { text_is = refl; value_is = v; rest_is = tail_of rest e };
-  };
-}, e)
+first_extension t (more letter value rest l m s v e) = inr (
+  rest,
+  record {
+    letter = letter;
+    value = value;
+    letter_is = l;
+    not_reserved = m;
+    some = s;
+    next = record {
+      after = letter ∷ 61 ∷ value ++ rest;
+      comma = refl;
+      attribute = record { text_is = refl; value_is = v; rest_is = tail_of rest e };
+    };
+  },
+  e,
+)
 
 pub more_extensions : (t rest : List ℕ) → IsExtension t rest → IsExtensions rest → IsExtensions t
 more_extensions t rest x e =
@@ -45,9 +49,10 @@ extension_once t r s a b =
 
 pub fewer_extensions : (t rest : List ℕ) → IsExtension t rest → IsExtensions t → IsExtensions rest
 fewer_extensions t rest x e = elim (first_extension t e) [
-    inl empty ↦
+  | inl empty ↦
       let one : suc (length x.next.after) ≡ 0 = ap length (sym x.next.comma ∙ empty) in absurd (omega arith)
-  | inr found ↦ let P : List ℕ → Type 0 = λ s. IsExtensions s in subst P (extension_once t found.0 rest found.1 x) found.2 ]
+  | inr found ↦ let P : List ℕ → Type 0 = λ s. IsExtensions s in subst P (extension_once t found.0 rest found.1 x) found.2
+]
 
 pub no_extensions : (t : List ℕ) → t ≢ [] → ((rest : List ℕ) → IsExtension t rest → ⊥) → IsExtensions t → ⊥
 no_extensions t some missing e = elim (first_extension t e) [ inl empty ↦ some empty | inr found ↦ missing found.0 found.1 ]

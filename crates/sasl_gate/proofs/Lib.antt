@@ -3,3 +3,4 @@ pub mod Encoded
 pub mod Escapes
 pub mod Extensions
 pub mod Readers
+pub mod Listener

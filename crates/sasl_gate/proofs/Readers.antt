@@ -1,6 +1,6 @@
 -- A text has its parts in one way.
-use Rattle.std.proofs.Common.{◌≡◌, ◌≢◌, ℕ, zero, suc, ◌+◌, ◌<◌, ◌≤◌, inl, inr, List, [], ◌∷◌, ◌++◌, length, take, drop, get_or, drop-cons, take-append-drop, add-one, refl, ap, ◌∙◌, sym, arith, subst, append_assoc, codes, length-append, append-nil, Option}
-use Rattle.std.specs.Prelude.{IsUtf8, IsAscii, All}
+use Rattle.std.proofs.Common.{◌≡◌, ◌≢◌, ℕ, zero, suc, ◌+◌, ◌<◌, ◌≤◌, inl, inr, List, [], ◌∷◌, ◌++◌, length, take, drop, get_or, drop-cons, take-append-drop, add-one, refl, ap, ◌∙◌, sym, arith, subst, append_assoc, codes, append-nil, Option}
+use Rattle.std.specs.Prelude.{IsUtf8, All}
 use Rattle.base64.specs.Rfc4648.{encode_symbols}
 use Rattle.std.proofs.lemmas.Str.{IsUtf8-from_ascii}
 use Rattle.base64.specs.Engines.{standard}
@@ -8,7 +8,7 @@ use Rattle.base64.specs.GeneralPurpose.{encode_of}
 use Rattle.sasl_gate.specs.declared.scram.error.ScramErrorKind.{ScramErrorKind}
 use Rattle.sasl_gate.specs.declared.scram.error.ScramErrorKind.TheVariants.{Memory, TextNotAllowed, Malformed, NonceMismatch, Iterations, Base64, Signature, UserUnknown, ProofMismatch}
 use Rattle.sasl_gate.specs.declared.scram.stored.StoredPassword.{StoredPassword}
-use Rattle.sasl_gate.specs.Parts.{IsTail, IsAttribute, IsNext, IsPair, IsClientFirstBare, IsClientFinalBare}
+use Rattle.sasl_gate.specs.Parts.{IsAttribute, IsNext, IsPair, IsClientFirstBare, IsClientFinalBare}
 use Rattle.sasl_gate.specs.Profile.{IsNonce, IsAllowedUser}
 use Rattle.sasl_gate.specs.Refusals.{IsNameRefusal, IsClientFirstRefusal}
 use Rattle.sasl_gate.specs.Texts.{escaped_of, IsName, IsHeader, IsValue, IsExtensions, IsClientFirst, IsServerFirst, IsClientFinal, IsServerFinal}
@@ -105,10 +105,11 @@ client_first_bare text h b n r f = record {
 pub client_first_split : (text h b n r : List ℕ) → IsClientFirst text h b n r
     → (take 3 text ≡ h) × (drop 3 text ≡ b) × (3 ≤ length text) × (length h ≡ 3)
 client_first_split text h b n r f = elim f.header_is as (λ _. (take 3 text ≡ h) × (drop 3 text ≡ b) × (3 ≤ length text) × (length h ≡ 3)) [
-    inl e ↦ let same : text ≡ codes "n,," ++ b = f.text_is ∙ ap (λ t. t ++ b) e in
+  | inl e ↦ let same : text ≡ codes "n,," ++ b = f.text_is ∙ ap (λ t. t ++ b) e in
       (ap (take 3) same ∙ sym e, ap (drop 3) same, split_long text b 110 44 44 same, ap length e)
   | inr e ↦ let same : text ≡ codes "y,," ++ b = f.text_is ∙ ap (λ t. t ++ b) e in
-      (ap (take 3) same ∙ sym e, ap (drop 3) same, split_long text b 121 44 44 same, ap length e) ]
+      (ap (take 3) same ∙ sym e, ap (drop 3) same, split_long text b 121 44 44 same, ap length e)
+]
 
 pub no_client_first : (text bare : List ℕ) → bare ≡ drop 3 text → ((n r : List ℕ) → IsClientFirstBare bare n r → ⊥)
     → (h b n r : List ℕ) → IsClientFirst text h b n r → ⊥
@@ -218,13 +219,13 @@ pub client_final_found : (header text front last r p : List ℕ) → text ≡ fr
 client_final_found header text front last r p e l v f =
     let V : List ℕ → Type 0 = λ t. IsValue t in
     record {
-  extensions = f.extensions;
-  bare_is = f.pair_is.text_is ∙ sym (flat_client_final (encode_of standard header) r f.extensions);
-  text_is = e ∙ (ap (λ t. front ++ (44 ∷ t)) l ∙ sym (append_assoc front (codes ",p=") p));
-  nonce_is = f.nonce_is;
-  proof_is = later_bytes 61 p (later_bytes 112 (61 ∷ p) (subst V l v));
-  extensions_are = f.extensions_are;
-}
+      extensions = f.extensions;
+      bare_is = f.pair_is.text_is ∙ sym (flat_client_final (encode_of standard header) r f.extensions);
+      text_is = e ∙ (ap (λ t. front ++ (44 ∷ t)) l ∙ sym (append_assoc front (codes ",p=") p));
+      nonce_is = f.nonce_is;
+      proof_is = later_bytes 61 p (later_bytes 112 (61 ∷ p) (subst V l v));
+      extensions_are = f.extensions_are;
+    }
 
 encoded_none : encode_of standard (codes "n,,") ≡ codes "biws"
 unfolding encode_symbols
@@ -243,8 +244,9 @@ pub header_value : (header : List ℕ) → IsHeader header → IsValue (encode_o
 header_value header h =
     let P : List ℕ → Type 0 = λ t. IsValue t in
     elim h as (λ _. IsValue (encode_of standard header)) [
-      inl e ↦ subst P (sym (ap (λ t. encode_of standard t) e ∙ encoded_none)) (four_value 98 105 119 115 (omega arith) (omega arith) (omega arith) (omega arith))
-    | inr e ↦ subst P (sym (ap (λ t. encode_of standard t) e ∙ encoded_not_offered)) (four_value 101 83 119 115 (omega arith) (omega arith) (omega arith) (omega arith)) ]
+      | inl e ↦ subst P (sym (ap (λ t. encode_of standard t) e ∙ encoded_none)) (four_value 98 105 119 115 (omega arith) (omega arith) (omega arith) (omega arith))
+      | inr e ↦ subst P (sym (ap (λ t. encode_of standard t) e ∙ encoded_not_offered)) (four_value 101 83 119 115 (omega arith) (omega arith) (omega arith) (omega arith))
+    ]
 
 -- the last attribute is the whole of what stands after the last comma
 lone_attribute : (last v r : List ℕ) → IsAttribute 112 last v r → IsValue last → last ≡ 112 ∷ 61 ∷ v

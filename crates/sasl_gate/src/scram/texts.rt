@@ -73,7 +73,9 @@ fn read_client_first_bare(bare: &[u8]) -> Option<(&[u8], &[u8])>
     ensures missing { IfNone result ((n : List ℕ) (r : List ℕ) → ¬ IsClientFirstBare bare.now n r) }
 {
     match read_pair(bare, b'n', b'r') {
-        Some(pair) if is_nonce(pair.other) && are_extensions(pair.rest) => Some((pair.value, pair.other)),
+        Some(pair) if is_nonce(pair.other) && are_extensions(pair.rest) => Some((
+            pair.value, pair.other,
+        )),
         _ => None,
     }
 }
@@ -123,7 +125,10 @@ fn read_client_final_bare<'a>(header: &[u8], bare: &'a [u8]) -> Option<&'a [u8]>
     ensures missing { IfNone result ((r : List ℕ) → ¬ IsClientFinalBare header.now bare.now r) }
 {
     match read_pair(bare, b'c', b'r') {
-        Some(pair) if is_encoded(pair.value, header) && is_nonce(pair.other) && are_extensions(pair.rest) => Some(pair.other),
+        Some(pair)
+            if is_encoded(pair.value, header)
+                && is_nonce(pair.other)
+                && are_extensions(pair.rest) => Some(pair.other),
         _ => None,
     }
 }

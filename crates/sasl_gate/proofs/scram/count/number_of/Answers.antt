@@ -1,4 +1,4 @@
-use Rattle.std.proofs.Common.{◌≡◌, ℕ, ◌<◌, ◌^◌, decimal, Ok, sym, ◌∙◌, arith, subst, List, ap}
+use Rattle.std.proofs.Common.{◌≡◌, ℕ, ◌<◌, ◌^◌, Ok, sym, ◌∙◌, arith, subst, List, ap}
 use Rattle.std.specs.Result.{result_ok}
 use Rattle.std.specs.Prelude.{IsUtf8}
 use Rattle.std.proofs.lemmas.Fmt.{parse-decimal, IsAscii-decimal}

@@ -1,4 +1,4 @@
-use Rattle.std.proofs.Common.{◌≡◌, ℕ, ◌<◌, arith, length, take}
+use Rattle.std.proofs.Common.{◌≡◌, arith, length, take}
 use Rattle.std.proofs.lemmas.Grind.{common_steps}
 use Rattle.sasl_gate.proofs.Encoded.{spells, spells_short, spells_decoded, spells_refused}
 use Rattle.sasl_gate.proofs.scram.encoding.decode_into.Goals as goal
@@ -17,7 +17,7 @@ pub returns-in_default-clause-refused : goal.returns-in_default-clause-refused
 returns-in_default-clause-refused c = λ bytes s.
     let same : length (take c.in-Ok.size c.decode_slice_unchecked.new.output) ≡ c.in-Ok.size = grind (arith, common_steps, c.in-Ok.ensures.ok.2, c.decode_slice_unchecked.auto.output) in
     let size = spells_decoded c.args.text.now bytes (take c.in-Ok.size c.decode_slice_unchecked.new.output) _
-        (λ i. let f = c.type_inv.text i in omega arith) c.in-Ok.ensures.ok.0 s in
+    (λ i. let f = c.type_inv.text i in omega arith) c.in-Ok.ensures.ok.0 s in
     c.if-size-out.false (omega arith)
 
 pub returns-in_default-2-clause-refused : goal.returns-in_default-2-clause-refused

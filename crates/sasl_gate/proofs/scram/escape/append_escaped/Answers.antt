@@ -1,4 +1,4 @@
-use Rattle.std.proofs.Common.{◌≡◌, ◌++◌, List, ℕ, sym, ◌∙◌, ap, append-nil, arith}
+use Rattle.std.proofs.Common.{◌++◌, sym, ◌∙◌, ap, append-nil}
 use Rattle.sasl_gate.proofs.Escapes.{escaped_of-nil, escaped_step}
 use Rattle.sasl_gate.proofs.scram.escape.append_escaped.Goals as goal
 

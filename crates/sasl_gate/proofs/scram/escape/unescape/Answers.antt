@@ -1,6 +1,5 @@
-use Rattle.std.proofs.Common.{◌≡◌, ◌++◌, ◌<◌, List, ℕ, length, sym, ◌∙◌, ap, rules, arith}
+use Rattle.std.proofs.Common.{◌<◌, length, sym, ◌∙◌, arith}
 use Rattle.std.proofs.lemmas.Bool.{eqb-false}
-use Rattle.sasl_gate.specs.Texts.{escaped_of}
 use Rattle.sasl_gate.proofs.Escapes.{escaped_of-nil, read_byte_more, left_after, none_left}
 use Rattle.sasl_gate.proofs.scram.escape.unescape.Goals as goal
 

@@ -16,11 +16,14 @@ returns-clause-err c =
     let some : 0 < length c.args.name.now = omega (arith, eqb-false (length c.args.name.now) 0 (sym c.is_empty.ensures ∙ c.if-is_empty.false)) in
     let written : c.args.name.now ≡ escaped_of c.in-Some.user.items = rw c.in-Some.is at c.in_ok-user.ensures in
     let P : List ℕ → Type 0 = λ t. IsAllowedUser t in
-    let U : List ℕ → Type 0 = λ t. IsUtf8 t in
-    (c.in-Some.user.items, (some_user c.args.name.now c.in-Some.user.items some written, written),
-    λ a. elim c.in_default-from_utf8.branch as (λ _. ⊥) [
-      in_default-from_utf8-via-in-Ok+else-is_allowed_user w ↦
-        let same : c.in-Some.user.items ≡ w.as_bytes.result.now = sym c.deref.ensures.value ∙ (sym w.in-Ok.ensures.cases.0 ∙ sym w.as_bytes.ensures.value) in
-        let t : false ≡ true = sym w.if-is_allowed_user.false ∙ w.is_allowed_user.ensures.1 (subst P same a) in cc
-    | in_default-from_utf8-via-in_default-from_utf8 w ↦
-        w.in_default-from_utf8.ensures.cases.0 (subst U (sym c.deref.ensures.value) (IsUtf8-allowed c.in-Some.user.items a)) ])
+    let U : List ℕ → Type 0 = λ t. IsUtf8 t in (
+      c.in-Some.user.items,
+      (some_user c.args.name.now c.in-Some.user.items some written, written),
+      λ a. elim c.in_default-from_utf8.branch as (λ _. ⊥) [
+        | in_default-from_utf8-via-in-Ok+else-is_allowed_user w ↦
+            let same : c.in-Some.user.items ≡ w.as_bytes.result.now = sym c.deref.ensures.value ∙ (sym w.in-Ok.ensures.cases.0 ∙ sym w.as_bytes.ensures.value) in
+            let t : false ≡ true = sym w.if-is_allowed_user.false ∙ w.is_allowed_user.ensures.1 (subst P same a) in cc
+        | in_default-from_utf8-via-in_default-from_utf8 w ↦
+            w.in_default-from_utf8.ensures.cases.0 (subst U (sym c.deref.ensures.value) (IsUtf8-allowed c.in-Some.user.items a))
+      ],
+    )

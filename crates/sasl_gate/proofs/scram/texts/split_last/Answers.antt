@@ -1,4 +1,4 @@
-use Rattle.std.proofs.Common.{◌≡◌, ◌++◌, ◌∷◌, ℕ, List, drop, subst, arith}
+use Rattle.std.proofs.Common.{◌≡◌, ℕ, List, drop, subst, arith}
 use Rattle.sasl_gate.specs.Texts.{IsValue}
 use Rattle.sasl_gate.proofs.Readers.{value_splits_nowhere}
 use Rattle.sasl_gate.proofs.scram.texts.split_last.Goals as goal
