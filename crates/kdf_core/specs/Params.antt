@@ -20,14 +20,14 @@ recommended_rounds Pbkdf2Sha512 = 210000
 abbrev pub IsRecommended : Params → Type 0
 IsRecommended params = (rounds_of params ≡ 600000) × (output_len_of params ≡ 32)
 
-abbrev pub AreInRange : ℕ → ℕ → Type 0
-AreInRange rounds len = (1000 ≤ rounds) × (10 ≤ len) × (len ≤ 64)
+abbrev pub IsInRange : ℕ → ℕ → Type 0
+IsInRange rounds len = (1000 ≤ rounds) × (10 ≤ len) × (len ≤ 64)
 
 -- these rounds and this length, or the error where they are out of range
 abbrev pub IsParamsOf : ℕ → ℕ → Result Params KdfError → Type 0
 IsParamsOf rounds len (Ok params) =
-    (rounds_of params ≡ rounds) × (output_len_of params ≡ len) × AreInRange rounds len
-IsParamsOf rounds len (Err e) = (e ≡ ParamsInvalid) × (AreInRange rounds len → ⊥)
+    (rounds_of params ≡ rounds) × (output_len_of params ≡ len) × IsInRange rounds len
+IsParamsOf rounds len (Err e) = (e ≡ ParamsInvalid) × (IsInRange rounds len → ⊥)
 
 -- an optional plus sign, then one or more digits, with a value below 2^32
 abbrev pub IsRounds : List ℕ → ℕ → Type 0

@@ -16,8 +16,8 @@ fn xor_into(bytes: &mut [u8], other: &[u8])
     requires { length bytes.old ≡ length other.now }
     ensures { bytes.new ≡ xor_of bytes.old other.now }
 {
-    'bytes: for i in 0..bytes.len() {
-        bytes[i] ^= other[i];
+    'bytes: for (i, byte) in bytes.iter_mut().enumerate() {
+        *byte ^= other[i];
     }
 }
 
@@ -93,6 +93,7 @@ fn blocks_into<P: Prf>(prf: &P, salt: &[u8], rounds: u32, out: &mut [u8])
 ///
 /// The length of the key is that of `res`: at most 2^32 - 1 outputs of `P`. Rounds 0 count as 1. `InvalidLength` comes
 /// exactly where `P` does not take the password as its key, and leaves `res` as it was.
+#[tactic(auto, using(crate::proofs::Rounds::key_laws))]
 pub fn pbkdf2<P: Prf>(
     password: &[u8],
     salt: &[u8],

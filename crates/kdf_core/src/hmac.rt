@@ -54,9 +54,9 @@ fn padded_key<D: HashFn>(key: &[u8]) -> [u8; 128]
 fn xored(block: &[u8; 128], byte: u8) -> [u8; 128]
     ensures { result ≡ xor_byte byte block.now }
 {
-    let mut out = [0u8; 128];
-    'bytes: for i in 0..128 {
-        out[i] = block[i] ^ byte;
+    let mut out = *block;
+    'bytes: for x in &mut out {
+        *x ^= byte;
     }
     out
 }
