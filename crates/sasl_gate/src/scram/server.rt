@@ -151,7 +151,7 @@ impl<D: HashFn, P: ScramCredentialProvider> ScramServer<D, P> {
         let Some(keys) = self.provider.get(challenge.user.as_str()) else {
             unreachable!();
         };
-        let reply = match reply::<D>(alloc, challenge, keys, text) {
+        let reply = match server_final_for::<D>(alloc, challenge, keys, text) {
             Ok(reply) => reply,
             Err(error) => return Err(error),
         };
@@ -181,7 +181,7 @@ fn read_user(alloc: Global, name: &[u8]) -> Result<Text, ScramErrorKind>
 }
 
 // The server final for a client final.
-fn reply<D: HashFn>(
+fn server_final_for<D: HashFn>(
     alloc: Global,
     challenge: &Challenge,
     keys: &StoredPassword,

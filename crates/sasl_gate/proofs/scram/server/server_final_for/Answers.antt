@@ -1,7 +1,7 @@
 use Rattle.std.proofs.Common.{◌≡◌, List, ℕ, true, false, take, ap, sym, ◌∙◌, subst}
 use Rattle.std.proofs.lemmas.Cmp.{nat_list_eq_equiv}
 use Rattle.sasl_gate.specs.Texts.{IsClientFinal}
-use Rattle.sasl_gate.proofs.scram.server.reply.Goals as goal
+use Rattle.sasl_gate.proofs.scram.server.server_final_for.Goals as goal
 
 pub returns-in_default-clause-err : goal.returns-in_default-clause-err
 returns-in_default-clause-err g c = λ f n p h.
