@@ -24,6 +24,13 @@ pub record IsNext (letter : ℕ) (text value rest : List ℕ) : Type 0 where
   pub comma : text ≡ 44 ∷ after
   pub attribute : IsAttribute letter after value rest
 
+-- the text is two attributes with these letters, a comma between them, then the rest
+pub record IsPair (first second : ℕ) (text value other rest : List ℕ) : Type 0 where
+  pub text_is : text ≡ first ∷ 61 ∷ (value ++ (44 ∷ second ∷ 61 ∷ (other ++ rest)))
+  pub value_is : IsValue value
+  pub other_is : IsValue other
+  pub rest_is : IsTail rest
+
 -- the text is an extension, then the rest
 pub record IsExtension (text rest : List ℕ) : Type 0 where
   pub letter : ℕ
@@ -35,19 +42,15 @@ pub record IsExtension (text rest : List ℕ) : Type 0 where
 
 -- a client first without its header
 pub record IsClientFirstBare (bare name nonce : List ℕ) : Type 0 where
-  pub after_name : List ℕ
   pub extensions : List ℕ
-  pub name_is : IsAttribute 110 bare name after_name
-  pub nonce_next : IsNext 114 after_name nonce extensions
+  pub pair_is : IsPair 110 114 bare name nonce extensions
   pub nonce_is : IsNonce nonce
   pub extensions_are : IsExtensions extensions
 
 -- a client final without its proof
 pub record IsClientFinalBare (header bare nonce : List ℕ) : Type 0 where
-  pub after_binding : List ℕ
   pub extensions : List ℕ
-  pub binding_is : IsAttribute 99 bare (encode_of standard header) after_binding
-  pub nonce_next : IsNext 114 after_binding nonce extensions
+  pub pair_is : IsPair 99 114 bare (encode_of standard header) nonce extensions
   pub nonce_is : IsNonce nonce
   pub extensions_are : IsExtensions extensions
 

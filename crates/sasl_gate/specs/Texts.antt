@@ -60,12 +60,16 @@ auth_of client_first_bare server_first client_final_bare =
 
 -- ---- what is read
 
--- a client first: the gs2-header with no channel binding and no authorization identity, "n,," or "y,,", and the bare
--- text, "n=NAME,r=NONCE" and extensions, with the user's name as it is written
+-- the gs2-headers with no channel binding and no authorization identity: the client does not bind channels, or it would
+-- and thinks that the listener does not
+abbrev pub IsHeader : List ℕ → Type 0
+IsHeader header = (header ≡ codes "n,,") ⊎ (header ≡ codes "y,,")
+
+-- a client first: such a header and the bare text, "n=NAME,r=NONCE" and extensions, with the user's name as it is written
 pub record IsClientFirst (text header bare name nonce : List ℕ) : Type 0 where
   pub extensions : List ℕ
   pub text_is : text ≡ header ++ bare
-  pub header_is : (header ≡ codes "n,,") ⊎ (header ≡ codes "y,,")
+  pub header_is : IsHeader header
   pub bare_is : bare ≡ codes "n=" ++ name ++ codes ",r=" ++ nonce ++ extensions
   pub name_is : IsValue name
   pub nonce_is : IsNonce nonce

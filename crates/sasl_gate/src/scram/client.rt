@@ -156,7 +156,9 @@ impl<D: HashFn> ScramClient<D> {
         ensures check { OnOk result (ForAnswered self.old.phase (λ a. ClientCheck D.digest D.BLOCK D.OUTPUT
             self.old.user self.old.password self.old.nonce
             (client_first_of self.old.user self.old.nonce) a.server_first a.client_final text.now)) }
-        ensures err { IfErr result (λ e. ForAnswered self.old.phase (λ a. IsServerFinalRefusal D.OUTPUT a.signature text.now e)) }
+        ensures err { IfErr result (λ e. ForAnswered self.old.phase (λ a. ClientAnswers D.digest D.BLOCK D.OUTPUT
+            self.old.user self.old.password self.old.nonce a.server_first a.client_final a.signature
+            × IsServerFinalRefusal D.OUTPUT a.signature text.now e)) }
         ensures same { OnErr result (self.new ≡ self.old) }
     {
         let ClientPhase::Answered(answer) = &self.phase else {

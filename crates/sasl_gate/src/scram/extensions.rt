@@ -2,7 +2,7 @@
 
 ghost use Rattle.std.specs.Prelude.{◌≡◌, ◌↔◌, ℕ, List, ◌∷◌, ◌++◌, IsTrue, IfSome, IfNone};
 ghost use Rattle.sasl_gate.specs.Texts.{IsExtensions};
-ghost use Rattle.sasl_gate.specs.Parts.{IsAttribute, IsNext, IsExtension};
+ghost use Rattle.sasl_gate.specs.Parts.{IsAttribute, IsNext, IsPair, IsExtension};
 
 /// The value of an attribute, and the text after it.
 #[derive(Clone, Copy)]
@@ -36,6 +36,32 @@ pub fn read_next(text: &[u8], letter: u8) -> Option<Attribute<'_>>
     match text {
         [b',', after @ ..] => read_attribute(after, letter),
         _ => None,
+    }
+}
+
+/// The values of two attributes, and the text after them.
+#[derive(Clone, Copy)]
+pub struct Pair<'a> {
+    pub value: &'a [u8],
+    pub other: &'a [u8],
+    pub rest: &'a [u8],
+}
+
+/// Reads two attributes with these letters at the front of the text, with a comma between them.
+pub fn read_pair(text: &[u8], first: u8, second: u8) -> Option<Pair<'_>>
+    ensures found { IfSome result (λ p. IsPair first second text.now p.value.now p.other.now p.rest.now) }
+    ensures missing { IfNone result ((v : List ℕ) (w : List ℕ) (r : List ℕ) → ¬ IsPair first second text.now v w r) }
+{
+    let Some(front) = read_attribute(text, first) else {
+        return None;
+    };
+    match read_next(front.rest, second) {
+        Some(next) => Some(Pair {
+            value: front.value,
+            other: next.value,
+            rest: next.rest,
+        }),
+        None => None,
     }
 }
 

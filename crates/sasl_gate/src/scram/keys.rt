@@ -12,8 +12,8 @@ fn xor_into(bytes: &mut [u8], other: &[u8])
     requires { length bytes.old ≡ length other.now }
     ensures { bytes.new ≡ xor_of bytes.old other.now }
 {
-    'bytes: for i in 0..bytes.len() {
-        bytes[i] ^= other[i];
+    'bytes: for (i, byte) in bytes.iter_mut().enumerate() {
+        *byte ^= other[i];
     }
 }
 

@@ -7,7 +7,7 @@ ghost use Rattle.sasl_gate.specs.Check.{ServerAnswers, ServerCheck};
 ghost use Rattle.sasl_gate.specs.Profile.{IsAllowedUser, IsNonce};
 ghost use Rattle.sasl_gate.specs.Refusals.{IsNameRefusal, IsClientFirstRefusal, IsClientFinalRefusal};
 ghost use Rattle.sasl_gate.specs.Parts.{IsProved};
-ghost use Rattle.sasl_gate.specs.Texts.{escaped_of};
+ghost use Rattle.sasl_gate.specs.Texts.{escaped_of, IsHeader};
 ghost use Rattle.sasl_gate.specs.States.{server_challenged, server_proved, ForChallenged};
 
 use crate::scram::encoding::decode_into;
@@ -95,7 +95,10 @@ impl<D: HashFn, P: ScramCredentialProvider> ScramServer<D, P> {
         let Some(parts) = read_client_first(text) else {
             return Err(ScramErrorKind::Malformed);
         };
-        let user = read_user(alloc, parts.name)?;
+        let user = match read_user(alloc, parts.name) {
+            Ok(user) => user,
+            Err(error) => return Err(error),
+        };
         let Some(keys) = self.provider.get(user.as_str()) else {
             return Err(ScramErrorKind::UserUnknown);
         };
@@ -148,7 +151,10 @@ impl<D: HashFn, P: ScramCredentialProvider> ScramServer<D, P> {
         let Some(keys) = self.provider.get(challenge.user.as_str()) else {
             unreachable!();
         };
-        let reply = reply::<D>(alloc, challenge, keys, text)?;
+        let reply = match server_final_for::<D>(alloc, challenge, keys, text) {
+            Ok(reply) => reply,
+            Err(error) => return Err(error),
+        };
         self.phase = ServerPhase::Proved;
         Ok(reply)
     }
@@ -159,12 +165,12 @@ fn read_user(alloc: Global, name: &[u8]) -> Result<Text, ScramErrorKind>
     ensures ok { IfOk result (λ user. (name.now ≡ escaped_of user) × IsAllowedUser user) }
     ensures err { IfErr result (λ e. IsNameRefusal name.now e) }
 {
+    if name.is_empty() {
+        return Err(ScramErrorKind::Malformed);
+    }
     let Some(user) = unescape(alloc, name)? else {
         return Err(ScramErrorKind::Malformed);
     };
-    if user.is_empty() {
-        return Err(ScramErrorKind::Malformed);
-    }
     match str::from_utf8(&user) {
         Ok(text) if is_allowed_user(text.as_bytes()) => {
             let user = Text::from_str(alloc, text)?;
@@ -175,13 +181,14 @@ fn read_user(alloc: Global, name: &[u8]) -> Result<Text, ScramErrorKind>
 }
 
 // The server final for a client final.
-fn reply<D: HashFn>(
+fn server_final_for<D: HashFn>(
     alloc: Global,
     challenge: &Challenge,
     keys: &StoredPassword,
     text: &[u8],
 ) -> Result<Binary, ScramErrorKind>
-    requires { 3 ≤ length challenge.now.client_first }
+    requires long { 3 ≤ length challenge.now.client_first }
+    requires header { IsHeader (take 3 challenge.now.client_first) }
     ensures ok { IfOk result (λ reply. IsProved D.digest D.BLOCK D.OUTPUT keys.now.stored_key keys.now.server_key
         (take 3 challenge.now.client_first) (drop 3 challenge.now.client_first) challenge.now.server_first challenge.now.nonce text.now reply) }
     ensures err { IfErr result (λ e. IsClientFinalRefusal D.digest D.BLOCK D.OUTPUT keys.now.stored_key

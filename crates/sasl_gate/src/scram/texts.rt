@@ -1,12 +1,12 @@
 //! The texts of SCRAM (RFC 5802, sections 5 and 7), read and written.
 
-ghost use Rattle.std.specs.Prelude.{◌≡◌, ◌↔◌, ℕ, List, [], ◌++◌, IsTrue, IfSome, IfNone, IfOk, codes, decimal};
+ghost use Rattle.std.specs.Prelude.{◌≡◌, ◌↔◌, ◌≤◌, ℕ, List, ◌∷◌, ◌++◌, length, IsTrue, IfSome, IfNone, IfOk};
 ghost use Rattle.sasl_gate.specs.Parts.{IsClientFirstBare, IsClientFinalBare};
-ghost use Rattle.sasl_gate.specs.Texts.{client_first_of, client_first_bare_of, server_first_of, client_final_of, client_final_bare_of, server_final_of, auth_of, Extends, IsClientFirst, IsServerFirst, IsClientFinal, IsServerFinal};
+ghost use Rattle.sasl_gate.specs.Texts.{client_first_of, client_first_bare_of, server_first_of, client_final_of, client_final_bare_of, server_final_of, auth_of, Extends, IsHeader, IsValue, IsClientFirst, IsServerFirst, IsClientFinal, IsServerFinal};
 
 use crate::scram::encoding::{append_encoded, is_encoded};
 use crate::scram::escape::append_escaped;
-use crate::scram::extensions::{are_extensions, read_attribute, read_next};
+use crate::scram::extensions::{are_extensions, read_attribute, read_next, read_pair};
 use crate::scram::profile::is_nonce;
 use amqp_value::Binary;
 use itoa::Buffer;
@@ -72,16 +72,12 @@ fn read_client_first_bare(bare: &[u8]) -> Option<(&[u8], &[u8])>
     ensures found { IfSome result (λ f. IsClientFirstBare bare.now f.0.now f.1.now) }
     ensures missing { IfNone result ((n : List ℕ) (r : List ℕ) → ¬ IsClientFirstBare bare.now n r) }
 {
-    let Some(name) = read_attribute(bare, b'n') else {
-        return None;
-    };
-    let Some(nonce) = read_next(name.rest, b'r') else {
-        return None;
-    };
-    if !is_nonce(nonce.value) || !are_extensions(nonce.rest) {
-        return None;
+    match read_pair(bare, b'n', b'r') {
+        Some(pair) if is_nonce(pair.other) && are_extensions(pair.rest) => Some((
+            pair.value, pair.other,
+        )),
+        _ => None,
     }
-    Some((name.value, nonce.value))
 }
 
 /// Reads a client first.
@@ -109,52 +105,59 @@ pub fn read_server_first(text: &[u8]) -> Option<ServerFirst<'_>>
     ensures found { IfSome result (λ f. IsServerFirst text.now f.nonce.now f.salt.now f.count.now) }
     ensures missing { IfNone result ((n : List ℕ) (s : List ℕ) (c : List ℕ) → ¬ IsServerFirst text.now n s c) }
 {
-    let Some(nonce) = read_attribute(text, b'r') else {
+    let Some(front) = read_pair(text, b'r', b's') else {
         return None;
     };
-    let Some(salt) = read_next(nonce.rest, b's') else {
-        return None;
-    };
-    let Some(count) = read_next(salt.rest, b'i') else {
-        return None;
-    };
-    if !is_nonce(nonce.value) || !are_extensions(count.rest) {
-        return None;
+    match read_next(front.rest, b'i') {
+        Some(count) if is_nonce(front.value) && are_extensions(count.rest) => Some(ServerFirst {
+            nonce: front.value,
+            salt: front.other,
+            count: count.value,
+        }),
+        _ => None,
     }
-    Some(ServerFirst {
-        nonce: nonce.value,
-        salt: salt.value,
-        count: count.value,
-    })
 }
 
 // Reads a client final without its proof, to a client first with this header; gives the nonce.
 fn read_client_final_bare<'a>(header: &[u8], bare: &'a [u8]) -> Option<&'a [u8]>
+    requires { length header.now ≤ 3 }
     ensures found { IfSome result (λ r. IsClientFinalBare header.now bare.now r.now) }
     ensures missing { IfNone result ((r : List ℕ) → ¬ IsClientFinalBare header.now bare.now r) }
 {
-    let Some(binding) = read_attribute(bare, b'c') else {
-        return None;
-    };
-    let Some(nonce) = read_next(binding.rest, b'r') else {
-        return None;
-    };
-    if !is_encoded(binding.value, header) || !is_nonce(nonce.value) || !are_extensions(nonce.rest) {
-        return None;
+    match read_pair(bare, b'c', b'r') {
+        Some(pair)
+            if is_encoded(pair.value, header)
+                && is_nonce(pair.other)
+                && are_extensions(pair.rest) => Some(pair.other),
+        _ => None,
     }
-    Some(nonce.value)
+}
+
+// What stands before the last comma of a text, and what stands after it.
+fn split_last(text: &[u8]) -> Option<(&[u8], &[u8])>
+    ensures found { IfSome result (λ r. (text.now ≡ r.0.now ++ (44 ∷ r.1.now)) × IsValue r.1.now) }
+    ensures missing { IfNone result ((front : List ℕ) (last : List ℕ) → ¬ (text.now ≡ front ++ (44 ∷ last))) }
+{
+    let mut at = text.len();
+    'bytes: while at > 0 {
+        at -= 1;
+        if text[at] == b',' {
+            return Some((&text[..at], &text[at + 1..]));
+        }
+    }
+    None
 }
 
 /// Reads a client final to a client first with this header.
 pub fn read_client_final<'a>(header: &[u8], text: &'a [u8]) -> Option<ClientFinal<'a>>
+    requires { IsHeader header.now }
     ensures found { IfSome result (λ f. IsClientFinal header.now text.now f.bare.now f.nonce.now f.proof.now) }
     ensures missing { IfNone result ((b : List ℕ) (r : List ℕ) (p : List ℕ) → ¬ IsClientFinal header.now text.now b r p) }
 {
-    let Some(at) = text.iter().rposition(|b| *b == b',') else {
+    let Some((bare, last)) = split_last(text) else {
         return None;
     };
-    let (bare, last) = text.split_at(at);
-    let Some(proof) = read_next(last, b'p') else {
+    let Some(proof) = read_attribute(last, b'p') else {
         return None;
     };
     match read_client_final_bare(header, bare) {
