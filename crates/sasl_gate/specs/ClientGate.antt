@@ -1,5 +1,6 @@
 -- The client's end of a SASL negotiation with SCRAM-SHA-256.
 use Rattle.std.specs.Prelude.{◌≡◌, ◌≢◌, ◌++◌, ◌⊎◌, ℕ, Bool, true, false, List, [], ◌∷◌, Option, Some, None, Result, Ok, Contains, ⊤}
+use Rattle.std.proofs.Common.{refl, sym, subst, ◌∙◌}
 use Rattle.amqp_base.specs.declared.sasl.body.SaslBody.{SaslBody}
 use Rattle.amqp_base.specs.declared.sasl.body.SaslBody.TheVariants.{Mechanisms, Init, Challenge, Response, Outcome}
 use Rattle.amqp_base.specs.declared.sasl.body.SaslCode.{SaslCode}
@@ -195,17 +196,34 @@ client_mechanism = record {
 
 -- ---- the laws of the mechanism
 
-refusal_in : (stage : ClientStage) (x : ClientEnd) (code : SaslCode) (given sent : List SaslBody) → turn_in stage ≡ Refuse code → client_causes x (refused_with code) given sent
-refusal_in stage x code given sent h = ?
+-- it refuses
+abbrev Refuses : Turn → Type 0
+Refuses Send = ⊥
+Refuses Receive = ⊥
+Refuses (Refuse code) = ⊤
+Refuses Pass = ⊥
+
+never_refuses : (stage : ClientStage) → Refuses (turn_in stage) → ⊥
+never_refuses AwaitsMechanisms h = h
+never_refuses OwesInit h = h
+never_refuses AwaitsChallenge h = h
+never_refuses (OwesResponse text) h = h
+never_refuses AwaitsOutcome h = h
+never_refuses Passed h = h
 
 pub client_refusal : (x : ClientEnd) (code : SaslCode) (given sent : List SaslBody) → client_turn x ≡ Refuse code → client_holds x given sent → client_causes x (refused_with code) given sent
-client_refusal x code given sent h held = refusal_in x.stage x code given sent h
+client_refusal x code given sent h held = absurd (never_refuses x.stage (subst Refuses (sym h) tt))
 
 pub client_same_self : (x : ClientEnd) → ClientSame x x
-client_same_self x = ?
+client_same_self x = record { user = refl; password = refl; nonce = refl; hostname = refl }
 
 pub client_same_then : (x y z : ClientEnd) → ClientSame x y → ClientSame y z → ClientSame x z
-client_same_then x y z a b = ?
+client_same_then x y z a b = record {
+  user = a.user ∙ b.user;
+  password = a.password ∙ b.password;
+  nonce = a.nonce ∙ b.nonce;
+  hostname = a.hostname ∙ b.hostname;
+}
 
 -- ---- the gate
 

@@ -2,7 +2,6 @@
 ghost use Rattle.std.specs.Prelude.{◌≡◌, ◌^◌, ◌↔◌, ℕ, List, Option, Some, Ok, Contains, IsTrue, IfOk, IfErr, OnOk};
 ghost use Rattle.std.specs.Borrow.{Lends, sem};
 ghost use Rattle.amqp_base.specs.declared.sasl.body.SaslBody.TheVariants.{Mechanisms, Challenge, Outcome};
-ghost use Rattle.sasl_gate.specs.contracts.gate.client.ClientGate.{the_row};
 ghost use Rattle.sasl_gate.specs.declared.gate.exchange.Turn.TheVariants.{Receive};
 ghost use Rattle.sasl_gate.specs.ClientGate.{username_of, password_of, nonce_of, ClientEnd, client_turn, client_left, client_owes, client_holds, client_causes, client_init, ClientSame, client_mechanism, client_refusal, client_same_self, client_same_then, client_start, IsAllowedProfile, IsStartRefusal, ClientPolled};
 ghost use Rattle.sasl_gate.specs.Negotiation.{IsPassed, Polled};
@@ -307,6 +306,8 @@ impl<L: Link> Model for ClientGate<L> {
 }
 
 impl<L: Link> ClientGate<L> {
+    ghost use Rattle.sasl_gate.specs.contracts.gate.client.ClientGate.{the_row};
+
     /// A gate that begins: its SASL header is queued (part 5, section 5.3.2). `TextNotAllowed` comes exactly where user
     /// or password is outside the profile, and the other error is want of memory; each hands the codec back as it was.
     pub fn new(
