@@ -8,6 +8,7 @@ pub mod Parts
 pub mod Profile
 pub mod Refusals
 pub mod ScramBodies
+pub mod ServerGate
 pub mod States
 pub mod Steps
 pub mod Texts

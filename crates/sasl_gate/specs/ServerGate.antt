@@ -1,5 +1,266 @@
--- NOTE TO THE HELPER IN /work/exch: the listener's end (server.rt, ServerGate.antt) is written by another helper in
--- /work/serv from now on. Delete this file, finish the client's end alone (exchange, gate, poll_client, its laws), add
--- `ClientExchange::new(profile, hostname) -> Result<Self, NegotiationError>` (TextNotAllowed exactly outside the profile,
--- result = the exchange of client_start; ClientGate::new stands on it), commit, and report.
-the_listeners_end_is_written_in_work_serv_read_the_comment_above
+-- The listener's end of a SASL negotiation with SCRAM-SHA-256.
+use Rattle.std.specs.Prelude.{◌≡◌, ◌≢◌, ◌++◌, ◌⊎◌, ℕ, Bool, true, false, List, [], ◌∷◌, Option, Some, None, Result, Ok, ⊤}
+use Rattle.std.proofs.Common.{refl, sym, subst, ◌∙◌}
+use Rattle.amqp_base.specs.declared.sasl.body.SaslBody.{SaslBody}
+use Rattle.amqp_base.specs.declared.sasl.body.SaslBody.TheVariants.{Mechanisms, Init, Challenge, Response, Outcome}
+use Rattle.amqp_base.specs.declared.sasl.body.SaslCode.{SaslCode}
+use Rattle.amqp_base.specs.declared.sasl.body.SaslCode.TheVariants as sasl
+use Rattle.amqp_wire.specs.declared.link.Link.{Ghosts}
+use Rattle.amqp_wire.specs.Codec.{Codec}
+use Rattle.amqp_wire.specs.Events.{LinkEvent, read_of, wrote_of}
+use Rattle.sha2.specs.Sha256.{sha256}
+use Rattle.sasl_gate.specs.declared.gate.error.NegotiationError.{NegotiationError}
+use Rattle.sasl_gate.specs.declared.gate.error.NegotiationError.TheVariants.{Memory, ProtocolHeaderMismatch, NotImplemented, SaslError, ScramError, Io, DecodeError, IllegalState, FramingError}
+use Rattle.sasl_gate.specs.declared.gate.exchange.Exchange.{Ghosts as Mechanism}
+use Rattle.sasl_gate.specs.declared.gate.exchange.Turn.{Turn}
+use Rattle.sasl_gate.specs.declared.gate.exchange.Turn.TheVariants.{Send, Receive, Refuse, Pass}
+use Rattle.sasl_gate.specs.declared.gate.negotiation.GatePoll.{GatePoll}
+use Rattle.sasl_gate.specs.declared.gate.negotiation.GatePoll.TheVariants as poll
+use Rattle.sasl_gate.specs.declared.gate.negotiation.Phase.TheVariants.{Header}
+use Rattle.sasl_gate.specs.declared.gate.server.ServerStage.{ServerStage}
+use Rattle.sasl_gate.specs.declared.gate.server.ServerStage.TheVariants.{OwesMechanisms, AwaitsInit, OwesChallenge, AwaitsResponse, OwesOutcome, Passed, OwesRefusal, Refused}
+use Rattle.sasl_gate.specs.declared.scram.error.ScramErrorKind.{ScramErrorKind}
+use Rattle.sasl_gate.specs.declared.scram.server.Challenge.{Challenge as ServerChallenge}
+use Rattle.sasl_gate.specs.declared.scram.server.ServerPhase.{ServerPhase}
+use Rattle.sasl_gate.specs.declared.scram.server.ServerPhase.TheVariants.{Unasked}
+use Rattle.sasl_gate.specs.declared.scram.stored.StoredPassword.{StoredPassword}
+use Rattle.sasl_gate.specs.Check.{ServerAnswers, ServerCheck}
+use Rattle.sasl_gate.specs.Exchange.{refused_with}
+use Rattle.sasl_gate.specs.Frames.{Heard, said, sasl_header}
+use Rattle.sasl_gate.specs.Negotiation.{Negotiating, Has, Polled}
+use Rattle.sasl_gate.specs.Refusals.{IsMemory, IsClientFirstRefusal, IsClientFinalRefusal}
+use Rattle.sasl_gate.specs.ScramBodies.{own_mechanism, mechanisms_body, init_body, challenge_body, response_body, outcome_body, IsOnlySasl}
+use Rattle.sasl_gate.specs.States.{ServerState, ForChallenged}
+
+-- a listener's end of an exchange: its SCRAM server, and how far it is
+pub record ServerEnd (P : Type 0) : Type 0 where
+  pub server : ServerState P
+  pub stage : ServerStage
+
+-- the SCRAM server of an end that is so far
+abbrev pub IsServerStage : ServerStage → ServerPhase → Type 0
+IsServerStage OwesMechanisms phase = phase ≡ Unasked
+IsServerStage AwaitsInit phase = phase ≡ Unasked
+IsServerStage (OwesChallenge text) phase = ForChallenged phase (λ _. Unit {0})
+IsServerStage AwaitsResponse phase = ForChallenged phase (λ _. Unit {0})
+IsServerStage (OwesOutcome text) phase = Unit {0}
+IsServerStage Passed phase = Unit {0}
+IsServerStage (OwesRefusal code) phase = Unit {0}
+IsServerStage (Refused code) phase = Unit {0}
+
+abbrev pub turn_in : ServerStage → Turn
+turn_in OwesMechanisms = Send
+turn_in AwaitsInit = Receive
+turn_in (OwesChallenge text) = Send
+turn_in AwaitsResponse = Receive
+turn_in (OwesOutcome text) = Send
+turn_in Passed = Pass
+turn_in (OwesRefusal code) = Send
+turn_in (Refused code) = Refuse code
+
+abbrev pub server_turn : {P : Type 0} → ServerEnd P → Turn
+server_turn x = turn_in x.stage
+
+abbrev pub left_in : ServerStage → ℕ
+left_in OwesMechanisms = 6
+left_in AwaitsInit = 5
+left_in (OwesChallenge text) = 4
+left_in AwaitsResponse = 3
+left_in (OwesOutcome text) = 2
+left_in Passed = 0
+left_in (OwesRefusal code) = 1
+left_in (Refused code) = 0
+
+abbrev pub server_left : {P : Type 0} → ServerEnd P → ℕ
+server_left x = left_in x.stage
+
+-- the list of mechanisms of a listener
+abbrev pub own_mechanisms : SaslBody
+own_mechanisms = mechanisms_body (own_mechanism ∷ [])
+
+abbrev pub owes_in : ServerStage → SaslBody → Type 0
+owes_in OwesMechanisms body = body ≡ own_mechanisms
+owes_in AwaitsInit body = ⊥
+owes_in (OwesChallenge text) body = body ≡ challenge_body text
+owes_in AwaitsResponse body = ⊥
+owes_in (OwesOutcome text) body = body ≡ outcome_body sasl.Ok (Some text)
+owes_in Passed body = ⊥
+owes_in (OwesRefusal code) body = body ≡ outcome_body code None
+owes_in (Refused code) body = ⊥
+
+-- the body that an end owes
+abbrev pub server_owes : {P : Type 0} → ServerEnd P → SaslBody → Type 0
+server_owes x body = owes_in x.stage body
+
+-- an end that read an init which it can answer, has this answer, and sent this
+pub record HasChallenge (stored : List ℕ → Option StoredPassword) (own : List ℕ) (c : ServerChallenge) (given sent now : List SaslBody) : Type 0 where
+  pub hostname : Option (List ℕ)
+  pub keys : StoredPassword
+  pub given_is : given ≡ init_body own_mechanism (Some c.client_first) hostname ∷ []
+  pub answers : ServerAnswers stored own c.client_first c.user c.nonce c.server_first keys
+  pub sent_is : sent ≡ now
+
+-- an end whose check holds, with this server final
+pub record HasProof (stored : List ℕ → Option StoredPassword) (own server_final : List ℕ) (given sent : List SaslBody) (last : List SaslBody) : Type 0 where
+  pub hostname : Option (List ℕ)
+  pub user : List ℕ
+  pub client_first : List ℕ
+  pub server_first : List ℕ
+  pub client_final : List ℕ
+  pub given_is : given ≡ init_body own_mechanism (Some client_first) hostname ∷ response_body client_final ∷ []
+  pub sent_is : sent ≡ own_mechanisms ∷ challenge_body server_first ∷ last
+  pub check : ServerCheck sha256 64 32 stored own user client_first server_first client_final server_final
+
+-- whether a body is one of those that a client sends
+abbrev pub is_of_client : SaslBody → Bool
+is_of_client (Mechanisms m) = false
+is_of_client (Init i) = true
+is_of_client (Challenge c) = false
+is_of_client (Response r) = true
+is_of_client (Outcome o) = false
+
+-- whether a body of a client is the next one for a listener that was given those before: init, response
+abbrev pub is_next : List SaslBody → SaslBody → Bool
+is_next [] (Init i) = true
+is_next (a ∷ []) (Response r) = true
+is_next before body = false
+
+-- why a listener refuses with a code, by what it was given
+pub data IsRefusalCause (stored : List ℕ → Option StoredPassword) (own : List ℕ) (code : SaslCode) (given : List SaslBody) : Type 0 where
+  by_client_first : (text : List ℕ) (hostname : Option (List ℕ)) (kind : ScramErrorKind)
+      → given ≡ init_body own_mechanism (Some text) hostname ∷ [] → ¬ IsMemory kind → IsClientFirstRefusal stored text kind
+      → code ≡ sasl.Auth → IsRefusalCause stored own code given
+  by_client_final : (client_first user whole_nonce server_first text : List ℕ) (hostname : Option (List ℕ)) (keys : StoredPassword)
+      (answers : ServerAnswers stored own client_first user whole_nonce server_first keys) (kind : ScramErrorKind)
+      → given ≡ init_body own_mechanism (Some client_first) hostname ∷ response_body text ∷ [] → ¬ IsMemory kind
+      → IsClientFinalRefusal sha256 64 32 keys.stored_key answers.header answers.bare server_first whole_nonce text kind
+      → code ≡ sasl.Auth → IsRefusalCause stored own code given
+  by_mechanism : (name : List ℕ) (response hostname : Option (List ℕ))
+      → given ≡ init_body name response hostname ∷ [] → name ≢ own_mechanism → code ≡ sasl.Auth → IsRefusalCause stored own code given
+  by_no_response : (name : List ℕ) (hostname : Option (List ℕ))
+      → given ≡ init_body name None hostname ∷ [] → code ≡ sasl.Auth → IsRefusalCause stored own code given
+  by_order : (before : List SaslBody) (body : SaslBody) → given ≡ before ++ body ∷ [] → is_of_client body ≡ true → is_next before body ≡ false
+      → code ≡ sasl.Auth → IsRefusalCause stored own code given
+  by_other_body : (before : List SaslBody) (body : SaslBody) → given ≡ before ++ body ∷ [] → is_of_client body ≡ false
+      → code ≡ sasl.Sys → IsRefusalCause stored own code given
+
+-- an end that told the other this outcome
+pub record HasRefused (stored : List ℕ → Option StoredPassword) (own : List ℕ) (code : SaslCode) (given sent : List SaslBody) : Type 0 where
+  pub before : List SaslBody
+  pub told : sent ≡ before ++ outcome_body code None ∷ []
+  pub cause : IsRefusalCause stored own code given
+
+abbrev pub holds_in : {P : Type 0} → (P → List ℕ → Option StoredPassword) → ServerStage → ServerState P → List SaslBody → List SaslBody → Type 0
+holds_in stored OwesMechanisms s given sent = (given ≡ []) × (sent ≡ [])
+holds_in stored AwaitsInit s given sent = (given ≡ []) × (sent ≡ own_mechanisms ∷ [])
+holds_in stored (OwesChallenge text) s given sent =
+    ForChallenged s.phase (λ c. (c.server_first ≡ text) × HasChallenge (stored s.provider) s.nonce c given sent (own_mechanisms ∷ []))
+holds_in stored AwaitsResponse s given sent =
+    ForChallenged s.phase (λ c. HasChallenge (stored s.provider) s.nonce c given sent (own_mechanisms ∷ challenge_body c.server_first ∷ []))
+holds_in stored (OwesOutcome text) s given sent = HasProof (stored s.provider) s.nonce text given sent []
+holds_in stored Passed s given sent = (text : List ℕ) × HasProof (stored s.provider) s.nonce text given sent (outcome_body sasl.Ok (Some text) ∷ [])
+holds_in stored (OwesRefusal code) s given sent = IsRefusalCause (stored s.provider) s.nonce code given
+holds_in stored (Refused code) s given sent = HasRefused (stored s.provider) s.nonce code given sent
+
+-- the bodies that an end was given and those that it sent
+abbrev pub server_holds : {P : Type 0} → (P → List ℕ → Option StoredPassword) → ServerEnd P → List SaslBody → List SaslBody → Type 0
+server_holds stored x given sent = holds_in stored x.stage x.server given sent
+
+-- why a listener fails, by what it was given and what it sent
+abbrev pub server_causes : {P : Type 0} → (P → List ℕ → Option StoredPassword) → ServerEnd P → NegotiationError → List SaslBody → List SaslBody → Type 0
+server_causes stored x (Memory a) given sent = ⊥
+server_causes stored x (ProtocolHeaderMismatch h) given sent = ⊥
+server_causes stored x NotImplemented given sent = ⊥
+server_causes stored x (SaslError code None) given sent = HasRefused (stored x.server.provider) x.server.nonce code given sent
+server_causes stored x (SaslError code (Some payload)) given sent = ⊥
+server_causes stored x (ScramError kind) given sent = ⊥
+server_causes stored x (Io kind) given sent = ⊥
+server_causes stored x DecodeError given sent = ⊥
+server_causes stored x IllegalState given sent = ⊥
+server_causes stored x FramingError given sent = ⊥
+
+-- two ends have the same users and the same nonce
+pub record ServerSame {P : Type 0} (x y : ServerEnd P) : Type 0 where
+  pub provider : x.server.provider ≡ y.server.provider
+  pub nonce : x.server.nonce ≡ y.server.nonce
+
+-- the listener's end as a mechanism, where `stored` is what a provider has
+abbrev pub server_mechanism : {P : Type 0} → (P → List ℕ → Option StoredPassword) → Mechanism (ServerEnd P)
+server_mechanism stored = record {
+  holds = server_holds stored;
+  causes = server_causes stored;
+  owes = server_owes;
+  turn_of = server_turn;
+  left = server_left;
+  same = ServerSame;
+}
+
+-- ---- the laws of the mechanism
+
+-- it refuses with this code
+abbrev RefusesWith : SaslCode → Turn → Type 0
+RefusesWith code Send = ⊥
+RefusesWith code Receive = ⊥
+RefusesWith code (Refuse other) = other ≡ code
+RefusesWith code Pass = ⊥
+
+refusal_in : {P : Type 0} (stored : P → List ℕ → Option StoredPassword) (stage : ServerStage) (s : ServerState P) (code : SaslCode) (given sent : List SaslBody)
+  → RefusesWith code (turn_in stage) → holds_in stored stage s given sent → HasRefused (stored s.provider) s.nonce code given sent
+refusal_in stored OwesMechanisms s code given sent h held = absurd h
+refusal_in stored AwaitsInit s code given sent h held = absurd h
+refusal_in stored (OwesChallenge text) s code given sent h held = absurd h
+refusal_in stored AwaitsResponse s code given sent h held = absurd h
+refusal_in stored (OwesOutcome text) s code given sent h held = absurd h
+refusal_in stored Passed s code given sent h held = absurd h
+refusal_in stored (OwesRefusal other) s code given sent h held = absurd h
+refusal_in stored (Refused other) s code given sent h held = subst (λ (c : SaslCode). HasRefused (stored s.provider) s.nonce c given sent) h held
+
+pub server_refusal : {P : Type 0} (stored : P → List ℕ → Option StoredPassword) (x : ServerEnd P) (code : SaslCode) (given sent : List SaslBody)
+  → server_turn x ≡ Refuse code → server_holds stored x given sent → server_causes stored x (refused_with code) given sent
+server_refusal stored x code given sent h held =
+    refusal_in stored x.stage x.server code given sent (subst (RefusesWith code) (sym h) refl) held
+
+pub server_same_self : {P : Type 0} (x : ServerEnd P) → ServerSame x x
+server_same_self x = record { provider = refl; nonce = refl }
+
+pub server_same_then : {P : Type 0} (x y z : ServerEnd P) → ServerSame x y → ServerSame y z → ServerSame x z
+server_same_then x y z a b = record { provider = a.provider ∙ b.provider; nonce = a.nonce ∙ b.nonce }
+
+-- ---- the gate
+
+-- a gate that begins, over a codec: its header is queued
+abbrev pub server_start : {L P : Type 0} → Codec L → P → List ℕ → Negotiating L (ServerEnd P)
+server_start codec provider nonce = record {
+  codec = record codec { output = codec.output ++ sasl_header };
+  phase = Header;
+  exchange = record { server = record { provider = provider; nonce = nonce; phase = Unasked }; stage = OwesMechanisms };
+}
+
+-- what was read and written says that the client knows the password of a user: the exchange is whole, and its check
+-- holds. `stored` is what the provider has
+pub record ServerPassed (stored : List ℕ → Option StoredPassword) (nonce wrote read : List ℕ) : Type 0 where
+  pub user : List ℕ
+  pub hostname : Option (List ℕ)
+  pub client_first : List ℕ
+  pub server_first : List ℕ
+  pub client_final : List ℕ
+  pub server_final : List ℕ
+  pub more : List ℕ
+  pub rest : List ℕ
+  pub wrote_is : wrote ≡ said (own_mechanisms ∷ challenge_body server_first ∷ outcome_body sasl.Ok (Some server_final) ∷ []) ++ more
+  pub read_is : Heard read (init_body own_mechanism (Some client_first) hostname ∷ response_body client_final ∷ []) rest
+  pub check : ServerCheck sha256 64 32 stored nonce user client_first server_first client_final server_final
+
+-- nothing but SASL was written, or the exchange is whole
+abbrev pub ServerGated : (List ℕ → Option StoredPassword) → List ℕ → List ℕ → List ℕ → Type 0
+ServerGated stored nonce wrote read = IsOnlySasl wrote ⊎ ServerPassed stored nonce wrote read
+
+-- that of an end
+abbrev pub HasServerPassed : {P : Type 0} → (P → List ℕ → Option StoredPassword) → ServerEnd P → List LinkEvent → Type 0
+HasServerPassed stored x events = ServerPassed (stored x.server.provider) x.server.nonce (wrote_of events) (read_of events)
+
+-- a poll of a gate, and what it says of the whole history: only SASL was written, and where it passed, the check holds
+pub record ServerPolled {L P : Type 0} (link : Ghosts L) (stored : P → List ℕ → Option StoredPassword) (old : Negotiating L (ServerEnd P)) (left : ℕ) (result : Result GatePoll NegotiationError) (new : Negotiating L (ServerEnd P)) (left' : ℕ) : Type 0 where
+  pub polled : Polled link (server_mechanism stored) old left result new left'
+  pub only_sasl : (before : List LinkEvent) → Has (server_mechanism stored) old before → IsOnlySasl (wrote_of (polled.events ++ before))
+  pub passed : result ≡ Ok poll.Passed → (before : List LinkEvent) → Has (server_mechanism stored) old before → HasServerPassed stored old.exchange (polled.events ++ before)

@@ -6,4 +6,5 @@ pub mod client;
 pub mod error;
 pub mod exchange;
 pub mod negotiation;
+pub mod server;
 
