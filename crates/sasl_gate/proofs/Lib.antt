@@ -6,3 +6,6 @@ pub mod Escapes
 pub mod Extensions
 pub mod Readers
 pub mod Listener
+pub mod Gates
+pub mod ClientGates
+pub mod ServerGates

@@ -1,5 +1,6 @@
 -- The client's end of a SASL negotiation with SCRAM-SHA-256.
-use Rattle.std.specs.Prelude.{◌≡◌, ◌≢◌, ◌++◌, ◌⊎◌, ℕ, Bool, true, false, List, [], ◌∷◌, Option, Some, None, Result, Ok, Contains, ⊤}
+use Rattle.std.specs.Prelude.{◌≡◌, ◌≢◌, ◌++◌, ◌⊎◌, ℕ, Bool, true, false, List, [], ◌∷◌, Option, Some, None, Result, Ok, Err, Contains, ⊤}
+use Rattle.std.specs.declared.alloc.AllocError.{AllocError}
 use Rattle.std.proofs.Common.{refl, sym, subst, ◌∙◌}
 use Rattle.amqp_base.specs.declared.sasl.body.SaslBody.{SaslBody}
 use Rattle.amqp_base.specs.declared.sasl.body.SaslBody.TheVariants.{Mechanisms, Init, Challenge, Response, Outcome}
@@ -18,6 +19,8 @@ use Rattle.sasl_gate.specs.declared.gate.error.NegotiationError.TheVariants.{Mem
 use Rattle.sasl_gate.specs.declared.gate.exchange.Exchange.{Ghosts as Mechanism}
 use Rattle.sasl_gate.specs.declared.gate.exchange.Turn.{Turn}
 use Rattle.sasl_gate.specs.declared.gate.exchange.Turn.TheVariants.{Send, Receive, Refuse, Pass}
+use Rattle.sasl_gate.specs.declared.gate.exchange.Verdict.{Verdict}
+use Rattle.sasl_gate.specs.declared.gate.exchange.Verdict.TheVariants.{Taken, Refused}
 use Rattle.sasl_gate.specs.declared.gate.negotiation.GatePoll.{GatePoll}
 use Rattle.sasl_gate.specs.declared.gate.negotiation.GatePoll.TheVariants as poll
 use Rattle.sasl_gate.specs.declared.gate.negotiation.Phase.TheVariants.{Header}
@@ -193,6 +196,12 @@ client_mechanism = record {
   left = client_left;
   same = ClientSame;
 }
+
+-- what comes of a text that is refused: want of memory is no refusal
+abbrev pub IsTextAnswer : ScramErrorKind → Result Verdict AllocError → Type 0
+IsTextAnswer kind (Ok Taken) = ⊥
+IsTextAnswer kind (Ok (Refused e)) = (e ≡ ScramError kind) × (¬ IsMemory kind)
+IsTextAnswer kind (Err e) = IsMemory kind
 
 -- ---- the laws of the mechanism
 

@@ -1,5 +1,6 @@
 -- The listener's end of a SASL negotiation with SCRAM-SHA-256.
-use Rattle.std.specs.Prelude.{◌≡◌, ◌≢◌, ◌++◌, ◌⊎◌, ℕ, Bool, true, false, List, [], ◌∷◌, Option, Some, None, Result, Ok, ⊤}
+use Rattle.std.specs.Prelude.{◌≡◌, ◌≢◌, ◌++◌, ◌⊎◌, ℕ, Bool, true, false, List, [], ◌∷◌, Option, Some, None, Result, Ok, Err}
+use Rattle.std.specs.declared.alloc.AllocError.{AllocError}
 use Rattle.std.proofs.Common.{refl, sym, subst, ◌∙◌}
 use Rattle.amqp_base.specs.declared.sasl.body.SaslBody.{SaslBody}
 use Rattle.amqp_base.specs.declared.sasl.body.SaslBody.TheVariants.{Mechanisms, Init, Challenge, Response, Outcome}
@@ -14,6 +15,8 @@ use Rattle.sasl_gate.specs.declared.gate.error.NegotiationError.TheVariants.{Mem
 use Rattle.sasl_gate.specs.declared.gate.exchange.Exchange.{Ghosts as Mechanism}
 use Rattle.sasl_gate.specs.declared.gate.exchange.Turn.{Turn}
 use Rattle.sasl_gate.specs.declared.gate.exchange.Turn.TheVariants.{Send, Receive, Refuse, Pass}
+use Rattle.sasl_gate.specs.declared.gate.exchange.Verdict.{Verdict}
+use Rattle.sasl_gate.specs.declared.gate.exchange.Verdict.TheVariants.{Taken as VerdictTaken, Refused as VerdictRefused}
 use Rattle.sasl_gate.specs.declared.gate.negotiation.GatePoll.{GatePoll}
 use Rattle.sasl_gate.specs.declared.gate.negotiation.GatePoll.TheVariants as poll
 use Rattle.sasl_gate.specs.declared.gate.negotiation.Phase.TheVariants.{Header}
@@ -194,6 +197,12 @@ server_mechanism stored = record {
   left = server_left;
   same = ServerSame;
 }
+
+-- what comes of a text that is refused: want of memory is no refusal
+abbrev pub IsTextAnswer : {P : Type 0} → ScramErrorKind → ServerEnd P → Result Verdict AllocError → ServerEnd P → Type 0
+IsTextAnswer kind old (Ok VerdictTaken) new = (new ≡ record old { stage = OwesRefusal sasl.Auth }) × (¬ IsMemory kind)
+IsTextAnswer kind old (Ok (VerdictRefused e)) new = ⊥
+IsTextAnswer kind old (Err e) new = new ≡ old
 
 -- ---- the laws of the mechanism
 

@@ -3,7 +3,7 @@ ghost use Rattle.std.specs.Prelude.{◌≡◌, ◌^◌, ◌↔◌, ℕ, List, Op
 ghost use Rattle.std.specs.Borrow.{Lends, sem};
 ghost use Rattle.amqp_base.specs.declared.sasl.body.SaslBody.TheVariants.{Mechanisms, Challenge, Outcome};
 ghost use Rattle.sasl_gate.specs.declared.gate.exchange.Turn.TheVariants.{Receive};
-ghost use Rattle.sasl_gate.specs.ClientGate.{username_of, password_of, nonce_of, ClientEnd, client_turn, client_left, client_owes, client_holds, client_causes, client_init, ClientSame, client_mechanism, client_refusal, client_same_self, client_same_then, client_start, IsAllowedProfile, IsStartRefusal, ClientPolled};
+ghost use Rattle.sasl_gate.specs.ClientGate.{username_of, password_of, nonce_of, ClientEnd, client_turn, client_left, client_owes, client_holds, client_causes, client_init, ClientSame, client_mechanism, client_refusal, client_same_self, client_same_then, client_start, IsAllowedProfile, IsStartRefusal, IsTextAnswer, ClientPolled};
 ghost use Rattle.sasl_gate.specs.Negotiation.{IsPassed, Polled};
 ghost use Rattle.sasl_gate.specs.Profile.{IsNonce};
 ghost use Rattle.sasl_gate.specs.ScramBodies.{own_mechanism, outcome_body, Received};
@@ -11,7 +11,7 @@ ghost use Rattle.sasl_gate.specs.ScramBodies.{own_mechanism, outcome_body, Recei
 use crate::gate::error::NegotiationError;
 use crate::gate::exchange::{Exchange, Turn, Verdict};
 use crate::gate::negotiation::{GatePoll, Negotiation};
-use crate::scram::client::ScramClient;
+use crate::scram::client::{ClientPhase, ScramClient};
 use crate::scram::error::ScramErrorKind;
 use amqp_base::{
     SaslBody, SaslChallenge, SaslCode, SaslInit, SaslMechanisms, SaslOutcome, SaslResponse,
@@ -139,6 +139,38 @@ fn clone_hostname(alloc: Global, hostname: &Option<Text>) -> Result<Option<Text>
     }
 }
 
+fn is_ok(code: SaslCode) -> bool
+    ensures { IsTrue result ↔ (code ≡ SaslCode.Ok) }
+{
+    matches!(code, SaslCode::Ok)
+}
+
+// The SCRAM client of a profile.
+fn scram_client(profile: SaslProfile) -> Result<ScramClient<Sha256Fn>, ScramErrorKind>
+    requires { IsNonce (nonce_of profile) }
+    ensures ok { IfOk result (λ c. c ≡ record { user = username_of profile; password = password_of profile; nonce = nonce_of profile; phase = ClientPhase.Unanswered }) }
+    ensures allowed { OnOk result (IsAllowedProfile profile) }
+    ensures err { IfErr result (λ e. (e ≡ ScramErrorKind.TextNotAllowed) × (¬ IsAllowedProfile profile)) }
+{
+    match profile {
+        SaslProfile::ScramSha256 {
+            username,
+            password,
+            nonce,
+        } => ScramClient::new(username, password, nonce),
+    }
+}
+
+// What comes of a text that is refused.
+fn refused_text(kind: ScramErrorKind) -> Result<Verdict, AllocError>
+    ensures { IsTextAnswer kind result }
+{
+    match kind {
+        ScramErrorKind::Memory(error) => Err(error),
+        _ => Ok(Verdict::Refused(NegotiationError::ScramError(kind))),
+    }
+}
+
 impl ClientExchange {
     // The init.
     fn init(&self, alloc: Global) -> Result<SaslBody, AllocError>
@@ -189,8 +221,7 @@ impl ClientExchange {
                 self.stage = ClientStage::OwesResponse(text);
                 Ok(Verdict::Taken)
             }
-            Err(ScramErrorKind::Memory(error)) => Err(error),
-            Err(kind) => Ok(Verdict::Refused(NegotiationError::ScramError(kind))),
+            Err(kind) => refused_text(kind),
         }
     }
 
@@ -198,7 +229,7 @@ impl ClientExchange {
         requires { client_turn self.old ≡ Receive }
         ensures { Received client_mechanism self.old (Outcome outcome) (Ok result) self.new }
     {
-        if outcome.code != SaslCode::Ok {
+        if !is_ok(outcome.code) {
             return Verdict::Refused(NegotiationError::SaslError {
                 code: outcome.code,
                 additional_data: outcome.additional_data,
@@ -322,12 +353,7 @@ impl<L: Link> ClientGate<L> {
         ensures refused { IfErr result (λ e. IsStartRefusal (IsAllowedProfile profile) e.0) }
         ensures unchanged { IfErr result (λ e. e.1 ≡ codec) }
     {
-        let SaslProfile::ScramSha256 {
-            username,
-            password,
-            nonce,
-        } = profile;
-        let client = match ScramClient::new(username, password, nonce) {
+        let client = match scram_client(profile) {
             Ok(client) => client,
             Err(kind) => return Err((NegotiationError::ScramError(kind), codec)),
         };

@@ -3,7 +3,7 @@ ghost use Rattle.std.specs.Prelude.{◌≡◌, ◌≢◌, ◌⊎◌, ◌^◌, �
 ghost use Rattle.std.specs.Borrow.{Lends, sem};
 ghost use Rattle.amqp_base.specs.declared.sasl.body.SaslBody.TheVariants.{Init, Response};
 ghost use Rattle.sasl_gate.specs.declared.gate.exchange.Turn.TheVariants.{Receive};
-ghost use Rattle.sasl_gate.specs.ServerGate.{ServerEnd, server_turn, server_left, server_owes, server_holds, server_causes, ServerSame, server_mechanism, server_refusal, server_same_self, server_same_then, server_start, own_mechanisms, ServerPolled};
+ghost use Rattle.sasl_gate.specs.ServerGate.{ServerEnd, server_turn, server_left, server_owes, server_holds, server_causes, ServerSame, server_mechanism, server_refusal, server_same_self, server_same_then, server_start, own_mechanisms, IsTextAnswer, ServerPolled};
 ghost use Rattle.sasl_gate.specs.Negotiation.{IsPassed};
 ghost use Rattle.sasl_gate.specs.Profile.{IsNonce};
 ghost use Rattle.sasl_gate.specs.ScramBodies.{own_mechanism, init_body, Received};
@@ -100,6 +100,19 @@ impl<P: ScramCredentialProvider> ServerExchange<P> {
         self.stage = ServerStage::OwesRefusal(code);
     }
 
+    // A text is not taken, unless memory was wanting.
+    fn refuse_text(&mut self, kind: ScramErrorKind) -> Result<Verdict, AllocError>
+        ensures { IsTextAnswer kind self.old result self.new }
+    {
+        match kind {
+            ScramErrorKind::Memory(error) => Err(error),
+            _ => {
+                self.refuse(SaslCode::Auth);
+                Ok(Verdict::Taken)
+            }
+        }
+    }
+
     fn on_init(&mut self, alloc: Global, init: SaslInit) -> Result<Verdict, AllocError>
         requires { server_turn self.old ≡ Receive }
         ensures { Received (server_mechanism P.stored) self.old (Init init) result self.new }
@@ -130,11 +143,7 @@ impl<P: ScramCredentialProvider> ServerExchange<P> {
                 self.stage = ServerStage::OwesChallenge(challenge);
                 Ok(Verdict::Taken)
             }
-            Err(ScramErrorKind::Memory(error)) => Err(error),
-            Err(_) => {
-                self.refuse(SaslCode::Auth);
-                Ok(Verdict::Taken)
-            }
+            Err(kind) => self.refuse_text(kind),
         }
     }
 
@@ -158,11 +167,7 @@ impl<P: ScramCredentialProvider> ServerExchange<P> {
                 self.stage = ServerStage::OwesOutcome(text);
                 Ok(Verdict::Taken)
             }
-            Err(ScramErrorKind::Memory(error)) => Err(error),
-            Err(_) => {
-                self.refuse(SaslCode::Auth);
-                Ok(Verdict::Taken)
-            }
+            Err(kind) => self.refuse_text(kind),
         }
     }
 }
