@@ -236,16 +236,20 @@ client_same_then x y z a b = record {
 
 -- ---- the gate
 
+-- an end that has read and written nothing
+abbrev pub client_begun : SaslProfile → Option (List ℕ) → ClientEnd
+client_begun profile hostname = record {
+  client = record { user = username_of profile; password = password_of profile; nonce = nonce_of profile; phase = Unanswered };
+  stage = AwaitsMechanisms;
+  hostname = hostname;
+}
+
 -- a gate that begins, over a codec: its header is queued
 abbrev pub client_start : {L : Type 0} → Codec L → SaslProfile → Option (List ℕ) → Negotiating L ClientEnd
 client_start codec profile hostname = record {
   codec = record codec { output = codec.output ++ sasl_header };
   phase = Header;
-  exchange = record {
-    client = record { user = username_of profile; password = password_of profile; nonce = nonce_of profile; phase = Unanswered };
-    stage = AwaitsMechanisms;
-    hostname = hostname;
-  };
+  exchange = client_begun profile hostname;
 }
 
 -- user and password are in the profile

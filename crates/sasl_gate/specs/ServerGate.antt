@@ -237,12 +237,16 @@ server_same_then x y z a b = record { provider = a.provider ∙ b.provider; nonc
 
 -- ---- the gate
 
+-- an end that has read and written nothing
+abbrev pub server_begun : {P : Type 0} → P → List ℕ → ServerEnd P
+server_begun provider nonce = record { server = record { provider = provider; nonce = nonce; phase = Unasked }; stage = OwesMechanisms }
+
 -- a gate that begins, over a codec: its header is queued
 abbrev pub server_start : {L P : Type 0} → Codec L → P → List ℕ → Negotiating L (ServerEnd P)
 server_start codec provider nonce = record {
   codec = record codec { output = codec.output ++ sasl_header };
   phase = Header;
-  exchange = record { server = record { provider = provider; nonce = nonce; phase = Unasked }; stage = OwesMechanisms };
+  exchange = server_begun provider nonce;
 }
 
 -- what was read and written says that the client knows the password of a user: the exchange is whole, and its check

@@ -1,10 +1,10 @@
 //! Passwords checked over SASL: SCRAM (RFC 5802, RFC 7677), both ends, over any hash function.
 #![tactic(auto)]
 
-pub use gate::client::{ClientGate, SaslProfile, poll_client};
+pub use gate::client::{ClientExchange, ClientGate, SaslProfile, poll_client};
 pub use gate::error::NegotiationError;
 pub use gate::negotiation::{GatePoll, SASL_HEADER};
-pub use gate::server::{ServerGate, poll_server};
+pub use gate::server::{ServerExchange, ServerGate, poll_server};
 pub use scram::client::{ClientAnswer, ClientPhase, ScramClient};
 pub use scram::error::ScramErrorKind;
 pub use scram::provider::{NoUsers, OneUser, ScramCredentialProvider};

@@ -3,7 +3,7 @@ ghost use Rattle.std.specs.Prelude.{◌≡◌, ◌^◌, ◌↔◌, ℕ, List, Op
 ghost use Rattle.std.specs.Borrow.{Lends, sem};
 ghost use Rattle.amqp_base.specs.declared.sasl.body.SaslBody.TheVariants.{Mechanisms, Challenge, Outcome};
 ghost use Rattle.sasl_gate.specs.declared.gate.exchange.Turn.TheVariants.{Receive};
-ghost use Rattle.sasl_gate.specs.ClientGate.{username_of, password_of, nonce_of, ClientEnd, client_turn, client_left, client_owes, client_holds, client_causes, client_init, ClientSame, client_mechanism, client_refusal, client_same_self, client_same_then, client_start, IsAllowedProfile, IsStartRefusal, IsTextAnswer, ClientPolled};
+ghost use Rattle.sasl_gate.specs.ClientGate.{username_of, password_of, nonce_of, ClientEnd, client_turn, client_left, client_owes, client_holds, client_causes, client_init, ClientSame, client_mechanism, client_refusal, client_same_self, client_same_then, client_begun, client_start, IsAllowedProfile, IsStartRefusal, IsTextAnswer, ClientPolled};
 ghost use Rattle.sasl_gate.specs.Negotiation.{IsPassed, Polled};
 ghost use Rattle.sasl_gate.specs.Profile.{IsNonce};
 ghost use Rattle.sasl_gate.specs.ScramBodies.{own_mechanism, outcome_body, Received};
@@ -172,6 +172,24 @@ fn refused_text(kind: ScramErrorKind) -> Result<Verdict, AllocError>
 }
 
 impl ClientExchange {
+    /// An end that has read and written nothing (part 5, section 5.3.2). `TextNotAllowed` comes exactly where user or
+    /// password is outside the profile; takes no memory.
+    pub fn new(profile: SaslProfile, hostname: Option<Text>) -> Result<Self, ScramErrorKind>
+        requires { IsNonce (nonce_of profile) }
+        ensures ok { IfOk result (λ x. x ≡ client_begun profile hostname) }
+        ensures allowed { OnOk result (IsAllowedProfile profile) }
+        ensures err { IfErr result (λ e. (e ≡ ScramErrorKind.TextNotAllowed) × (¬ IsAllowedProfile profile)) }
+    {
+        match scram_client(profile) {
+            Ok(client) => Ok(ClientExchange {
+                client,
+                stage: ClientStage::AwaitsMechanisms,
+                hostname,
+            }),
+            Err(kind) => Err(kind),
+        }
+    }
+
     // The init.
     fn init(&self, alloc: Global) -> Result<SaslBody, AllocError>
         ensures { IfOk result (λ body. body ≡ client_init self.now) }
@@ -353,14 +371,9 @@ impl<L: Link> ClientGate<L> {
         ensures refused { IfErr result (λ e. IsStartRefusal (IsAllowedProfile profile) e.0) }
         ensures unchanged { IfErr result (λ e. e.1 ≡ codec) }
     {
-        let client = match scram_client(profile) {
-            Ok(client) => client,
+        let exchange = match ClientExchange::new(profile, hostname) {
+            Ok(exchange) => exchange,
             Err(kind) => return Err((NegotiationError::ScramError(kind), codec)),
-        };
-        let exchange = ClientExchange {
-            client,
-            stage: ClientStage::AwaitsMechanisms,
-            hostname,
         };
         match Negotiation::start(alloc, codec, exchange) {
             Ok(negotiation) => Ok(ClientGate { negotiation }),

@@ -116,7 +116,6 @@ impl<L: Link, X: Exchange> Negotiation<L, X> {
     /// Begins the negotiation of an exchange: the SASL header is queued. The one error is want of
     /// memory, which changes nothing.
     pub fn begin(&mut self, exchange: X) -> Result<(), AllocError>
-        requires { self.old.phase ≡ Header }
         ensures ok { OnOk result (self.new ≡ record self.old { codec = record self.old.codec { output = self.old.codec.output ++ sasl_header }; exchange = exchange }) }
         ensures err { OnErr result (self.new ≡ self.old) }
     {

@@ -3,7 +3,7 @@ ghost use Rattle.std.specs.Prelude.{◌≡◌, ◌≢◌, ◌⊎◌, ◌^◌, �
 ghost use Rattle.std.specs.Borrow.{Lends, sem};
 ghost use Rattle.amqp_base.specs.declared.sasl.body.SaslBody.TheVariants.{Init, Response};
 ghost use Rattle.sasl_gate.specs.declared.gate.exchange.Turn.TheVariants.{Receive};
-ghost use Rattle.sasl_gate.specs.ServerGate.{ServerEnd, server_turn, server_left, server_owes, server_holds, server_causes, ServerSame, server_mechanism, server_refusal, server_same_self, server_same_then, server_start, own_mechanisms, IsTextAnswer, ServerPolled};
+ghost use Rattle.sasl_gate.specs.ServerGate.{ServerEnd, server_turn, server_left, server_owes, server_holds, server_causes, ServerSame, server_mechanism, server_refusal, server_same_self, server_same_then, server_begun, server_start, own_mechanisms, IsTextAnswer, ServerPolled};
 ghost use Rattle.sasl_gate.specs.Negotiation.{IsPassed};
 ghost use Rattle.sasl_gate.specs.Profile.{IsNonce};
 ghost use Rattle.sasl_gate.specs.ScramBodies.{own_mechanism, init_body, Received};
@@ -93,6 +93,18 @@ fn own_client_first(init: SaslInit) -> Option<Binary>
 }
 
 impl<P: ScramCredentialProvider> ServerExchange<P> {
+    /// An end that has read and written nothing, with the users of `provider` (part 5, section 5.3.2). `nonce` is to be
+    /// new for each exchange (RFC 5802, section 5.1); takes no memory.
+    pub fn new(provider: P, nonce: Text) -> Self
+        requires { IsNonce nonce }
+        ensures { result ≡ server_begun provider nonce }
+    {
+        ServerExchange {
+            server: ScramServer::new(provider, nonce),
+            stage: ServerStage::OwesMechanisms,
+        }
+    }
+
     // A body is not taken: the outcome with this code is owed.
     fn refuse(&mut self, code: SaslCode)
         ensures { self.new ≡ record self.old { stage = ServerStage.OwesRefusal code } }
@@ -287,11 +299,7 @@ impl<L: Link, P: ScramCredentialProvider> ServerGate<L, P> {
         ensures ok { IfOk result (λ g. g ≡ server_start codec provider nonce) }
         ensures err { IfErr result (λ e. e.1 ≡ codec) }
     {
-        let exchange = ServerExchange {
-            server: ScramServer::new(provider, nonce),
-            stage: ServerStage::OwesMechanisms,
-        };
-        match Negotiation::start(alloc, codec, exchange) {
+        match Negotiation::start(alloc, codec, ServerExchange::new(provider, nonce)) {
             Ok(negotiation) => Ok(ServerGate { negotiation }),
             Err(error) => Err(error),
         }

@@ -1,0 +1,4 @@
+pub mod Histories
+pub mod Openings
+pub mod Ends
+pub mod Laws

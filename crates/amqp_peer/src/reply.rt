@@ -1,0 +1,73 @@
+//! What an end answers.
+ghost use Rattle.std.specs.Prelude.{◌≡◌, [], ◌∷◌, ◌++◌, length, OnOk, OnErr};
+
+use amqp_connection::OpenError;
+use std::alloc::{AllocError, Global};
+use std::marker::Model;
+
+/// The answer to a call.
+#[derive(Debug, Drop)]
+pub enum Reply {
+    /// Not yet; another answer may follow in a later step.
+    Pending,
+    /// An `open` or `accept` failed.
+    OpenError(OpenError),
+}
+
+/// The answer to the call of a name.
+#[derive(Debug, Drop)]
+pub struct NamedReply {
+    /// The call's name: the position of its step.
+    pub name: u64,
+    /// The answer.
+    pub reply: Reply,
+}
+
+/// Answers in the order in which they came, seen as the list of them.
+#[derive(Debug, Drop)]
+pub struct ReplyList {
+    replies: Vec<NamedReply>,
+}
+
+impl Model for ReplyList {
+    ghost use Rattle.std.specs.Prelude.{List};
+    ghost use Rattle.amqp_peer.specs.declared.reply.NamedReply.{NamedReply};
+
+    ghost Value = { List NamedReply };
+
+    ghost view = { λ r. r.replies.items };
+}
+
+impl ReplyList {
+    /// No answers; takes no memory.
+    pub fn new(alloc: Global) -> Self
+        ensures { result ≡ [] }
+    {
+        ReplyList {
+            replies: Vec::new(alloc),
+        }
+    }
+
+    /// The answers, lent.
+    pub fn as_slice(&self) -> &[NamedReply]
+        ensures { result.now ≡ self.now }
+    {
+        self.replies.as_slice()
+    }
+
+    /// The number of answers.
+    pub fn len(&self) -> usize
+        ensures { result ≡ length self.now }
+    {
+        self.replies.len()
+    }
+
+    /// Adds an answer at the end; want of memory leaves the list as it was.
+    pub fn push(&mut self, reply: NamedReply) -> Result<(), AllocError>
+        ensures ok { OnOk result (self.new ≡ self.old ++ reply ∷ []) }
+        ensures err { OnErr result (self.new ≡ self.old) }
+    {
+        self.replies.push(reply)?;
+        Ok(())
+    }
+}
