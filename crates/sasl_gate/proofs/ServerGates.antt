@@ -185,11 +185,7 @@ Passes Receive = ⊥
 Passes (Refuse code) = ⊥
 Passes Pass = ⊤
 
-module _ {L P : Type 0} (stored : P → List ℕ → Option StoredPassword) where
-  -- only SASL was written
-  pub server_only_sasl : (n : Negotiating L (ServerEnd P)) (events : List LinkEvent) → Has (server_mechanism stored) n events → IsOnlySasl (wrote_of events)
-  server_only_sasl n events h = only_sasl (server_mechanism stored) n events h
-
+module _ {P : Type 0} (stored : P → List ℕ → Option StoredPassword) where
   passed_stage : (stage : ServerStage) (s : ServerState P) (given sent : List SaslBody) → Passes (turn_in stage) → holds_in stored stage s given sent
     → (text : List ℕ) × HasProof (stored s.provider) s.nonce text given sent (outcome_body sasl.Ok (Some text) ∷ [])
   passed_stage OwesMechanisms s given sent t h = absurd t
@@ -201,12 +197,22 @@ module _ {L P : Type 0} (stored : P → List ℕ → Option StoredPassword) wher
   passed_stage (OwesRefusal code) s given sent t h = absurd t
   passed_stage (Refused code) s given sent t h = absurd t
 
+  passed_same : (x y : ServerEnd P) (events : List LinkEvent) → ServerSame x y → HasServerPassed stored y events → HasServerPassed stored x events
+  passed_same x y events s h =
+      subst (λ (p : P). ServerPassed (stored p) x.server.nonce (wrote_of events) (read_of events)) (sym s.provider)
+      (subst (λ (u : List ℕ). ServerPassed (stored y.server.provider) u (wrote_of events) (read_of events)) (sym s.nonce) h)
+
+module _ {L P : Type 0} (stored : P → List ℕ → Option StoredPassword) where
+  -- only SASL was written
+  pub server_only_sasl : (n : Negotiating L (ServerEnd P)) (events : List LinkEvent) → Has (server_mechanism stored) n events → IsOnlySasl (wrote_of events)
+  server_only_sasl n events h = only_sasl (server_mechanism stored) n events h
+
   -- a gate that passed: the exchange is whole, and its check holds
   pub server_passed : (n : Negotiating L (ServerEnd P)) (events : List LinkEvent) → Has (server_mechanism stored) n events → IsPassed (server_mechanism stored) n → HasServerPassed stored n.exchange events
   server_passed n events h passed =
       let f : HasFrames (server_mechanism stored) n events = subst (λ (p : Phase). HasIn (server_mechanism stored) p n events) passed.phase h in
       let both : (text : List ℕ) × HasProof (stored n.exchange.server.provider) n.exchange.server.nonce text f.given f.sent (outcome_body sasl.Ok (Some text) ∷ []) =
-        passed_stage n.exchange.stage n.exchange.server f.given f.sent (subst Passes (sym passed.turn) tt) f.held in
+        passed_stage stored n.exchange.stage n.exchange.server f.given f.sent (subst Passes (sym passed.turn) tt) f.held in
       let k : HasProof (stored n.exchange.server.provider) n.exchange.server.nonce both.0 f.given f.sent (outcome_body sasl.Ok (Some both.0) ∷ []) = both.1 in
       record {
         user = k.user;
@@ -223,17 +229,12 @@ module _ {L P : Type 0} (stored : P → List ℕ → Option StoredPassword) wher
         check = k.check;
       }
 
-  passed_same : (x y : ServerEnd P) (events : List LinkEvent) → ServerSame x y → HasServerPassed stored y events → HasServerPassed stored x events
-  passed_same x y events s h =
-      subst (λ (p : P). ServerPassed (stored p) x.server.nonce (wrote_of events) (read_of events)) (sym s.provider)
-      (subst (λ (u : List ℕ). ServerPassed (stored y.server.provider) u (wrote_of events) (read_of events)) (sym s.nonce) h)
-
   -- what a poll says of the whole history
   pub server_polled : (link : Ghosts L) (old : Negotiating L (ServerEnd P)) (left : ℕ) (result : Result GatePoll NegotiationError) (new : Negotiating L (ServerEnd P)) (left' : ℕ)
     → Polled link (server_mechanism stored) old left result new left' → ServerPolled link stored old left result new left'
   server_polled link old left result new left' p = record {
     polled = p;
     only_sasl = λ before h. server_only_sasl new (p.events ++ before) (p.goes.grows before h);
-    passed = λ e before h. passed_same old.exchange new.exchange (p.events ++ before) p.goes.kept
+    passed = λ e before h. passed_same stored old.exchange new.exchange (p.events ++ before) p.goes.kept
       (server_passed new (p.events ++ before) (p.goes.grows before h) (subst (λ (r : Result GatePoll NegotiationError). IsPollAnswer (server_mechanism stored) p.events new left' r) e p.answer));
   }
