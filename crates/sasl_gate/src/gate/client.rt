@@ -239,13 +239,21 @@ impl ClientExchange {
             ClientStage::AwaitsOutcome => {}
             _ => return Verdict::Refused(NegotiationError::IllegalState),
         }
-        match outcome.additional_data {
+        self.on_success(outcome.additional_data)
+    }
+
+    // Takes what came with outcome `Ok`, which is to be the server final.
+    fn on_success(&mut self, payload: Option<Binary>) -> Verdict
+        requires { self.old.stage ≡ ClientStage.AwaitsOutcome }
+        ensures { Received client_mechanism self.old (outcome_body SaslCode.Ok payload) (Ok result) self.new }
+    {
+        match payload {
             Some(text) => self.on_server_final(text),
             None => Verdict::Refused(NegotiationError::ScramError(ScramErrorKind::Signature)),
         }
     }
 
-    // Takes the server final that came with outcome `Ok`.
+    // Takes the server final.
     fn on_server_final(&mut self, text: Binary) -> Verdict
         requires { self.old.stage ≡ ClientStage.AwaitsOutcome }
         ensures { Received client_mechanism self.old (outcome_body SaslCode.Ok (Some text)) (Ok result) self.new }
