@@ -61,6 +61,13 @@ impl<L: Link> FramedCodec<L> {
         &mut self.link
     }
 
+    /// The link, to be looked at.
+    pub fn link_ref(&self) -> &L
+        ensures { result.now ≡ self.now.link }
+    {
+        &self.link
+    }
+
     /// What was read and not taken yet.
     pub fn input(&self) -> &[u8]
         ensures { result.now ≡ self.now.input }

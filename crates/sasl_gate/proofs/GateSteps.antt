@@ -1,5 +1,5 @@
 -- The steps of a negotiation.
-use Rattle.std.proofs.Common.{◌≡◌, ◌<◌, ◌≤◌, ◌+◌, ◌⊎◌, inl, inr, ℕ, List, [], ◌∷◌, ◌++◌, length, take, drop, Option, Some, None, refl, sym, ap, ◌∙◌, subst, arith}
+use Rattle.std.proofs.Common.{◌≡◌, ◌<◌, ◌≤◌, ◌+◌, ◌⊎◌, inl, inr, ℕ, List, [], ◌∷◌, ◌++◌, length, take, drop, Option, Some, None, Result, Ok, Err, refl, sym, ap, ◌∙◌, subst, arith}
 use Rattle.amqp_base.specs.declared.sasl.body.SaslBody.{SaslBody}
 use Rattle.amqp_base.specs.declared.sasl.body.SaslCode.{SaslCode}
 use Rattle.amqp_base.specs.Sasl.{Spells}
@@ -10,26 +10,31 @@ use Rattle.amqp_wire.specs.declared.link.Stop.TheVariants.{Empty, End, Failed as
 use Rattle.amqp_wire.specs.declared.link.Held.{Held}
 use Rattle.amqp_wire.specs.declared.link.Held.TheVariants.{Full, Failed as FailedWrite, Memory as HeldMemory}
 use Rattle.amqp_wire.specs.declared.link.IoKind.TheVariants.{Fault, End as InputEnd}
-use Rattle.amqp_wire.specs.declared.frame.Front.TheVariants.{Refused as RefusedFront, Foreign as ForeignFront}
+use Rattle.amqp_wire.specs.declared.frame.Front.{Front}
+use Rattle.amqp_wire.specs.declared.frame.Front.TheVariants.{Partial, Refused as RefusedFront, Foreign as ForeignFront, Whole}
 use Rattle.amqp_wire.specs.declared.reading.Wait.{Wait}
 use Rattle.amqp_wire.specs.declared.reading.Wait.TheVariants.{Over, Stopped, Spent}
 use Rattle.amqp_wire.specs.Codec.{Codec, Flushed}
 use Rattle.amqp_wire.specs.Frame.{HasBody, IsFront}
-use Rattle.amqp_wire.specs.Events.{LinkEvent, NotRead, NotWritten, Includes}
-use Rattle.amqp_wire.specs.Reading.{ReadOn}
+use Rattle.std.proofs.lemmas.List.{take-append-drop}
+use Rattle.amqp_wire.specs.Events.{LinkEvent, NotRead, NotWritten, Includes, read_of}
+use Rattle.amqp_wire.specs.Reading.{ReadOn, IsKnown}
 use Rattle.amqp_wire.proofs.Events.{includes_left}
 use Rattle.sasl_gate.specs.declared.gate.error.NegotiationError.{NegotiationError}
-use Rattle.sasl_gate.specs.declared.gate.error.NegotiationError.TheVariants.{ProtocolHeaderMismatch, NotImplemented, Io, DecodeError, FramingError}
+use Rattle.sasl_gate.specs.declared.gate.error.NegotiationError.TheVariants.{Memory, ProtocolHeaderMismatch, NotImplemented, Io, DecodeError, FramingError}
 use Rattle.sasl_gate.specs.declared.gate.exchange.Exchange.{Ghosts as Mechanism}
+use Rattle.std.specs.declared.alloc.AllocError.{AllocError}
+use Rattle.sasl_gate.specs.declared.gate.negotiation.GatePoll.{GatePoll}
+use Rattle.sasl_gate.specs.declared.gate.negotiation.GatePoll.TheVariants.{Pending, Passed}
 use Rattle.sasl_gate.specs.declared.gate.negotiation.Phase.{Phase}
 use Rattle.sasl_gate.specs.declared.gate.negotiation.Phase.TheVariants.{Header, Frames, Failed}
 use Rattle.sasl_gate.specs.declared.gate.negotiation.Step.{Step}
 use Rattle.sasl_gate.specs.declared.gate.negotiation.Step.TheVariants.{Goes, Waits, Ends}
 use Rattle.sasl_gate.specs.Exchange.{refused_with}
 use Rattle.sasl_gate.specs.Frames.{sasl_header, Heard, sasl_frame}
-use Rattle.sasl_gate.specs.Negotiation.{Negotiating, IsCaused, at_link, at_header, at_frame, by_body, too_long, HeaderCause, FrameCause, IsOverlong, HasHeader, HasFrames, HasIn, Has, GoesOn}
-use Rattle.sasl_gate.specs.Steps.{IsStepEnd, Stepped, IsAlive, IsStopAnswer, IsWaitAnswer}
-use Rattle.sasl_gate.proofs.Negotiations.{goes_none, goes_then, stepped_then, goes_flushed, flush_events, goes_read, goes_failed, goes_header, goes_taken, goes_sent}
+use Rattle.sasl_gate.specs.Negotiation.{Negotiating, IsCaused, at_link, at_header, at_frame, by_body, too_long, HeaderCause, FrameCause, IsOverlong, HasHeader, HasFrames, HasIn, Has, GoesOn, IsPollAnswer, Polled}
+use Rattle.sasl_gate.specs.Steps.{IsStepEnd, Stepped, IsAlive, IsStopAnswer, IsWaitAnswer, IsEndAnswer, ArrivesIn}
+use Rattle.sasl_gate.proofs.Negotiations.{goes_none, goes_then, stepped_then, goes_flushed, flush_events, goes_read, goes_failed, goes_header, goes_taken, goes_sent, heard_push, frame_cut}
 
 pub alive_header : (p : Phase) → p ≡ Header → IsAlive p
 alive_header p e = subst IsAlive (sym e) tt
@@ -42,61 +47,62 @@ pub step_none : {L X : Type 0} (link : Ghosts L) (m : Mechanism X) (a : Negotiat
 step_none link m a left s same e = record { events = []; goes = goes_none link m a left same; end = e }
 
 pub header_taken : {L X : Type 0} (link : Ghosts L) (m : Mechanism X) (a : Negotiating L X) (left : ℕ) → a.phase ≡ Header → m.same a.exchange a.exchange → take 8 a.codec.input ≡ sasl_header
-  → Stepped link m a left Goes (record a { codec = record a.codec { input = drop 8 a.codec.input }; phase = Frames }) left
+    → Stepped link m a left Goes (record a { codec = record a.codec { input = drop 8 a.codec.input }; phase = Frames }) left
 header_taken link m a left phase same t = record { events = []; goes = goes_header link m a left phase same t; end = tt }
 
 pub header_mismatch : {L X : Type 0} (link : Ghosts L) (m : Mechanism X) (a : Negotiating L X) (left : ℕ) (h : List ℕ) → a.phase ≡ Header → m.same a.exchange a.exchange
-  → 8 ≤ length a.codec.input → h ≡ take 8 a.codec.input → (h ≡ sasl_header → ⊥) → Stepped link m a left Ends (record a { phase = Failed (ProtocolHeaderMismatch h) }) left
+    → 8 ≤ length a.codec.input → h ≡ take 8 a.codec.input → (h ≡ sasl_header → ⊥) → Stepped link m a left Ends (record a { phase = Failed (ProtocolHeaderMismatch h) }) left
 header_mismatch link m a left h phase same l e ne =
     record {
       events = [];
       goes = goes_failed link m a a left left [] (ProtocolHeaderMismatch h) (alive_header a.phase phase)
-        (λ before n. let k : HasHeader m a before = subst (λ (p : Phase). HasIn m p a before) phase n in
+          (λ before n. let k : HasHeader m a before = subst (λ (p : Phase). HasIn m p a before) phase n in
           at_header (subst (λ (u : List ℕ). HeaderCause (ProtocolHeaderMismatch h) u) (sym k.read) (l, e, ne)))
-        (goes_none link m a left same);
+          (goes_none link m a left same);
       end = tt;
     }
 
 -- it failed while frames are read and written
 pub failed_frames : {L X : Type 0} (link : Ghosts L) (m : Mechanism X) (a : Negotiating L X) (left : ℕ) (e : NegotiationError) → a.phase ≡ Frames → m.same a.exchange a.exchange
-  → ((before : List LinkEvent) → HasFrames m a before → IsCaused (m.causes a.exchange) (m.owes a.exchange) e before)
-  → Stepped link m a left Ends (record a { phase = Failed e }) left
+    → ((before : List LinkEvent) → HasFrames m a before → IsCaused (m.causes a.exchange) (m.owes a.exchange) e before)
+    → Stepped link m a left Ends (record a { phase = Failed e }) left
 failed_frames link m a left e phase same cause =
     record {
       events = [];
       goes = goes_failed link m a a left left [] e (alive_frames a.phase phase)
-        (λ before n. cause before (subst (λ (p : Phase). HasIn m p a before) phase n))
-        (goes_none link m a left same);
+          (λ before n. cause before (subst (λ (p : Phase). HasIn m p a before) phase n))
+          (goes_none link m a left same);
       end = tt;
     }
 
 -- the frame at the front of the input is refused
 pub failed_front : {L X : Type 0} (link : Ghosts L) (m : Mechanism X) (a : Negotiating L X) (left : ℕ) (e : NegotiationError) → a.phase ≡ Frames → m.same a.exchange a.exchange → FrameCause e a.codec.input
-  → Stepped link m a left Ends (record a { phase = Failed e }) left
+    → Stepped link m a left Ends (record a { phase = Failed e }) left
 failed_front link m a left e phase same c = failed_frames link m a left e phase same (λ before n. at_frame n.given a.codec.input n.heard c)
 
 pub failed_overlong : {L X : Type 0} (link : Ghosts L) (m : Mechanism X) (a : Negotiating L X) (left : ℕ) (body : SaslBody) → a.phase ≡ Frames → m.same a.exchange a.exchange → m.owes a.exchange body → IsOverlong body
-  → Stepped link m a left Ends (record a { phase = Failed FramingError }) left
+    → Stepped link m a left Ends (record a { phase = Failed FramingError }) left
 failed_overlong link m a left body phase same o long = failed_frames link m a left FramingError phase same (λ before n. too_long body o long refl)
 
 pub failed_body : {L X : Type 0} (link : Ghosts L) (m : Mechanism X) (a : Negotiating L X) (left : ℕ) (e : NegotiationError) (body : SaslBody) (size start channel : ℕ) → a.phase ≡ Frames → m.same a.exchange a.exchange
-  → HasBody 1 512 a.codec.input size start channel → Spells (drop start (take size a.codec.input)) body
-  → ((given sent : List SaslBody) → m.holds a.exchange given sent → m.causes a.exchange e (given ++ body ∷ []) sent)
-  → Stepped link m a left Ends (record a { phase = Failed e }) left
+    → HasBody 1 512 a.codec.input size start channel → Spells (drop start (take size a.codec.input)) body
+    → ((given sent : List SaslBody) → m.holds a.exchange given sent → m.causes a.exchange e (given ++ body ∷ []) sent)
+    → Stepped link m a left Ends (record a { phase = Failed e }) left
 failed_body link m a left e body size start channel phase same b s c =
-    failed_frames link m a left e phase same (λ before n. by_body (n.given ++ body ∷ []) n.sent (drop size a.codec.input) (heard_body n) (c n.given n.sent n.held))
-  where
-    heard_body : {before : List LinkEvent} → (n : HasFrames m a before) → Heard (Rattle.amqp_wire.specs.Events.read_of before) (n.given ++ body ∷ []) (drop size a.codec.input)
-    heard_body n = Rattle.sasl_gate.proofs.Negotiations.heard_push _ (take size a.codec.input) (drop size a.codec.input) n.given body (subst (λ (u : List ℕ). Heard _ n.given u) (sym (Rattle.std.proofs.lemmas.List.take-append-drop size a.codec.input)) n.heard) (Rattle.sasl_gate.proofs.Negotiations.frame_cut a.codec.input size start channel body b s)
+    failed_frames link m a left e phase same (λ before n.
+    let cut : Heard (read_of before) n.given (take size a.codec.input ++ drop size a.codec.input) = subst (λ (u : List ℕ). Heard (read_of before) n.given u) (sym (take-append-drop size a.codec.input)) n.heard in
+    by_body (n.given ++ body ∷ []) n.sent (drop size a.codec.input)
+    (heard_push (read_of before) (take size a.codec.input) (drop size a.codec.input) n.given body cut (frame_cut a.codec.input size start channel body b s))
+    (c n.given n.sent n.held))
 
 pub failed_refusal : {L X : Type 0} (link : Ghosts L) (m : Mechanism X) (a : Negotiating L X) (left : ℕ) (code : SaslCode) → a.phase ≡ Frames → m.same a.exchange a.exchange
-  → ((given sent : List SaslBody) → m.holds a.exchange given sent → m.causes a.exchange (refused_with code) given sent)
-  → Stepped link m a left Ends (record a { phase = Failed (refused_with code) }) left
+    → ((given sent : List SaslBody) → m.holds a.exchange given sent → m.causes a.exchange (refused_with code) given sent)
+    → Stepped link m a left Ends (record a { phase = Failed (refused_with code) }) left
 failed_refusal link m a left code phase same c = failed_frames link m a left (refused_with code) phase same (λ before n. by_body n.given n.sent a.codec.input n.heard (c n.given n.sent n.held))
 
 -- a step after reads
 pub read_then : {L X : Type 0} (link : Ghosts L) (m : Mechanism X) (a : Negotiating L X) (c : Codec L) (b : Negotiating L X) (w : Wait) (left k n : ℕ) (s : Step) → IsAlive a.phase → m.same a.exchange a.exchange → m.same a.exchange b.exchange
-  → ReadOn link a.codec left w c k → Stepped link m (record a { codec = c }) k s b n → Stepped link m a left s b n
+    → ReadOn link a.codec left w c k → Stepped link m (record a { codec = c }) k s b n → Stepped link m a left s b n
 read_then link m a c b w left k n s alive same same' r st = stepped_then link m a (record a { codec = c }) b left k n r.events s same' (goes_read link m a c w left k alive same r) st
 
 -- reads, and nothing after them
@@ -107,33 +113,33 @@ pub read_spent : {L X : Type 0} (link : Ghosts L) (m : Mechanism X) (a : Negotia
 read_spent link m a c left k alive same r = record { events = r.events; goes = goes_read link m a c Spent left k alive same r; end = inr (inr r.end) }
 
 stopped_in : {L X : Type 0} (link : Ghosts L) (m : Mechanism X) (a : Negotiating L X) (c : Codec L) (stop : Stop) (left k : ℕ) (s : Step) (new : Negotiating L X) → IsAlive a.phase → m.same a.exchange a.exchange
-  → (r : ReadOn link a.codec left (Stopped stop) c k) → IsStopAnswer stop (record a { codec = c }) s new → Stepped link m a left s new k
+    → (r : ReadOn link a.codec left (Stopped stop) c k) → IsStopAnswer stop (record a { codec = c }) s new → Stepped link m a left s new k
 stopped_in {L} {X} link m a c Empty left k s new alive same r e =
     subst (λ (t : Step). Stepped link m a left t new k) (sym e.0) (subst (λ (b : Negotiating L X). Stepped link m a left Waits b k) (sym e.1)
-      (record { events = r.events; goes = goes_read link m a c (Stopped Empty) left k alive same r; end = inl r.end }))
+    (record { events = r.events; goes = goes_read link m a c (Stopped Empty) left k alive same r; end = inl r.end }))
 stopped_in {L} {X} link m a c End left k s new alive same r e =
     subst (λ (t : Step). Stepped link m a left t new k) (sym e.0) (subst (λ (b : Negotiating L X). Stepped link m a left Ends b k) (sym e.1)
-      (record {
-        events = r.events;
-        goes = goes_failed link m a (record a { codec = c }) left k r.events (Io InputEnd) alive (λ before n. at_link (includes_left r.events before (NotRead End) r.end)) (goes_read link m a c (Stopped End) left k alive same r);
-        end = tt;
-      }))
+    (record {
+      events = r.events;
+      goes = goes_failed link m a (record a { codec = c }) left k r.events (Io InputEnd) alive (λ before n. at_link (includes_left r.events before (NotRead End) r.end)) (goes_read link m a c (Stopped End) left k alive same r);
+      end = tt;
+    }))
 stopped_in {L} {X} link m a c FailedRead left k s new alive same r e =
     subst (λ (t : Step). Stepped link m a left t new k) (sym e.0) (subst (λ (b : Negotiating L X). Stepped link m a left Ends b k) (sym e.1)
-      (record {
-        events = r.events;
-        goes = goes_failed link m a (record a { codec = c }) left k r.events (Io Fault) alive (λ before n. at_link (inl (includes_left r.events before (NotRead FailedRead) r.end))) (goes_read link m a c (Stopped FailedRead) left k alive same r);
-        end = tt;
-      }))
+    (record {
+      events = r.events;
+      goes = goes_failed link m a (record a { codec = c }) left k r.events (Io Fault) alive (λ before n. at_link (inl (includes_left r.events before (NotRead FailedRead) r.end))) (goes_read link m a c (Stopped FailedRead) left k alive same r);
+      end = tt;
+    }))
 
 -- reads, the last of which gave nothing
 pub read_stopped : {L X : Type 0} (link : Ghosts L) (m : Mechanism X) (a : Negotiating L X) (c : Codec L) (stop : Stop) (left k : ℕ) (s : Step) (new : Negotiating L X) → IsAlive a.phase → m.same a.exchange a.exchange
-  → (r : ReadOn link a.codec left (Stopped stop) c k) → IsStopAnswer stop (record a { codec = c }) s new → Stepped link m a left s new k
+    → (r : ReadOn link a.codec left (Stopped stop) c k) → IsStopAnswer stop (record a { codec = c }) s new → Stepped link m a left s new k
 read_stopped = stopped_in
 
 -- reads that did not bring what was waited for
 pub read_waited : {L X : Type 0} (link : Ghosts L) (m : Mechanism X) (a : Negotiating L X) (c : Codec L) (w : Wait) (left k : ℕ) (s : Step) (new : Negotiating L X) → (w ≡ Over → ⊥) → IsAlive a.phase → m.same a.exchange a.exchange
-  → (r : ReadOn link a.codec left w c k) → IsWaitAnswer w (record a { codec = c }) s new → Stepped link m a left s new k
+    → (r : ReadOn link a.codec left w c k) → IsWaitAnswer w (record a { codec = c }) s new → Stepped link m a left s new k
 read_waited {L} {X} link m a c Over left k s new over alive same r e = absurd (over refl)
 read_waited {L} {X} link m a c Spent left k s new over alive same r e =
     subst (λ (t : Step). Stepped link m a left t new k) (sym e.0) (subst (λ (b : Negotiating L X). Stepped link m a left Waits b k) (sym e.1) (read_spent link m a c left k alive same r))
@@ -141,21 +147,21 @@ read_waited {L} {X} link m a c (Stopped stop) left k s new over alive same r e =
 
 -- a body was taken
 pub body_taken : {L X : Type 0} (link : Ghosts L) (m : Mechanism X) (a : Negotiating L X) (x : X) (left size start channel : ℕ) (body : SaslBody) → a.phase ≡ Frames → m.same a.exchange x
-  → HasBody 1 512 a.codec.input size start channel → Spells (drop start (take size a.codec.input)) body
-  → ((given sent : List SaslBody) → m.holds a.exchange given sent → m.holds x (given ++ body ∷ []) sent)
-  → Stepped link m a left Goes (record { codec = record a.codec { input = drop size a.codec.input }; phase = a.phase; exchange = x }) left
+    → HasBody 1 512 a.codec.input size start channel → Spells (drop start (take size a.codec.input)) body
+    → ((given sent : List SaslBody) → m.holds a.exchange given sent → m.holds x (given ++ body ∷ []) sent)
+    → Stepped link m a left Goes (record { codec = record a.codec { input = drop size a.codec.input }; phase = a.phase; exchange = x }) left
 body_taken link m a x left size start channel body phase same b s g = record { events = []; goes = goes_taken link m a x left size start channel body phase same b s g; end = tt }
 
 -- a body was sent
 pub body_sent : {L X : Type 0} (link : Ghosts L) (m : Mechanism X) (a : Negotiating L X) (x : X) (c : Codec L) (left : ℕ) (body : SaslBody) → a.phase ≡ Frames → m.same a.exchange x
-  → c ≡ record a.codec { output = a.codec.output ++ sasl_frame body }
-  → ((given sent : List SaslBody) → m.holds a.exchange given sent → m.holds x given (sent ++ body ∷ []))
-  → Stepped link m a left Goes (record { codec = c; phase = a.phase; exchange = x }) left
+    → c ≡ record a.codec { output = a.codec.output ++ sasl_frame body }
+    → ((given sent : List SaslBody) → m.holds a.exchange given sent → m.holds x given (sent ++ body ∷ []))
+    → Stepped link m a left Goes (record { codec = c; phase = a.phase; exchange = x }) left
 body_sent link m a x c left body phase same e g = record { events = []; goes = goes_sent link m a x c left body phase same e g; end = tt }
 
 -- what was queued went out, and a step followed
 pub flushed_then : {L X : Type 0} (link : Ghosts L) (m : Mechanism X) (a : Negotiating L X) (c : Codec L) (b : Negotiating L X) (left n : ℕ) (s : Step) → IsAlive a.phase → m.same a.exchange a.exchange → m.same a.exchange b.exchange
-  → Flushed link a.codec None c → Stepped link m (record a { codec = c }) left s b n → Stepped link m a left s b n
+    → Flushed link a.codec None c → Stepped link m (record a { codec = c }) left s b n → Stepped link m a left s b n
 flushed_then link m a c b left n s alive same same' f st = stepped_then link m a (record a { codec = c }) b left left n (flush_events f.bytes None) s same' (goes_flushed link m a c None left alive same f) st
 
 pub flushed_full : {L X : Type 0} (link : Ghosts L) (m : Mechanism X) (a : Negotiating L X) (c : Codec L) (left : ℕ) → IsAlive a.phase → m.same a.exchange a.exchange → Flushed link a.codec (Some Full) c → Stepped link m a left Waits (record a { codec = c }) left
@@ -165,10 +171,43 @@ pub flushed_memory : {L X : Type 0} (link : Ghosts L) (m : Mechanism X) (a : Neg
 flushed_memory link m a c left alive same f = record { events = flush_events f.bytes (Some HeldMemory); goes = goes_flushed link m a c (Some HeldMemory) left alive same f; end = tt }
 
 pub flushed_failed : {L X : Type 0} (link : Ghosts L) (m : Mechanism X) (a : Negotiating L X) (c : Codec L) (left : ℕ) → IsAlive a.phase → m.same a.exchange a.exchange → Flushed link a.codec (Some FailedWrite) c
-  → Stepped link m a left Ends (record a { codec = c; phase = Failed (Io Fault) }) left
+    → Stepped link m a left Ends (record a { codec = c; phase = Failed (Io Fault) }) left
 flushed_failed link m a c left alive same f =
     record {
       events = flush_events f.bytes (Some FailedWrite);
       goes = goes_failed link m a (record a { codec = c }) left left (flush_events f.bytes (Some FailedWrite)) (Io Fault) alive (λ before n. at_link (inr (inl refl))) (goes_flushed link m a c (Some FailedWrite) left alive same f);
       end = tt;
     }
+
+-- steps until nothing more can be done now
+pub polled_waits : {L X : Type 0} (link : Ghosts L) (m : Mechanism X) (a b c : Negotiating L X) (l k n : ℕ) → m.same a.exchange c.exchange → Stepped link m a l Goes b k → Stepped link m b k Waits c n → Polled link m a l (Ok Pending) c n
+polled_waits link m a b c l k n same p q =
+    let s = stepped_then link m a b c l k n p.events Waits same p.goes q in
+    record { events = s.events; goes = s.goes; answer = s.end }
+
+answer_in : {L X : Type 0} (m : Mechanism X) (events : List LinkEvent) (c : Negotiating L X) (n : ℕ) (r : Result GatePoll NegotiationError) → IsEndAnswer m c r → IsPollAnswer m events c n r
+answer_in m events c n (Ok Pending) e = absurd e
+answer_in m events c n (Ok Passed) e = e
+answer_in m events c n (Err x) e = e
+
+-- steps until it has passed or failed
+pub polled_ends : {L X : Type 0} (link : Ghosts L) (m : Mechanism X) (a b c : Negotiating L X) (l k n : ℕ) (r : Result GatePoll NegotiationError) → m.same a.exchange c.exchange → Stepped link m a l Goes b k → Stepped link m b k Ends c n → IsEndAnswer m c r → Polled link m a l r c n
+polled_ends link m a b c l k n r same p q e =
+    let s = stepped_then link m a b c l k n p.events Ends same p.goes q in
+    record { events = s.events; goes = s.goes; answer = answer_in m s.events c n r e }
+
+-- steps until memory was wanting
+pub polled_memory : {L X : Type 0} (link : Ghosts L) (m : Mechanism X) (a b c : Negotiating L X) (l k n : ℕ) (error : AllocError) → m.same a.exchange c.exchange → Stepped link m a l Goes b k → Stepped link m b k Goes c n → Polled link m a l (Err (Memory error)) c n
+polled_memory link m a b c l k n error same p q =
+    let s = stepped_then link m a b c l k n p.events Goes same p.goes q in
+    record { events = s.events; goes = s.goes; answer = tt }
+
+-- reads, and what came of the front of the input
+pub arrived : {L X : Type 0} (link : Ghosts L) (m : Mechanism X) (a : Negotiating L X) (c : Codec L) (front : Front) (w : Wait) (left k : ℕ) (s : Step) (new : Negotiating L X) → IsAlive a.phase → m.same a.exchange a.exchange
+    → ReadOn link a.codec left w c k → IsKnown front w → ArrivesIn link m front w (record a { codec = c }) k s new k → Stepped link m a left s new k
+arrived link m a c Partial Over left k s new alive same r known st = absurd known
+arrived link m a c Partial Spent left k s new alive same r known st = read_waited link m a c Spent left k s new (λ e. cc) alive same r st
+arrived link m a c Partial (Stopped stop) left k s new alive same r known st = read_stopped link m a c stop left k s new alive same r st
+arrived link m a c RefusedFront w left k s new alive same r known st = read_then link m a c new w left k k s alive same st.goes.kept r st
+arrived link m a c ForeignFront w left k s new alive same r known st = read_then link m a c new w left k k s alive same st.goes.kept r st
+arrived link m a c (Whole size start channel) w left k s new alive same r known st = read_then link m a c new w left k k s alive same st.goes.kept r st

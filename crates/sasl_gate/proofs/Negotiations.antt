@@ -1,7 +1,7 @@
 -- What a negotiation went through, joined.
-use Rattle.std.proofs.Common.{◌≡◌, ◌≢◌, ◌<◌, ◌≤◌, ◌+◌, ◌⊎◌, inl, inr, ℕ, List, [], ◌∷◌, ◌++◌, length, take, drop, get_or, Option, Some, None, refl, sym, ap, ◌∙◌, subst, append_assoc, arith}
+use Rattle.std.proofs.Common.{◌≡◌, ◌≢◌, ◌<◌, ◌≤◌, ◌+◌, ◌-◌, ◌⊎◌, inl, inr, ℕ, List, [], ◌∷◌, ◌++◌, length, take, drop, get_or, Option, Some, None, refl, sym, ap, ◌∙◌, subst, append_assoc, arith}
 use Rattle.std.specs.Prelude.{flat_map, slice_index}
-use Rattle.std.proofs.lemmas.List.{append-nil, take-append-drop, length-take-le}
+use Rattle.std.proofs.lemmas.List.{append-nil, take-append-drop, length-take-le, drop-take}
 use Rattle.std.proofs.lemmas.Grind.{flat_map-append, common_steps}
 use Rattle.amqp_base.specs.declared.sasl.body.SaslBody.{SaslBody}
 use Rattle.amqp_base.specs.Sasl.{Spells}
@@ -77,15 +77,17 @@ said-push xs x =
 
 -- other bytes were read and written, and the rest is as it was
 has_moved : {L X : Type 0} (m : Mechanism X) (p : Phase) (a : Negotiating L X) (c : Codec L) (before after : List LinkEvent) (more : List ℕ) → IsAlive p
-  → read_of after ≡ read_of before ++ more → c.input ≡ a.codec.input ++ more → wrote_of after ++ c.output ≡ wrote_of before ++ a.codec.output
-  → HasIn m p a before → HasIn m p (record a { codec = c }) after
+    → read_of after ≡ read_of before ++ more → c.input ≡ a.codec.input ++ more → wrote_of after ++ c.output ≡ wrote_of before ++ a.codec.output
+    → HasIn m p a before → HasIn m p (record a { codec = c }) after
 has_moved m Header a c before after more alive r i w h =
     record { read = r ∙ ap (λ (u : List ℕ). u ++ more) h.read ∙ sym i; wrote = w ∙ h.wrote; held = h.held }
 has_moved m Frames a c before after more alive r i w h =
     record {
-      given = h.given; sent = h.sent;
+      given = h.given;
+      sent = h.sent;
       heard = subst (λ (u : List ℕ). Heard u h.given c.input) (sym r) (subst (λ (u : List ℕ). Heard (read_of before ++ more) h.given u) (sym i) (heard_more (read_of before) more a.codec.input h.given h.heard));
-      wrote = w ∙ h.wrote; held = h.held;
+      wrote = w ∙ h.wrote;
+      held = h.held;
     }
 has_moved m (Failed e) a c before after more alive r i w h = absurd alive
 
@@ -119,7 +121,7 @@ goes_flushed {L} link m a c held left alive s f =
       counted = omega (arith, flush_reads f.bytes held);
       kept = s;
       grows = λ before h. has_moved m a.phase a c before (flush_events f.bytes held ++ before) [] alive (flush_read f.bytes held before) (i ∙ sym (append-nil a.codec.input))
-        (ap (λ (u : List ℕ). u ++ c.output) (flush_wrote f.bytes held before) ∙ append_assoc (wrote_of before) f.bytes c.output ∙ ap (λ (u : List ℕ). wrote_of before ++ u) (sym f.out)) h;
+          (ap (λ (u : List ℕ). u ++ c.output) (flush_wrote f.bytes held before) ∙ append_assoc (wrote_of before) f.bytes c.output ∙ ap (λ (u : List ℕ). wrote_of before ++ u) (sym f.out)) h;
     }
 
 -- bytes came in
@@ -130,7 +132,7 @@ goes_read link m a c w left left' alive s r =
       counted = r.counted;
       kept = s;
       grows = λ before h. has_moved m a.phase a c before (r.events ++ before) (read_of r.events) alive (read_of-append r.events before) r.input
-        (ap (λ (u : List ℕ). wrote_of (r.events ++ before) ++ u) r.output ∙ ap (λ (u : List ℕ). u ++ a.codec.output) (wrote_of-append r.events before ∙ ap (λ (u : List ℕ). wrote_of before ++ u) r.silent ∙ append-nil (wrote_of before))) h;
+          (ap (λ (u : List ℕ). wrote_of (r.events ++ before) ++ u) r.output ∙ ap (λ (u : List ℕ). u ++ a.codec.output) (wrote_of-append r.events before ∙ ap (λ (u : List ℕ). wrote_of before ++ u) r.silent ∙ append-nil (wrote_of before))) h;
     }
 
 failed_in : {L X : Type 0} (m : Mechanism X) (p : Phase) (b : Negotiating L X) (e : NegotiationError) (events : List LinkEvent) → IsAlive p → IsCaused (m.causes b.exchange) (m.owes b.exchange) e events → HasIn m p b events → HasFailure m e b events
@@ -140,8 +142,8 @@ failed_in m (Failed x) b e events alive c h = absurd alive
 
 -- it failed after that
 pub goes_failed : {L X : Type 0} (link : Ghosts L) (m : Mechanism X) (a b : Negotiating L X) (l k : ℕ) (es : List LinkEvent) (e : NegotiationError) → IsAlive b.phase
-  → ((before : List LinkEvent) → Has m b (es ++ before) → IsCaused (m.causes b.exchange) (m.owes b.exchange) e (es ++ before))
-  → GoesOn link m a l es b k → GoesOn link m a l es (record b { phase = Failed e }) k
+    → ((before : List LinkEvent) → Has m b (es ++ before) → IsCaused (m.causes b.exchange) (m.owes b.exchange) e (es ++ before))
+    → GoesOn link m a l es b k → GoesOn link m a l es (record b { phase = Failed e }) k
 goes_failed {L} {X} link m a b l k es e alive cause g =
     record {
       went = g.went;
@@ -155,19 +157,21 @@ goes_failed {L} {X} link m a b l k es e alive cause g =
 
 -- the SASL header was read
 pub goes_header : {L X : Type 0} (link : Ghosts L) (m : Mechanism X) (a : Negotiating L X) (left : ℕ) → a.phase ≡ Header → m.same a.exchange a.exchange → take 8 a.codec.input ≡ sasl_header
-  → GoesOn link m a left [] (record a { codec = record a.codec { input = drop 8 a.codec.input }; phase = Frames }) left
+    → GoesOn link m a left [] (record a { codec = record a.codec { input = drop 8 a.codec.input }; phase = Frames }) left
 goes_header {L} {X} link m a left phase s t =
     record {
       went = refl;
       counted = omega arith;
       kept = s;
       grows = λ before h.
-        let n : HasHeader m a before = subst (λ (p : Phase). HasIn m p a before) phase h in
-        record {
-          given = []; sent = [];
-          heard = record { tail = drop 8 a.codec.input; header = n.read ∙ sym (take-append-drop 8 a.codec.input) ∙ ap (λ (u : List ℕ). u ++ drop 8 a.codec.input) t; frames = refl };
-          wrote = n.wrote; held = n.held;
-        };
+          let n : HasHeader m a before = subst (λ (p : Phase). HasIn m p a before) phase h in
+          record {
+            given = [];
+            sent = [];
+            heard = record { tail = drop 8 a.codec.input; header = n.read ∙ sym (take-append-drop 8 a.codec.input) ∙ ap (λ (u : List ℕ). u ++ drop 8 a.codec.input) t; frames = refl };
+            wrote = n.wrote;
+            held = n.held;
+          };
     }
 
 take_index : (bytes : List ℕ) (size i : ℕ) → i < size → size ≤ length bytes → slice_index (take size bytes) i ≡ slice_index bytes i
@@ -208,43 +212,52 @@ frame_cut bytes size start channel x b s =
 
 -- a body was taken
 pub goes_taken : {L X : Type 0} (link : Ghosts L) (m : Mechanism X) (a : Negotiating L X) (x : X) (left size start channel : ℕ) (body : SaslBody) → a.phase ≡ Frames → m.same a.exchange x
-  → HasBody 1 512 a.codec.input size start channel → Spells (drop start (take size a.codec.input)) body
-  → ((given sent : List SaslBody) → m.holds a.exchange given sent → m.holds x (given ++ body ∷ []) sent)
-  → GoesOn link m a left [] (record { codec = record a.codec { input = drop size a.codec.input }; phase = a.phase; exchange = x }) left
+    → HasBody 1 512 a.codec.input size start channel → Spells (drop start (take size a.codec.input)) body
+    → ((given sent : List SaslBody) → m.holds a.exchange given sent → m.holds x (given ++ body ∷ []) sent)
+    → GoesOn link m a left [] (record { codec = record a.codec { input = drop size a.codec.input }; phase = a.phase; exchange = x }) left
 goes_taken {L} {X} link m a x left size start channel body phase s b spelled g =
     record {
       went = refl;
       counted = omega arith;
       kept = s;
       grows = λ before h.
-        let n : HasFrames m a before = subst (λ (p : Phase). HasIn m p a before) phase h in
-        let new : Negotiating L X = record { codec = record a.codec { input = drop size a.codec.input }; phase = a.phase; exchange = x } in
-        let result : HasFrames m new before = record {
-          given = n.given ++ body ∷ []; sent = n.sent;
-          heard = heard_push (read_of before) (take size a.codec.input) (drop size a.codec.input) n.given body (subst (λ (u : List ℕ). Heard (read_of before) n.given u) (sym (take-append-drop size a.codec.input)) n.heard) (frame_cut a.codec.input size start channel body b spelled);
-          wrote = n.wrote; held = g n.given n.sent n.held;
-        } in
-        subst (λ (p : Phase). HasIn m p new before) (sym phase) result;
+          let n : HasFrames m a before = subst (λ (p : Phase). HasIn m p a before) phase h in
+          let new : Negotiating L X = record { codec = record a.codec { input = drop size a.codec.input }; phase = a.phase; exchange = x } in
+          let result : HasFrames m new before = record {
+            given = n.given ++ body ∷ [];
+            sent = n.sent;
+            heard = heard_push (read_of before) (take size a.codec.input) (drop size a.codec.input) n.given body (subst (λ (u : List ℕ). Heard (read_of before) n.given u) (sym (take-append-drop size a.codec.input)) n.heard) (frame_cut a.codec.input size start channel body b spelled);
+            wrote = n.wrote;
+            held = g n.given n.sent n.held;
+          } in
+          subst (λ (p : Phase). HasIn m p new before) (sym phase) result;
     }
 
 -- a body was sent
 pub goes_sent : {L X : Type 0} (link : Ghosts L) (m : Mechanism X) (a : Negotiating L X) (x : X) (c : Codec L) (left : ℕ) (body : SaslBody) → a.phase ≡ Frames → m.same a.exchange x
-  → c ≡ record a.codec { output = a.codec.output ++ sasl_frame body }
-  → ((given sent : List SaslBody) → m.holds a.exchange given sent → m.holds x given (sent ++ body ∷ []))
-  → GoesOn link m a left [] (record { codec = c; phase = a.phase; exchange = x }) left
+    → c ≡ record a.codec { output = a.codec.output ++ sasl_frame body }
+    → ((given sent : List SaslBody) → m.holds a.exchange given sent → m.holds x given (sent ++ body ∷ []))
+    → GoesOn link m a left [] (record { codec = c; phase = a.phase; exchange = x }) left
 goes_sent {L} {X} link m a x c left body phase s e g =
     record {
       went = ap (λ (k : Codec L). k.link) e;
       counted = omega arith;
       kept = s;
       grows = λ before h.
-        let n : HasFrames m a before = subst (λ (p : Phase). HasIn m p a before) phase h in
-        let new : Negotiating L X = record { codec = c; phase = a.phase; exchange = x } in
-        let result : HasFrames m new before = record {
-          given = n.given; sent = n.sent ++ body ∷ [];
-          heard = subst (λ (u : List ℕ). Heard (read_of before) n.given u) (sym (ap (λ (k : Codec L). k.input) e)) n.heard;
-          wrote = ap (λ (u : List ℕ). wrote_of before ++ u) (ap (λ (k : Codec L). k.output) e) ∙ sym (append_assoc (wrote_of before) a.codec.output (sasl_frame body)) ∙ ap (λ (u : List ℕ). u ++ sasl_frame body) n.wrote ∙ sym (said-push n.sent body);
-          held = g n.given n.sent n.held;
-        } in
-        subst (λ (p : Phase). HasIn m p new before) (sym phase) result;
+          let n : HasFrames m a before = subst (λ (p : Phase). HasIn m p a before) phase h in
+          let new : Negotiating L X = record { codec = c; phase = a.phase; exchange = x } in
+          let result : HasFrames m new before = record {
+            given = n.given;
+            sent = n.sent ++ body ∷ [];
+            heard = subst (λ (u : List ℕ). Heard (read_of before) n.given u) (sym (ap (λ (k : Codec L). k.input) e)) n.heard;
+            wrote = ap (λ (u : List ℕ). wrote_of before ++ u) (ap (λ (k : Codec L). k.output) e) ∙ sym (append_assoc (wrote_of before) a.codec.output (sasl_frame body)) ∙ ap (λ (u : List ℕ). u ++ sasl_frame body) n.wrote ∙ sym (said-push n.sent body);
+            held = g n.given n.sent n.held;
+          } in
+          subst (λ (p : Phase). HasIn m p new before) (sym phase) result;
     }
+
+-- the body of a frame, cut in two ways
+pub cut_same : (bytes : List ℕ) (start size : ℕ) → start ≤ size → take (size - start) (drop start bytes) ≡ drop start (take size bytes)
+cut_same bytes start size h =
+    let e : start + (size - start) ≡ size = omega arith in
+    sym (drop-take start (size - start) bytes) ∙ ap (λ (n : ℕ). drop start (take n bytes)) e

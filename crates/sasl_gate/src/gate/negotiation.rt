@@ -8,6 +8,7 @@ ghost use Rattle.amqp_base.specs.declared.sasl.body.SaslBody.{SaslBody};
 ghost use Rattle.amqp_base.specs.Canonical.{canonical_of};
 ghost use Rattle.amqp_base.specs.Sasl.{Spells};
 ghost use Rattle.amqp_wire.specs.Frame.{HasBody, IsFront};
+ghost use Rattle.amqp_wire.specs.contracts.codec.FramedCodec.{the_row as codec_row};
 ghost use Rattle.sasl_gate.specs.contracts.gate.negotiation.Negotiation.{the_row};
 ghost use Rattle.sasl_gate.specs.declared.gate.exchange.Turn.TheVariants.{Send, Receive};
 ghost use Rattle.sasl_gate.specs.declared.gate.negotiation.Phase.TheVariants.{Header, Frames, Failed};
@@ -100,6 +101,30 @@ fn front_header(bytes: &[u8]) -> [u8; 8]
 }
 
 impl<L: Link, X: Exchange> Negotiation<L, X> {
+    /// A negotiation that has not begun; takes no memory.
+    pub fn new(alloc: Global, codec: FramedCodec<L>, exchange: X) -> Self
+        ensures { result ≡ record { codec = codec; phase = Header; exchange = exchange } }
+    {
+        Negotiation {
+            codec,
+            phase: Phase::Header,
+            exchange,
+            alloc,
+        }
+    }
+
+    /// Begins the negotiation of an exchange: the SASL header is queued. The one error is want of
+    /// memory, which changes nothing.
+    pub fn begin(&mut self, exchange: X) -> Result<(), AllocError>
+        requires { self.old.phase ≡ Header }
+        ensures ok { OnOk result (self.new ≡ record self.old { codec = record self.old.codec { output = self.old.codec.output ++ sasl_header }; exchange = exchange }) }
+        ensures err { OnErr result (self.new ≡ self.old) }
+    {
+        self.codec.queue(SASL_HEADER.as_slice())?;
+        self.exchange = exchange;
+        Ok(())
+    }
+
     /// Begins a negotiation: its header is queued. The one error is want of memory, which hands
     /// the codec back as it was.
     pub fn start(
@@ -119,6 +144,21 @@ impl<L: Link, X: Exchange> Negotiation<L, X> {
             }),
             Err(error) => Err((error, codec)),
         }
+    }
+
+    /// The codec, to be looked at.
+    pub fn codec(&self) -> &FramedCodec<L>
+        ensures { result.now ≡ self.now.codec }
+    {
+        &self.codec
+    }
+
+    /// The codec.
+    pub fn codec_mut(&mut self) -> &mut FramedCodec<L>
+        ensures* writes_back { sem 𝓛 (Lends (the_row L.row X.row L.Link X.Exchange) (codec_row L.row L.Link) self.entry result (λ c. record self.old { codec = c })) }
+        ensures value { result.now ≡ self.old.codec }
+    {
+        &mut self.codec
     }
 
     /// The link.
