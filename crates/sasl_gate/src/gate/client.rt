@@ -216,7 +216,10 @@ impl ClientExchange {
             ClientStage::AwaitsChallenge => {}
             _ => return Ok(Verdict::Refused(NegotiationError::IllegalState)),
         }
-        match self.client.on_server_first(alloc, challenge.challenge.as_slice()) {
+        match self
+            .client
+            .on_server_first(alloc, challenge.challenge.as_slice())
+        {
             Ok(text) => {
                 self.stage = ClientStage::OwesResponse(text);
                 Ok(Verdict::Taken)
@@ -411,10 +414,7 @@ impl<L: Link> ClientGate<L> {
 /// Goes on until the gate has passed or failed, or can do no more now. `Passed` says that the whole exchange was read
 /// and written and its check holds (part 5, section 5.3.2; RFC 5802, section 3). A failure is answered again at each
 /// later call. `at` is the moment of the call, in milliseconds, which a negotiation does not use.
-pub fn poll_client<L: Link>(
-    gate: &mut ClientGate<L>,
-    at: u64,
-) -> Result<GatePoll, NegotiationError>
+pub fn poll_client<L: Link>(gate: &mut ClientGate<L>, at: u64) -> Result<GatePoll, NegotiationError>
     ensures { (left : ℕ) × ClientPolled L.Link gate.old (2 ^ 63) result gate.new left }
 {
     let _ = at;
