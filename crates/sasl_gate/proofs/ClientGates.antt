@@ -48,26 +48,30 @@ received_refusal x o ne = record { taken = tt; less = tt; same = tt; refused = �
 
 -- an outcome by its parts
 pub received_outcome : (x new : ClientEnd) (o : SaslOutcome) (payload : Option (List ℕ)) (result : Result Verdict AllocError) → o.code ≡ sasl.Ok → o.additional_data ≡ payload
-  → Received client_mechanism x (outcome_body sasl.Ok payload) result new → Received client_mechanism x (Outcome o) result new
+    → Received client_mechanism x (outcome_body sasl.Ok payload) result new → Received client_mechanism x (Outcome o) result new
 received_outcome x new o payload result e f r =
     subst (λ (d : Option (List ℕ)). Received client_mechanism x (outcome_body o.code d) result new) (sym f)
     (subst (λ (k : SaslCode). Received client_mechanism x (outcome_body k payload) result new) (sym e) r)
 
 -- a challenge that is refused, or for which memory was wanting
 pub received_challenge : (x : ClientEnd) (c : SaslChallenge) (kind : ScramErrorKind) (result : Result Verdict AllocError) → x.stage ≡ AwaitsChallenge
-  → IsServerFirstRefusal x.client.nonce c.challenge kind → IsTextAnswer kind result → Received client_mechanism x (Challenge c) result x
+    → IsServerFirstRefusal x.client.nonce c.challenge kind → IsTextAnswer kind result → Received client_mechanism x (Challenge c) result x
 received_challenge x c kind (Ok Taken) stage r answer = absurd answer
 received_challenge x c kind (Ok (Refused e)) stage r answer = record {
-  taken = tt; less = tt; same = tt; kept = refl; err = tt;
+  taken = tt;
+  less = tt;
+  same = tt;
+  kept = refl;
+  err = tt;
   refused = λ given sent h.
-    let k : HasMechanisms given sent (client_init x ∷ []) = subst (λ (s : ClientStage). holds_in s x given sent) stage h in
-    subst (λ (e : NegotiationError). client_causes x e (given ++ Challenge c ∷ []) sent) (sym answer.0)
+      let k : HasMechanisms given sent (client_init x ∷ []) = subst (λ (s : ClientStage). holds_in s x given sent) stage h in
+      subst (λ (e : NegotiationError). client_causes x e (given ++ Challenge c ∷ []) sent) (sym answer.0)
       (by_challenge k.names c.challenge (ap (λ (u : List SaslBody). u ++ Challenge c ∷ []) k.given_is) answer.1 r);
 }
 received_challenge x c kind (Err e) stage r answer = record { taken = tt; less = tt; same = tt; refused = tt; kept = tt; err = refl }
 
 no_signature_in : (p : ClientPhase) (x : ClientEnd) (given sent : List SaslBody) → ForAnswered p (λ a. HasAnswer x a given sent (client_init x ∷ response_body a.client_final ∷ []))
-  → IsScramCause x Signature (given ++ outcome_body sasl.Ok None ∷ []) sent
+    → IsScramCause x Signature (given ++ outcome_body sasl.Ok None ∷ []) sent
 no_signature_in Unanswered x given sent h = absurd h
 no_signature_in (Answered a) x given sent h = by_no_signature h.names a.server_first (ap (λ (u : List SaslBody). u ++ outcome_body sasl.Ok None ∷ []) h.given_is) refl
 no_signature_in Verified x given sent h = absurd h
@@ -75,14 +79,18 @@ no_signature_in Verified x given sent h = absurd h
 -- outcome `Ok` without a signature
 pub received_no_signature : (x : ClientEnd) → x.stage ≡ AwaitsOutcome → Received client_mechanism x (outcome_body sasl.Ok None) (Ok (Refused (ScramError Signature))) x
 received_no_signature x stage = record {
-  taken = tt; less = tt; same = tt; kept = refl; err = tt;
+  taken = tt;
+  less = tt;
+  same = tt;
+  kept = refl;
+  err = tt;
   refused = λ given sent h. no_signature_in x.client.phase x given sent (subst (λ (s : ClientStage). holds_in s x given sent) stage h);
 }
 
 refused_final_in : (p : ClientPhase) (x : ClientEnd) (text : List ℕ) (kind : ScramErrorKind) (given sent : List SaslBody)
-  → ForAnswered p (λ a. ClientAnswers sha256 64 32 x.client.user x.client.password x.client.nonce a.server_first a.client_final a.signature × IsServerFinalRefusal 32 a.signature text kind)
-  → ForAnswered p (λ a. HasAnswer x a given sent (client_init x ∷ response_body a.client_final ∷ []))
-  → IsScramCause x kind (given ++ outcome_body sasl.Ok (Some text) ∷ []) sent
+    → ForAnswered p (λ a. ClientAnswers sha256 64 32 x.client.user x.client.password x.client.nonce a.server_first a.client_final a.signature × IsServerFinalRefusal 32 a.signature text kind)
+    → ForAnswered p (λ a. HasAnswer x a given sent (client_init x ∷ response_body a.client_final ∷ []))
+    → IsScramCause x kind (given ++ outcome_body sasl.Ok (Some text) ∷ []) sent
 refused_final_in Unanswered x text kind given sent r h = absurd h
 refused_final_in (Answered a) x text kind given sent r h =
     by_outcome h.names a.server_first a.client_final a.signature text (ap (λ (u : List SaslBody). u ++ outcome_body sasl.Ok (Some text) ∷ []) h.given_is) h.sent_is r.0 r.1
@@ -90,17 +98,21 @@ refused_final_in Verified x text kind given sent r h = absurd h
 
 -- outcome `Ok` with a server final that is refused
 pub received_final_refused : (x : ClientEnd) (text : List ℕ) (kind : ScramErrorKind) → x.stage ≡ AwaitsOutcome
-  → ForAnswered x.client.phase (λ a. ClientAnswers sha256 64 32 x.client.user x.client.password x.client.nonce a.server_first a.client_final a.signature × IsServerFinalRefusal 32 a.signature text kind)
-  → Received client_mechanism x (outcome_body sasl.Ok (Some text)) (Ok (Refused (ScramError kind))) x
+    → ForAnswered x.client.phase (λ a. ClientAnswers sha256 64 32 x.client.user x.client.password x.client.nonce a.server_first a.client_final a.signature × IsServerFinalRefusal 32 a.signature text kind)
+    → Received client_mechanism x (outcome_body sasl.Ok (Some text)) (Ok (Refused (ScramError kind))) x
 received_final_refused x text kind stage r = record {
-  taken = tt; less = tt; same = tt; kept = refl; err = tt;
+  taken = tt;
+  less = tt;
+  same = tt;
+  kept = refl;
+  err = tt;
   refused = λ given sent h. refused_final_in x.client.phase x text kind given sent r (subst (λ (s : ClientStage). holds_in s x given sent) stage h);
 }
 
 passed_in : (p : ClientPhase) (x : ClientEnd) (text : List ℕ) (given sent : List SaslBody)
-  → ForAnswered p (λ a. ClientCheck sha256 64 32 x.client.user x.client.password x.client.nonce (client_first_of x.client.user x.client.nonce) a.server_first a.client_final text)
-  → ForAnswered p (λ a. HasAnswer x a given sent (client_init x ∷ response_body a.client_final ∷ []))
-  → HasPassed x (given ++ outcome_body sasl.Ok (Some text) ∷ []) sent
+    → ForAnswered p (λ a. ClientCheck sha256 64 32 x.client.user x.client.password x.client.nonce (client_first_of x.client.user x.client.nonce) a.server_first a.client_final text)
+    → ForAnswered p (λ a. HasAnswer x a given sent (client_init x ∷ response_body a.client_final ∷ []))
+    → HasPassed x (given ++ outcome_body sasl.Ok (Some text) ∷ []) sent
 passed_in Unanswered x text given sent check h = absurd h
 passed_in (Answered a) x text given sent check h = record {
   names = h.names;
@@ -119,24 +131,26 @@ less_final stage e = subst (λ (s : ClientStage). 0 < left_in s) (sym e) (omega 
 
 -- outcome `Ok` with the server final that was waited for
 pub received_final : (x : ClientEnd) (text : List ℕ) → x.stage ≡ AwaitsOutcome
-  → ForAnswered x.client.phase (λ a. ClientCheck sha256 64 32 x.client.user x.client.password x.client.nonce (client_first_of x.client.user x.client.nonce) a.server_first a.client_final text)
-  → Received client_mechanism x (outcome_body sasl.Ok (Some text)) (Ok Taken) (record { client = client_verified x.client; stage = Passed; hostname = x.hostname })
+    → ForAnswered x.client.phase (λ a. ClientCheck sha256 64 32 x.client.user x.client.password x.client.nonce (client_first_of x.client.user x.client.nonce) a.server_first a.client_final text)
+    → Received client_mechanism x (outcome_body sasl.Ok (Some text)) (Ok Taken) (record { client = client_verified x.client; stage = Passed; hostname = x.hostname })
 received_final x text stage check = record {
   taken = λ given sent h. again given sent (passed_in x.client.phase x text given sent check (subst (λ (s : ClientStage). holds_in s x given sent) stage h));
   less = less_final x.stage stage;
   same = record { user = refl; password = refl; nonce = refl; hostname = refl };
-  refused = tt; kept = tt; err = tt;
+  refused = tt;
+  kept = tt;
+  err = tt;
 }
   where
     again : (given sent : List SaslBody) → HasPassed x (given ++ outcome_body sasl.Ok (Some text) ∷ []) sent
-      → HasPassed (record { client = client_verified x.client; stage = Passed; hostname = x.hostname }) (given ++ outcome_body sasl.Ok (Some text) ∷ []) sent
+        → HasPassed (record { client = client_verified x.client; stage = Passed; hostname = x.hostname }) (given ++ outcome_body sasl.Ok (Some text) ∷ []) sent
     again given sent h = record { names = h.names; server_first = h.server_first; client_final = h.client_final; server_final = h.server_final; given_is = h.given_is; listed = h.listed; sent_is = h.sent_is; check = h.check }
 
 -- ---- the gate
 
 -- a gate over a codec with nothing read and nothing queued has the empty history
 pub client_begins : {L : Type 0} (codec : Codec L) (profile : SaslProfile) (hostname : Option (List ℕ)) → codec.input ≡ [] → codec.output ≡ []
-  → Has client_mechanism (client_start codec profile hostname) []
+    → Has client_mechanism (client_start codec profile hostname) []
 client_begins codec profile hostname input output = record {
   read = sym input;
   wrote = ap (λ (u : List ℕ). u ++ Rattle.sasl_gate.specs.Frames.sasl_header) output;
@@ -188,10 +202,10 @@ passed_same x y events s h =
 
 -- what a poll says of the whole history
 pub client_polled : {L : Type 0} (link : Ghosts L) (old : Negotiating L ClientEnd) (left : ℕ) (result : Result GatePoll NegotiationError) (new : Negotiating L ClientEnd) (left' : ℕ)
-  → Polled link client_mechanism old left result new left' → ClientPolled link old left result new left'
+    → Polled link client_mechanism old left result new left' → ClientPolled link old left result new left'
 client_polled link old left result new left' p = record {
   polled = p;
   only_sasl = λ before h. client_only_sasl new (p.events ++ before) (p.goes.grows before h);
   passed = λ e before h. passed_same old.exchange new.exchange (p.events ++ before) p.goes.kept
-    (client_passed new (p.events ++ before) (p.goes.grows before h) (subst (λ (r : Result GatePoll NegotiationError). IsPollAnswer client_mechanism p.events new left' r) e p.answer));
+      (client_passed new (p.events ++ before) (p.goes.grows before h) (subst (λ (r : Result GatePoll NegotiationError). IsPollAnswer client_mechanism p.events new left' r) e p.answer));
 }

@@ -61,20 +61,22 @@ less_in (Refused code) h = absurd h
 module _ {P : Type 0} (stored : P → List ℕ → Option StoredPassword) (x : ServerEnd P) where
   -- a body is not taken
   pub received_refused : (body : SaslBody) (code : SaslCode) → server_turn x ≡ Receive
-    → ((given sent : List SaslBody) → server_holds stored x given sent → IsRefusalCause (stored x.server.provider) x.server.nonce code (given ++ body ∷ []))
-    → Received (server_mechanism stored) x body (Ok Taken) (record x { stage = OwesRefusal code })
+      → ((given sent : List SaslBody) → server_holds stored x given sent → IsRefusalCause (stored x.server.provider) x.server.nonce code (given ++ body ∷ []))
+      → Received (server_mechanism stored) x body (Ok Taken) (record x { stage = OwesRefusal code })
   received_refused body code turn cause = record {
     taken = cause;
     less = less_in x.stage (receives x.stage turn);
     same = record { provider = refl; nonce = refl };
-    refused = tt; kept = tt; err = tt;
+    refused = tt;
+    kept = tt;
+    err = tt;
   }
 
   -- a text is not taken, or memory was wanting
   pub received_text : (body : SaslBody) (kind : ScramErrorKind) (result : Result Verdict AllocError) (new : ServerEnd P) → server_turn x ≡ Receive
-    → IsTextAnswer kind x result new
-    → (¬ IsMemory kind → (given sent : List SaslBody) → server_holds stored x given sent → IsRefusalCause (stored x.server.provider) x.server.nonce sasl.Auth (given ++ body ∷ []))
-    → Received (server_mechanism stored) x body result new
+      → IsTextAnswer kind x result new
+      → (¬ IsMemory kind → (given sent : List SaslBody) → server_holds stored x given sent → IsRefusalCause (stored x.server.provider) x.server.nonce sasl.Auth (given ++ body ∷ []))
+      → Received (server_mechanism stored) x body result new
   received_text body kind (Ok Taken) new turn answer cause =
       subst (λ (y : ServerEnd P). Received (server_mechanism stored) x body (Ok Taken) y) (sym answer.0) (received_refused body sasl.Auth turn (cause answer.1))
   received_text body kind (Ok (VerdictRefused e)) new turn answer cause = absurd answer
@@ -82,7 +84,7 @@ module _ {P : Type 0} (stored : P → List ℕ → Option StoredPassword) (x : S
 
   -- a body that no client sends
   pub received_other : (body : SaslBody) → is_of_client body ≡ false → server_turn x ≡ Receive
-    → Received (server_mechanism stored) x body (Ok Taken) (record x { stage = OwesRefusal sasl.Sys })
+      → Received (server_mechanism stored) x body (Ok Taken) (record x { stage = OwesRefusal sasl.Sys })
   received_other body other turn = received_refused body sasl.Sys turn (λ given sent h. by_other_body given body refl other refl)
 
   init_order_in : (stage : ServerStage) (i : SaslInit) (given sent : List SaslBody) → Receives (turn_in stage) → (stage ≡ AwaitsInit → ⊥) → holds_in stored stage x.server given sent → is_next given (Init i) ≡ false
@@ -92,8 +94,8 @@ module _ {P : Type 0} (stored : P → List ℕ → Option StoredPassword) (x : S
   init_order_in AwaitsResponse i given sent t ne h = init_late x.server.phase i given sent h
     where
       init_late : (p : ServerPhase) (i : SaslInit) (given sent : List SaslBody)
-        → ForChallenged p (λ c. HasChallenge (stored x.server.provider) x.server.nonce c given sent (own_mechanisms ∷ challenge_body c.server_first ∷ []))
-        → is_next given (Init i) ≡ false
+          → ForChallenged p (λ c. HasChallenge (stored x.server.provider) x.server.nonce c given sent (own_mechanisms ∷ challenge_body c.server_first ∷ []))
+          → is_next given (Init i) ≡ false
       init_late Unasked i given sent h = absurd h
       init_late (Challenged c) i given sent h = subst (λ (u : List SaslBody). is_next u (Init i) ≡ false) (sym h.given_is) refl
       init_late Proved i given sent h = absurd h
@@ -104,9 +106,9 @@ module _ {P : Type 0} (stored : P → List ℕ → Option StoredPassword) (x : S
 
   -- an init out of order
   pub received_late_init : (i : SaslInit) → server_turn x ≡ Receive → (x.stage ≡ AwaitsInit → ⊥)
-    → Received (server_mechanism stored) x (Init i) (Ok Taken) (record x { stage = OwesRefusal sasl.Auth })
+      → Received (server_mechanism stored) x (Init i) (Ok Taken) (record x { stage = OwesRefusal sasl.Auth })
   received_late_init i turn ne = received_refused (Init i) sasl.Auth turn
-    (λ given sent h. by_order given (Init i) refl refl (init_order_in x.stage i given sent (receives x.stage turn) ne h) refl)
+      (λ given sent h. by_order given (Init i) refl refl (init_order_in x.stage i given sent (receives x.stage turn) ne h) refl)
 
   response_order_in : (stage : ServerStage) (r : SaslResponse) (given sent : List SaslBody) → Receives (turn_in stage) → (stage ≡ AwaitsResponse → ⊥) → holds_in stored stage x.server given sent → is_next given (Response r) ≡ false
   response_order_in OwesMechanisms r given sent t ne h = absurd t
@@ -120,13 +122,13 @@ module _ {P : Type 0} (stored : P → List ℕ → Option StoredPassword) (x : S
 
   -- a response out of order
   pub received_early_response : (r : SaslResponse) → server_turn x ≡ Receive → (x.stage ≡ AwaitsResponse → ⊥)
-    → Received (server_mechanism stored) x (Response r) (Ok Taken) (record x { stage = OwesRefusal sasl.Auth })
+      → Received (server_mechanism stored) x (Response r) (Ok Taken) (record x { stage = OwesRefusal sasl.Auth })
   received_early_response r turn ne = received_refused (Response r) sasl.Auth turn
-    (λ given sent h. by_order given (Response r) refl refl (response_order_in x.stage r given sent (receives x.stage turn) ne h) refl)
+      (λ given sent h. by_order given (Response r) refl refl (response_order_in x.stage r given sent (receives x.stage turn) ne h) refl)
 
   -- an init of another mechanism, or without a response
   pub received_other_init : (i : SaslInit) → x.stage ≡ AwaitsInit → (i.mechanism ≢ own_mechanism) ⊎ (i.initial_response ≡ None)
-    → Received (server_mechanism stored) x (Init i) (Ok Taken) (record x { stage = OwesRefusal sasl.Auth })
+      → Received (server_mechanism stored) x (Init i) (Ok Taken) (record x { stage = OwesRefusal sasl.Auth })
   received_other_init i stage why = received_refused (Init i) sasl.Auth (ap turn_in stage) (λ given sent h. cause why given (subst (λ (s : ServerStage). holds_in stored s x.server given sent) stage h).0)
     where
       cause : (i.mechanism ≢ own_mechanism) ⊎ (i.initial_response ≡ None) → (given : List SaslBody) → given ≡ [] → IsRefusalCause (stored x.server.provider) x.server.nonce sasl.Auth (given ++ Init i ∷ [])
@@ -135,17 +137,17 @@ module _ {P : Type 0} (stored : P → List ℕ → Option StoredPassword) (x : S
 
   -- a client first that is refused
   pub received_first : (text : List ℕ) (hostname : Option (List ℕ)) (kind : ScramErrorKind) (result : Result Verdict AllocError) (new : ServerEnd P) → x.stage ≡ AwaitsInit
-    → IsClientFirstRefusal (stored x.server.provider) text kind → IsTextAnswer kind x result new
-    → Received (server_mechanism stored) x (init_body own_mechanism (Some text) hostname) result new
+      → IsClientFirstRefusal (stored x.server.provider) text kind → IsTextAnswer kind x result new
+      → Received (server_mechanism stored) x (init_body own_mechanism (Some text) hostname) result new
   received_first text hostname kind result new stage r answer = received_text (init_body own_mechanism (Some text) hostname) kind result new (ap turn_in stage) answer
-    (λ other given sent h. let k : (given ≡ []) × (sent ≡ own_mechanisms ∷ []) = subst (λ (s : ServerStage). holds_in stored s x.server given sent) stage h in
+      (λ other given sent h. let k : (given ≡ []) × (sent ≡ own_mechanisms ∷ []) = subst (λ (s : ServerStage). holds_in stored s x.server given sent) stage h in
       by_client_first text hostname kind (ap (λ (u : List SaslBody). u ++ init_body own_mechanism (Some text) hostname ∷ []) k.0) other r refl)
 
   final_in : (p : ServerPhase) (r : SaslResponse) (kind : ScramErrorKind) (given sent : List SaslBody) → ¬ IsMemory kind
-    → ForChallenged p (λ c. (keys : StoredPassword) × (answers : ServerAnswers (stored x.server.provider) x.server.nonce c.client_first c.user c.nonce c.server_first keys)
+      → ForChallenged p (λ c. (keys : StoredPassword) × (answers : ServerAnswers (stored x.server.provider) x.server.nonce c.client_first c.user c.nonce c.server_first keys)
       × IsClientFinalRefusal sha256 64 32 keys.stored_key answers.header answers.bare c.server_first c.nonce r.response kind)
-    → ForChallenged p (λ c. HasChallenge (stored x.server.provider) x.server.nonce c given sent (own_mechanisms ∷ challenge_body c.server_first ∷ []))
-    → IsRefusalCause (stored x.server.provider) x.server.nonce sasl.Auth (given ++ Response r ∷ [])
+      → ForChallenged p (λ c. HasChallenge (stored x.server.provider) x.server.nonce c given sent (own_mechanisms ∷ challenge_body c.server_first ∷ []))
+      → IsRefusalCause (stored x.server.provider) x.server.nonce sasl.Auth (given ++ Response r ∷ [])
   final_in Unasked r kind given sent other why h = absurd h
   final_in (Challenged c) r kind given sent other why h =
       by_client_final c.client_first c.user c.nonce c.server_first r.response h.hostname why.0 why.1 kind (ap (λ (u : List SaslBody). u ++ Response r ∷ []) h.given_is) other why.2 refl
@@ -153,15 +155,15 @@ module _ {P : Type 0} (stored : P → List ℕ → Option StoredPassword) (x : S
 
   -- a client final that is refused
   pub received_final : (r : SaslResponse) (kind : ScramErrorKind) (result : Result Verdict AllocError) (new : ServerEnd P) → x.stage ≡ AwaitsResponse
-    → ForChallenged x.server.phase (λ c. (keys : StoredPassword) × (answers : ServerAnswers (stored x.server.provider) x.server.nonce c.client_first c.user c.nonce c.server_first keys)
+      → ForChallenged x.server.phase (λ c. (keys : StoredPassword) × (answers : ServerAnswers (stored x.server.provider) x.server.nonce c.client_first c.user c.nonce c.server_first keys)
       × IsClientFinalRefusal sha256 64 32 keys.stored_key answers.header answers.bare c.server_first c.nonce r.response kind)
-    → IsTextAnswer kind x result new → Received (server_mechanism stored) x (Response r) result new
+      → IsTextAnswer kind x result new → Received (server_mechanism stored) x (Response r) result new
   received_final r kind result new stage why answer = received_text (Response r) kind result new (ap turn_in stage) answer
-    (λ other given sent h. final_in x.server.phase r kind given sent other why (subst (λ (s : ServerStage). holds_in stored s x.server given sent) stage h))
+      (λ other given sent h. final_in x.server.phase r kind given sent other why (subst (λ (s : ServerStage). holds_in stored s x.server given sent) stage h))
 
   -- an outcome that refuses was sent
   pub sent_refusal : (code : SaslCode) → x.stage ≡ OwesRefusal code → (body : SaslBody) (given sent : List SaslBody) → server_owes x body → server_holds stored x given sent
-    → HasRefused (stored x.server.provider) x.server.nonce code given (sent ++ body ∷ [])
+      → HasRefused (stored x.server.provider) x.server.nonce code given (sent ++ body ∷ [])
   sent_refusal code stage body given sent owed held = record {
     before = sent;
     told = ap (λ (b : SaslBody). sent ++ b ∷ []) (subst (λ (s : ServerStage). owes_in s body) stage owed);
@@ -172,7 +174,7 @@ module _ {P : Type 0} (stored : P → List ℕ → Option StoredPassword) (x : S
 
 -- a gate over a codec with nothing read and nothing queued has the empty history
 pub server_begins : {L P : Type 0} (stored : P → List ℕ → Option StoredPassword) (codec : Codec L) (provider : P) (nonce : List ℕ) → codec.input ≡ [] → codec.output ≡ []
-  → Has (server_mechanism stored) (server_start codec provider nonce) []
+    → Has (server_mechanism stored) (server_start codec provider nonce) []
 server_begins stored codec provider nonce input output = record {
   read = sym input;
   wrote = ap (λ (u : List ℕ). u ++ sasl_header) output;
@@ -185,13 +187,9 @@ Passes Receive = ⊥
 Passes (Refuse code) = ⊥
 Passes Pass = ⊤
 
-module _ {L P : Type 0} (stored : P → List ℕ → Option StoredPassword) where
-  -- only SASL was written
-  pub server_only_sasl : (n : Negotiating L (ServerEnd P)) (events : List LinkEvent) → Has (server_mechanism stored) n events → IsOnlySasl (wrote_of events)
-  server_only_sasl n events h = only_sasl (server_mechanism stored) n events h
-
+module _ {P : Type 0} (stored : P → List ℕ → Option StoredPassword) where
   passed_stage : (stage : ServerStage) (s : ServerState P) (given sent : List SaslBody) → Passes (turn_in stage) → holds_in stored stage s given sent
-    → (text : List ℕ) × HasProof (stored s.provider) s.nonce text given sent (outcome_body sasl.Ok (Some text) ∷ [])
+      → (text : List ℕ) × HasProof (stored s.provider) s.nonce text given sent (outcome_body sasl.Ok (Some text) ∷ [])
   passed_stage OwesMechanisms s given sent t h = absurd t
   passed_stage AwaitsInit s given sent t h = absurd t
   passed_stage (OwesChallenge text) s given sent t h = absurd t
@@ -201,12 +199,22 @@ module _ {L P : Type 0} (stored : P → List ℕ → Option StoredPassword) wher
   passed_stage (OwesRefusal code) s given sent t h = absurd t
   passed_stage (Refused code) s given sent t h = absurd t
 
+  passed_same : (x y : ServerEnd P) (events : List LinkEvent) → ServerSame x y → HasServerPassed stored y events → HasServerPassed stored x events
+  passed_same x y events s h =
+      subst (λ (p : P). ServerPassed (stored p) x.server.nonce (wrote_of events) (read_of events)) (sym s.provider)
+      (subst (λ (u : List ℕ). ServerPassed (stored y.server.provider) u (wrote_of events) (read_of events)) (sym s.nonce) h)
+
+module _ {L P : Type 0} (stored : P → List ℕ → Option StoredPassword) where
+  -- only SASL was written
+  pub server_only_sasl : (n : Negotiating L (ServerEnd P)) (events : List LinkEvent) → Has (server_mechanism stored) n events → IsOnlySasl (wrote_of events)
+  server_only_sasl n events h = only_sasl (server_mechanism stored) n events h
+
   -- a gate that passed: the exchange is whole, and its check holds
   pub server_passed : (n : Negotiating L (ServerEnd P)) (events : List LinkEvent) → Has (server_mechanism stored) n events → IsPassed (server_mechanism stored) n → HasServerPassed stored n.exchange events
   server_passed n events h passed =
       let f : HasFrames (server_mechanism stored) n events = subst (λ (p : Phase). HasIn (server_mechanism stored) p n events) passed.phase h in
       let both : (text : List ℕ) × HasProof (stored n.exchange.server.provider) n.exchange.server.nonce text f.given f.sent (outcome_body sasl.Ok (Some text) ∷ []) =
-        passed_stage n.exchange.stage n.exchange.server f.given f.sent (subst Passes (sym passed.turn) tt) f.held in
+      passed_stage stored n.exchange.stage n.exchange.server f.given f.sent (subst Passes (sym passed.turn) tt) f.held in
       let k : HasProof (stored n.exchange.server.provider) n.exchange.server.nonce both.0 f.given f.sent (outcome_body sasl.Ok (Some both.0) ∷ []) = both.1 in
       record {
         user = k.user;
@@ -218,22 +226,17 @@ module _ {L P : Type 0} (stored : P → List ℕ → Option StoredPassword) wher
         more = [];
         rest = n.codec.input;
         wrote_is = sym (append-nil (wrote_of events)) ∙ ap (λ (u : List ℕ). wrote_of events ++ u) (sym passed.flushed) ∙ f.wrote ∙ ap said k.sent_is
-          ∙ sym (append-nil (said (own_mechanisms ∷ challenge_body k.server_first ∷ outcome_body sasl.Ok (Some both.0) ∷ [])));
+            ∙ sym (append-nil (said (own_mechanisms ∷ challenge_body k.server_first ∷ outcome_body sasl.Ok (Some both.0) ∷ [])));
         read_is = subst (λ (u : List SaslBody). Heard (read_of events) u n.codec.input) k.given_is f.heard;
         check = k.check;
       }
 
-  passed_same : (x y : ServerEnd P) (events : List LinkEvent) → ServerSame x y → HasServerPassed stored y events → HasServerPassed stored x events
-  passed_same x y events s h =
-      subst (λ (p : P). ServerPassed (stored p) x.server.nonce (wrote_of events) (read_of events)) (sym s.provider)
-      (subst (λ (u : List ℕ). ServerPassed (stored y.server.provider) u (wrote_of events) (read_of events)) (sym s.nonce) h)
-
   -- what a poll says of the whole history
   pub server_polled : (link : Ghosts L) (old : Negotiating L (ServerEnd P)) (left : ℕ) (result : Result GatePoll NegotiationError) (new : Negotiating L (ServerEnd P)) (left' : ℕ)
-    → Polled link (server_mechanism stored) old left result new left' → ServerPolled link stored old left result new left'
+      → Polled link (server_mechanism stored) old left result new left' → ServerPolled link stored old left result new left'
   server_polled link old left result new left' p = record {
     polled = p;
     only_sasl = λ before h. server_only_sasl new (p.events ++ before) (p.goes.grows before h);
-    passed = λ e before h. passed_same old.exchange new.exchange (p.events ++ before) p.goes.kept
-      (server_passed new (p.events ++ before) (p.goes.grows before h) (subst (λ (r : Result GatePoll NegotiationError). IsPollAnswer (server_mechanism stored) p.events new left' r) e p.answer));
+    passed = λ e before h. passed_same stored old.exchange new.exchange (p.events ++ before) p.goes.kept
+        (server_passed new (p.events ++ before) (p.goes.grows before h) (subst (λ (r : Result GatePoll NegotiationError). IsPollAnswer (server_mechanism stored) p.events new left' r) e p.answer));
   }

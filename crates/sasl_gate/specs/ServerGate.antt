@@ -214,7 +214,7 @@ RefusesWith code (Refuse other) = other ≡ code
 RefusesWith code Pass = ⊥
 
 refusal_in : {P : Type 0} (stored : P → List ℕ → Option StoredPassword) (stage : ServerStage) (s : ServerState P) (code : SaslCode) (given sent : List SaslBody)
-  → RefusesWith code (turn_in stage) → holds_in stored stage s given sent → HasRefused (stored s.provider) s.nonce code given sent
+    → RefusesWith code (turn_in stage) → holds_in stored stage s given sent → HasRefused (stored s.provider) s.nonce code given sent
 refusal_in stored OwesMechanisms s code given sent h held = absurd h
 refusal_in stored AwaitsInit s code given sent h held = absurd h
 refusal_in stored (OwesChallenge text) s code given sent h held = absurd h
@@ -225,7 +225,7 @@ refusal_in stored (OwesRefusal other) s code given sent h held = absurd h
 refusal_in stored (Refused other) s code given sent h held = subst (λ (c : SaslCode). HasRefused (stored s.provider) s.nonce c given sent) h held
 
 pub server_refusal : {P : Type 0} (stored : P → List ℕ → Option StoredPassword) (x : ServerEnd P) (code : SaslCode) (given sent : List SaslBody)
-  → server_turn x ≡ Refuse code → server_holds stored x given sent → server_causes stored x (refused_with code) given sent
+    → server_turn x ≡ Refuse code → server_holds stored x given sent → server_causes stored x (refused_with code) given sent
 server_refusal stored x code given sent h held =
     refusal_in stored x.stage x.server code given sent (subst (RefusesWith code) (sym h) refl) held
 

@@ -234,7 +234,10 @@ impl ClientExchange {
             ClientStage::AwaitsChallenge => {}
             _ => return Ok(Verdict::Refused(NegotiationError::IllegalState)),
         }
-        match self.client.on_server_first(alloc, challenge.challenge.as_slice()) {
+        match self
+            .client
+            .on_server_first(alloc, challenge.challenge.as_slice())
+        {
             Ok(text) => {
                 self.stage = ClientStage::OwesResponse(text);
                 Ok(Verdict::Taken)
@@ -257,13 +260,21 @@ impl ClientExchange {
             ClientStage::AwaitsOutcome => {}
             _ => return Verdict::Refused(NegotiationError::IllegalState),
         }
-        match outcome.additional_data {
+        self.on_success(outcome.additional_data)
+    }
+
+    // Takes what came with outcome `Ok`, which is to be the server final.
+    fn on_success(&mut self, payload: Option<Binary>) -> Verdict
+        requires { self.old.stage ≡ ClientStage.AwaitsOutcome }
+        ensures { Received client_mechanism self.old (outcome_body SaslCode.Ok payload) (Ok result) self.new }
+    {
+        match payload {
             Some(text) => self.on_server_final(text),
             None => Verdict::Refused(NegotiationError::ScramError(ScramErrorKind::Signature)),
         }
     }
 
-    // Takes the server final that came with outcome `Ok`.
+    // Takes the server final.
     fn on_server_final(&mut self, text: Binary) -> Verdict
         requires { self.old.stage ≡ ClientStage.AwaitsOutcome }
         ensures { Received client_mechanism self.old (outcome_body SaslCode.Ok (Some text)) (Ok result) self.new }
@@ -416,10 +427,7 @@ impl<L: Link> ClientGate<L> {
 /// Goes on until the gate has passed or failed, or can do no more now. `Passed` says that the whole exchange was read
 /// and written and its check holds (part 5, section 5.3.2; RFC 5802, section 3). A failure is answered again at each
 /// later call. `at` is the moment of the call, in milliseconds, which a negotiation does not use.
-pub fn poll_client<L: Link>(
-    gate: &mut ClientGate<L>,
-    at: u64,
-) -> Result<GatePoll, NegotiationError>
+pub fn poll_client<L: Link>(gate: &mut ClientGate<L>, at: u64) -> Result<GatePoll, NegotiationError>
     ensures { (left : ℕ) × ClientPolled L.Link gate.old (2 ^ 63) result gate.new left }
 {
     let _ = at;

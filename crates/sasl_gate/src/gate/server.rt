@@ -159,11 +159,7 @@ impl<P: ScramCredentialProvider> ServerExchange<P> {
         }
     }
 
-    fn on_response(
-        &mut self,
-        alloc: Global,
-        response: SaslResponse,
-    ) -> Result<Verdict, AllocError>
+    fn on_response(&mut self, alloc: Global, response: SaslResponse) -> Result<Verdict, AllocError>
         requires { server_turn self.old ≡ Receive }
         ensures { Received (server_mechanism P.stored) self.old (Response response) result self.new }
     {
@@ -174,7 +170,10 @@ impl<P: ScramCredentialProvider> ServerExchange<P> {
                 return Ok(Verdict::Taken);
             }
         }
-        match self.server.on_client_final(alloc, response.response.as_slice()) {
+        match self
+            .server
+            .on_client_final(alloc, response.response.as_slice())
+        {
             Ok(text) => {
                 self.stage = ServerStage::OwesOutcome(text);
                 Ok(Verdict::Taken)

@@ -8,4 +8,4 @@ returns g c =
     let answer = rw c.in-Err.ensures.same at c.refuse_text.ensures in
     let why = rw c.as_slice.ensures at c.in-Err.ensures.err in
     λ hostname. rw (← c.self.view_is)
-      (received_first g.P.ScramCredentialProvider.stored _ c.args.text hostname c.in-Err.kind _ _ (ap (λ (x : ServerEnd _). x.stage) c.self.view_is ∙ c.requires) why answer)
+    (received_first g.P.ScramCredentialProvider.stored _ c.args.text hostname c.in-Err.kind _ _ (ap (λ (x : ServerEnd _). x.stage) c.self.view_is ∙ c.requires) why answer)

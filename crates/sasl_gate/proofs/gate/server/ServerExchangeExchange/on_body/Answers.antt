@@ -13,7 +13,7 @@ returns-in-Challenge g c =
     let r = received_other g.P.ScramCredentialProvider.stored c.args.self.now (Challenge c.in-Challenge.field-0) refl c.requires in
     rw (c.in-Challenge.is, c.refuse-in-Challenge.ensures) (record { taken = r.taken; less = r.less; same = r.same; refused = tt; kept = tt; err = tt })
 
-pub returns-in-Outcome : goal.returns-in-Outcome
-returns-in-Outcome g c =
+pub returns : goal.returns
+returns g c =
     let r = received_other g.P.ScramCredentialProvider.stored c.args.self.now (Outcome c.in-Outcome.field-0) refl c.requires in
     rw (c.in-Outcome.is, c.refuse-in-Outcome.ensures) (record { taken = r.taken; less = r.less; same = r.same; refused = tt; kept = tt; err = tt })

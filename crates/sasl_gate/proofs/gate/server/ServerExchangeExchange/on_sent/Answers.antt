@@ -5,7 +5,7 @@ use Rattle.sasl_gate.proofs.gate.server.ServerExchangeExchange.on_sent.Goals.{in
 pub returns-in-OwesRefusal-clause-grows : goal.returns-in-OwesRefusal-clause-grows
 returns-in-OwesRefusal-clause-grows g c =
     elim c.match-self-5.branch [
-      in-OwesChallenge-4 w ↦ rw (← c.self.view_is, w.self-is) (sent_refusal g.P.ScramCredentialProvider.stored _ c.in-OwesRefusal.code c.in-OwesRefusal.is)
-    | in-OwesOutcome-4 w ↦ rw (← c.self.view_is, w.self-is) (sent_refusal g.P.ScramCredentialProvider.stored _ c.in-OwesRefusal.code c.in-OwesRefusal.is)
-    | in-OwesMechanisms-4 w ↦ rw (← c.self.view_is, w.self-is) (sent_refusal g.P.ScramCredentialProvider.stored _ c.in-OwesRefusal.code c.in-OwesRefusal.is)
+      | in-OwesChallenge-4 w ↦ rw (← c.self.view_is, w.self-is) (sent_refusal g.P.ScramCredentialProvider.stored _ c.in-OwesRefusal.code c.in-OwesRefusal.is)
+      | in-OwesOutcome-4 w ↦ rw (← c.self.view_is, w.self-is) (sent_refusal g.P.ScramCredentialProvider.stored _ c.in-OwesRefusal.code c.in-OwesRefusal.is)
+      | in-OwesMechanisms-4 w ↦ rw (← c.self.view_is, w.self-is) (sent_refusal g.P.ScramCredentialProvider.stored _ c.in-OwesRefusal.code c.in-OwesRefusal.is)
     ]
