@@ -1,6 +1,6 @@
 -- What the exchanges of an end say of the bytes, and what an end went through, joined.
 use Rattle.std.proofs.Common.{◌≡◌, ◌≢◌, ◌≤◌, ◌+◌, ◌^◌, ◌⊎◌, inl, inr, ℕ, List, [], ◌∷◌, ◌++◌, Option, Some, None, Result, Ok, Err, refl, sym, ap, ◌∙◌, subst, append_assoc, arith}
-use Rattle.std.specs.Prelude.{⊤}
+use Rattle.std.specs.Prelude.{OnOk}
 use Rattle.std.proofs.lemmas.List.{append-nil}
 use Rattle.std.specs.declared.alloc.AllocError.{AllocError}
 use Rattle.amqp_base.specs.declared.sasl.body.SaslBody.{SaslBody}
@@ -72,7 +72,7 @@ client_passed x rest out events h =
       read_is = subst (λ (u : List SaslBody). Heard (read_of events) u rest) c.given_is h.heard;
       listed = c.listed;
       check = c.check;
-    }, out, h.header)
+    }, (out, h.header))
 
 server_passed_in : (s : ServerStage) (x : ServerState Account) (given sent : List SaslBody) → server_turn_in s ≡ Pass → server_holds_in stored_for s x given sent
     → (text : List ℕ) × HasProof (stored_for x.provider) x.nonce text given sent (outcome_body sasl.Ok (Some text) ∷ [])
@@ -102,7 +102,7 @@ server_passed x rest out events h =
       wrote_is = h.wrote ∙ ap (λ (u : List SaslBody). said u ++ h.part) c.sent_is;
       read_is = subst (λ (u : List SaslBody). Heard (read_of events) u rest) c.given_is h.heard;
       check = c.check;
-    }, out, h.header)
+    }, (out, h.header))
 
 -- an opening writes nothing but SASL before its exchange has passed
 gated_from : (call : Call) (x : Authentication) (events : List LinkEvent) → MadeFor call x → IsGuarded peer_mechanism x events → IsGatedBy call (wrote_of events) (read_of events)
@@ -193,10 +193,13 @@ has_polled Ended o name at h p = record { call = p.call; error = p.error; made =
 
 -- ---- an end that goes on
 
+settled_total : (events : List LinkEvent) (left total : ℕ) → left + reads_in events ≡ total → left ≡ 0 → reads_in events ≡ total
+settled_total events left total n p = omega (arith, n, p)
+
 settled_in : (events : List LinkEvent) (left : ℕ) → left + reads_in events ≡ 2 ^ 63 → IsHeldUp events left → IsSettled events
 settled_in events left n (inl p) = inl p
 settled_in events left n (inr (inl p)) = inr (inl p)
-settled_in events left n (inr (inr p)) = inr (inr (ap (λ (u : ℕ). u + reads_in events) (sym p) ∙ n))
+settled_in events left n (inr (inr p)) = inr (inr (settled_total events left (2 ^ 63) n p))
 
 few_in : (events : List LinkEvent) (left total : ℕ) → left + reads_in events ≡ total → reads_in events ≤ total
 few_in events left total n = omega (arith, n)
@@ -251,7 +254,7 @@ advanced_ends link old o e left u r =
       events = Replied (open_failed old.name (Negotiation e)) ∷ at_link r.events;
       calm = made_in-at r.events;
       went = subst (λ (es : List LinkEvent). Went link (link_of old) es o.negotiation.codec.link) (sym (link_in-at r.events)) r.moves.went;
-      answers = ap (λ (u : List NamedReply). old.replies ++ u ++ open_failed old.name (Negotiation e) ∷ []) (sym (replied_in-at r.events));
+      answers = ap (λ (u : List NamedReply). old.replies ++ (u ++ open_failed old.name (Negotiation e) ∷ [])) (sym (replied_in-at r.events));
       few = subst (λ (es : List LinkEvent). reads_in es ≤ 2 ^ 63) (sym (link_in-at r.events)) (few_in r.events left (2 ^ 63) r.moves.counted);
       kind = refl;
       settled = λ u. absurd (subst IsUnderWay r.comes.0 u);
@@ -260,6 +263,10 @@ advanced_ends link old o e left u r =
     }
 
 -- ---- steps
+
+pub on_ok : {A E : Type 0} {P Q : Type 0} (r : Result A E) → (P → Q) → OnOk r P → OnOk r Q
+on_ok (Ok a) f p = f p
+on_ok (Err e) f p = tt
 
 -- nothing to do at a poll
 pub stepped_idle : {L : Type 0} (link : Ghosts L) (old : Peering L) → (IsUnderWay old.opening.stage → ⊥) → (at : ℕ) → Stepped link old (Polled at) old
@@ -303,7 +310,7 @@ begun_has o name at call x h made held n =
       opening = subst (λ (p : Phase). NegotiationHasIn peer_mechanism p (begun o x).negotiation (link_in h)) (sym n.phase)
           (record {
             read = ap read_of n.link ∙ sym n.input;
-            wrote = ap (λ (u : List LinkEvent). wrote_of u ++ o.negotiation.codec.output ++ sasl_header) n.link ∙ ap (λ (u : List ℕ). u ++ sasl_header) n.output;
+            wrote = ap (λ (u : List LinkEvent). wrote_of u ++ (o.negotiation.codec.output ++ sasl_header)) n.link ∙ ap (λ (u : List ℕ). u ++ sasl_header) n.output;
             held = held;
           });
     }

@@ -8,7 +8,7 @@ use Rattle.sasl_gate.specs.ClientGate.{ClientPassed}
 use Rattle.sasl_gate.specs.ServerGate.{ServerPassed}
 use Rattle.sasl_gate.specs.declared.gate.negotiation.Phase.{Phase}
 use Rattle.sasl_gate.specs.declared.gate.negotiation.Phase.TheVariants.{Header as HeaderPhase, Frames, Failed}
-use Rattle.sasl_gate.specs.Negotiation.{Negotiating, HasIn as NegotiationHasIn}
+use Rattle.sasl_gate.specs.Negotiation.{Negotiating as Negotiated, HasIn as NegotiationHasIn}
 use Rattle.sasl_gate.proofs.Negotiations.{heard_more}
 use Rattle.amqp_peer.specs.declared.authentication.Authentication.{Authentication}
 use Rattle.amqp_peer.specs.declared.call.AcceptSasl.TheVariants as accept
@@ -54,13 +54,13 @@ pub link_of-fresh : {L : Type 0} (link : L) (kind : PeerKind) → link_of (fresh
 link_of-fresh link kind = refl
 
 -- neither is the link that it holds
-negotiation_with : {L : Type 0} (p : Phase) (n : Negotiating L Authentication) (w : L) (events : List LinkEvent) → NegotiationHasIn peer_mechanism p n events
+negotiation_with : {L : Type 0} (p : Phase) (n : Negotiated L Authentication) (w : L) (events : List LinkEvent) → NegotiationHasIn peer_mechanism p n events
     → NegotiationHasIn peer_mechanism p (record n { codec = record n.codec { link = w } }) events
 negotiation_with HeaderPhase n w events h = record { read = h.read; wrote = h.wrote; held = h.held }
 negotiation_with Frames n w events h = record { given = h.given; sent = h.sent; heard = h.heard; wrote = h.wrote; held = h.held }
 negotiation_with (Failed e) n w events h = record { sent = h.sent; wrote = h.wrote; cause = h.cause }
 
-at_with : {L : Type 0} (s : Stage) (n : Negotiating L Authentication) (w : L) (events : List LinkEvent) → HasAt peer_mechanism s n events
+at_with : {L : Type 0} (s : Stage) (n : Negotiated L Authentication) (w : L) (events : List LinkEvent) → HasAt peer_mechanism s n events
     → HasAt peer_mechanism s (record n { codec = record n.codec { link = w } }) events
 at_with Idle n w events h = absurd h
 at_with Negotiating n w events h = negotiation_with n.phase n w events h
@@ -177,7 +177,7 @@ causes_in Header o n h p = causes_called o n h p
 causes_in Exchanged o n h p = causes_called o n h p
 causes_in Ended o n h p =
     subst (λ (cs : List (ℕ × Call)). HaveCauses cs (link_in h) (replied_in h)) (sym p.made)
-    (subst (λ (rs : List NamedReply). HaveCauses ((n, p.call) ∷ []) (link_in h) rs) (sym p.replied) (tt, p.cause, tt))
+    (subst (λ (rs : List NamedReply). HaveCauses ((n, p.call) ∷ []) (link_in h) rs) (sym p.replied) (tt, (p.cause, tt)))
 
 pub causes_law : {L : Type 0} (p : Peering L) (h : List Local) → Has p h → HaveCauses (made_in h) (link_in h) (replied_in h)
 causes_law p h x = causes_in p.opening.stage p.opening p.name h x
