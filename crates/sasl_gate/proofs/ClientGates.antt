@@ -4,7 +4,7 @@ use Rattle.std.proofs.lemmas.List.{append-nil}
 use Rattle.std.specs.Prelude.{⊤}
 use Rattle.std.specs.declared.alloc.AllocError.{AllocError}
 use Rattle.amqp_base.specs.declared.sasl.body.SaslBody.{SaslBody}
-use Rattle.amqp_base.specs.declared.sasl.body.SaslBody.TheVariants.{Mechanisms, Init, Challenge, Response, Outcome}
+use Rattle.amqp_base.specs.declared.sasl.body.SaslBody.TheVariants.{Challenge, Outcome}
 use Rattle.amqp_base.specs.declared.sasl.body.SaslChallenge.{SaslChallenge}
 use Rattle.amqp_base.specs.declared.sasl.body.SaslOutcome.{SaslOutcome}
 use Rattle.amqp_base.specs.declared.sasl.body.SaslCode.{SaslCode}
@@ -25,18 +25,17 @@ use Rattle.sasl_gate.specs.declared.gate.exchange.Verdict.TheVariants.{Taken, Re
 use Rattle.sasl_gate.specs.declared.gate.negotiation.GatePoll.{GatePoll}
 use Rattle.sasl_gate.specs.declared.gate.negotiation.GatePoll.TheVariants as poll
 use Rattle.sasl_gate.specs.declared.gate.negotiation.Phase.{Phase}
-use Rattle.sasl_gate.specs.declared.gate.negotiation.Phase.TheVariants.{Frames}
 use Rattle.sasl_gate.specs.declared.scram.client.ClientPhase.{ClientPhase}
 use Rattle.sasl_gate.specs.declared.scram.client.ClientPhase.TheVariants.{Unanswered, Answered, Verified}
 use Rattle.sasl_gate.specs.declared.scram.error.ScramErrorKind.{ScramErrorKind}
 use Rattle.sasl_gate.specs.declared.scram.error.ScramErrorKind.TheVariants.{Signature}
 use Rattle.sasl_gate.specs.Check.{ClientAnswers, ClientCheck}
 use Rattle.sasl_gate.specs.ClientGate.{ClientEnd, turn_in, left_in, client_init, client_causes, holds_in, IsTextAnswer, HasMechanisms, HasAnswer, HasPassed, ClientSame, IsScramCause, by_challenge, by_outcome, by_no_signature, client_mechanism, client_start, ClientPassed, HasClientPassed, ClientPolled}
-use Rattle.sasl_gate.specs.Frames.{Heard, said, sasl_header}
+use Rattle.sasl_gate.specs.Frames.{Heard, said}
 use Rattle.sasl_gate.specs.Negotiation.{Negotiating, HasFrames, HasIn, Has, IsPassed, IsPollAnswer, Polled}
-use Rattle.sasl_gate.specs.Refusals.{IsMemory, IsServerFirstRefusal, IsServerFinalRefusal}
+use Rattle.sasl_gate.specs.Refusals.{IsServerFirstRefusal, IsServerFinalRefusal}
 use Rattle.sasl_gate.specs.ScramBodies.{IsOnlySasl, outcome_body, response_body, Received}
-use Rattle.sasl_gate.specs.States.{ClientState, ForAnswered, client_verified}
+use Rattle.sasl_gate.specs.States.{ForAnswered, client_verified}
 use Rattle.sasl_gate.specs.Texts.{client_first_of}
 use Rattle.sasl_gate.proofs.Gates.{only_sasl}
 

@@ -1,11 +1,9 @@
 -- What every gate with SCRAM-SHA-256 has in common.
-use Rattle.std.proofs.Common.{◌≡◌, List, [], ◌++◌, sym, ap, ◌∙◌}
+use Rattle.std.proofs.Common.{List, []}
 use Rattle.amqp_wire.specs.Events.{LinkEvent, wrote_of}
 use Rattle.sasl_gate.specs.declared.gate.exchange.Exchange.{Ghosts as Mechanism}
 use Rattle.sasl_gate.specs.declared.gate.negotiation.Phase.{Phase}
 use Rattle.sasl_gate.specs.declared.gate.negotiation.Phase.TheVariants.{Header, Frames, Failed}
-use Rattle.sasl_gate.specs.declared.scram.error.ScramErrorKind.{ScramErrorKind}
-use Rattle.sasl_gate.specs.declared.scram.error.ScramErrorKind.TheVariants.{Memory, TextNotAllowed, Malformed, NonceMismatch, Iterations, Base64, Signature, UserUnknown, ProofMismatch}
 use Rattle.sasl_gate.specs.Negotiation.{Negotiating, HasIn, Has}
 use Rattle.sasl_gate.specs.ScramBodies.{IsOnlySasl}
 

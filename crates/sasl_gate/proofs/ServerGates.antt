@@ -1,10 +1,10 @@
 -- The listener's gate: what it wrote, and what it passes on.
-use Rattle.std.proofs.Common.{◌≡◌, ◌≢◌, ◌<◌, ◌⊎◌, inl, inr, arith, ℕ, Bool, true, false, List, [], ◌∷◌, ◌++◌, Option, Some, None, Result, Ok, Err, refl, sym, ap, ◌∙◌, subst}
+use Rattle.std.proofs.Common.{◌≡◌, ◌≢◌, ◌<◌, ◌⊎◌, inl, inr, arith, ℕ, false, List, [], ◌∷◌, ◌++◌, Option, Some, None, Result, Ok, Err, refl, sym, ap, ◌∙◌, subst}
 use Rattle.std.proofs.lemmas.List.{append-nil}
 use Rattle.std.specs.Prelude.{⊤}
 use Rattle.std.specs.declared.alloc.AllocError.{AllocError}
 use Rattle.amqp_base.specs.declared.sasl.body.SaslBody.{SaslBody}
-use Rattle.amqp_base.specs.declared.sasl.body.SaslBody.TheVariants.{Mechanisms, Init, Challenge, Response, Outcome}
+use Rattle.amqp_base.specs.declared.sasl.body.SaslBody.TheVariants.{Init, Response}
 use Rattle.amqp_base.specs.declared.sasl.body.SaslInit.{SaslInit}
 use Rattle.amqp_base.specs.declared.sasl.body.SaslResponse.{SaslResponse}
 use Rattle.amqp_base.specs.declared.sasl.body.SaslCode.{SaslCode}

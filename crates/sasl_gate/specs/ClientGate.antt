@@ -3,7 +3,7 @@ use Rattle.std.specs.Prelude.{◌≡◌, ◌≢◌, ◌++◌, ◌⊎◌, ℕ, Bo
 use Rattle.std.specs.declared.alloc.AllocError.{AllocError}
 use Rattle.std.proofs.Common.{refl, sym, subst, ◌∙◌}
 use Rattle.amqp_base.specs.declared.sasl.body.SaslBody.{SaslBody}
-use Rattle.amqp_base.specs.declared.sasl.body.SaslBody.TheVariants.{Mechanisms, Init, Challenge, Response, Outcome}
+use Rattle.amqp_base.specs.declared.sasl.body.SaslBody.TheVariants.{Mechanisms, Challenge, Outcome}
 use Rattle.amqp_base.specs.declared.sasl.body.SaslCode.{SaslCode}
 use Rattle.amqp_base.specs.declared.sasl.body.SaslCode.TheVariants as sasl
 use Rattle.amqp_wire.specs.declared.link.Link.{Ghosts}
@@ -26,7 +26,7 @@ use Rattle.sasl_gate.specs.declared.gate.negotiation.GatePoll.TheVariants as pol
 use Rattle.sasl_gate.specs.declared.gate.negotiation.Phase.TheVariants.{Header}
 use Rattle.sasl_gate.specs.declared.scram.client.ClientAnswer.{ClientAnswer}
 use Rattle.sasl_gate.specs.declared.scram.client.ClientPhase.{ClientPhase}
-use Rattle.sasl_gate.specs.declared.scram.client.ClientPhase.TheVariants.{Unanswered, Answered, Verified}
+use Rattle.sasl_gate.specs.declared.scram.client.ClientPhase.TheVariants.{Unanswered}
 use Rattle.sasl_gate.specs.declared.scram.error.ScramErrorKind.{ScramErrorKind}
 use Rattle.sasl_gate.specs.declared.scram.error.ScramErrorKind.TheVariants.{Signature, TextNotAllowed}
 use Rattle.sasl_gate.specs.Check.{ClientAnswers, ClientCheck}

@@ -4,7 +4,6 @@ use Rattle.std.specs.declared.alloc.AllocError.{AllocError}
 use Rattle.amqp_base.specs.declared.sasl.body.SaslBody.{SaslBody}
 use Rattle.amqp_base.specs.declared.sasl.body.SaslBody.TheVariants.{Mechanisms, Init, Challenge, Response, Outcome}
 use Rattle.amqp_base.specs.declared.sasl.body.SaslCode.{SaslCode}
-use Rattle.amqp_base.specs.declared.sasl.body.SaslCode.TheVariants as sasl
 use Rattle.sasl_gate.specs.declared.gate.exchange.Exchange.{Ghosts as Mechanism}
 use Rattle.sasl_gate.specs.declared.gate.exchange.Verdict.{Verdict}
 use Rattle.sasl_gate.specs.Exchange.{OnTaken, OnRefused}

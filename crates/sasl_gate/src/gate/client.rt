@@ -1,10 +1,10 @@
 //! The client's end of a SASL negotiation with SCRAM-SHA-256 (OASIS AMQP 1.0, part 5, section 5.3; RFC 7677).
-ghost use Rattle.std.specs.Prelude.{◌≡◌, ◌^◌, ◌↔◌, ℕ, List, Option, Some, Ok, Contains, IsTrue, IfOk, IfErr, OnOk};
+ghost use Rattle.std.specs.Prelude.{◌≡◌, ◌^◌, ◌↔◌, ℕ, Option, Some, Ok, Contains, IsTrue, IfOk, IfErr, OnOk};
 ghost use Rattle.std.specs.Borrow.{Lends, sem};
 ghost use Rattle.amqp_base.specs.declared.sasl.body.SaslBody.TheVariants.{Mechanisms, Challenge, Outcome};
 ghost use Rattle.sasl_gate.specs.declared.gate.exchange.Turn.TheVariants.{Receive};
 ghost use Rattle.sasl_gate.specs.ClientGate.{username_of, password_of, nonce_of, ClientEnd, client_turn, client_left, client_owes, client_holds, client_causes, client_init, ClientSame, client_mechanism, client_refusal, client_same_self, client_same_then, client_begun, client_start, IsAllowedProfile, IsStartRefusal, IsTextAnswer, ClientPolled};
-ghost use Rattle.sasl_gate.specs.Negotiation.{IsPassed, Polled};
+ghost use Rattle.sasl_gate.specs.Negotiation.{IsPassed};
 ghost use Rattle.sasl_gate.specs.Profile.{IsNonce};
 ghost use Rattle.sasl_gate.specs.ScramBodies.{own_mechanism, outcome_body, Received};
 

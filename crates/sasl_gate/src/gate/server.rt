@@ -1,5 +1,5 @@
 //! The listener's end of a SASL negotiation with SCRAM-SHA-256 (OASIS AMQP 1.0, part 5, section 5.3; RFC 7677).
-ghost use Rattle.std.specs.Prelude.{◌≡◌, ◌≢◌, ◌⊎◌, ◌^◌, ℕ, List, [], ◌∷◌, Option, Some, None, Ok, IfOk, IfErr, IfSome, IfNone};
+ghost use Rattle.std.specs.Prelude.{◌≡◌, ◌≢◌, ◌⊎◌, ◌^◌, ℕ, List, Option, Some, None, Ok, IfOk, IfErr, IfSome, IfNone};
 ghost use Rattle.std.specs.Borrow.{Lends, sem};
 ghost use Rattle.amqp_base.specs.declared.sasl.body.SaslBody.TheVariants.{Init, Response};
 ghost use Rattle.sasl_gate.specs.declared.gate.exchange.Turn.TheVariants.{Receive};

@@ -1,5 +1,3 @@
-use Rattle.std.proofs.Common.{sym, ap, ◌∙◌}
-use Rattle.sasl_gate.specs.ClientGate.{ClientEnd}
 use Rattle.sasl_gate.proofs.ClientGates.{received_challenge}
 use Rattle.sasl_gate.proofs.gate.client.ClientExchange.on_challenge.Goals as goal
 

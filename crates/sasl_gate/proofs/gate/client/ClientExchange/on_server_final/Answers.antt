@@ -1,4 +1,4 @@
-use Rattle.std.proofs.Common.{sym, ap, ◌∙◌}
+use Rattle.std.proofs.Common.{ap, ◌∙◌}
 use Rattle.sasl_gate.specs.ClientGate.{ClientEnd}
 use Rattle.sasl_gate.proofs.ClientGates.{received_final, received_final_refused}
 use Rattle.sasl_gate.proofs.gate.client.ClientExchange.on_server_final.Goals as goal

@@ -1,4 +1,4 @@
-use Rattle.std.proofs.Common.{ap, sym, ◌∙◌}
+use Rattle.std.proofs.Common.{ap, ◌∙◌}
 use Rattle.sasl_gate.specs.ServerGate.{ServerEnd}
 use Rattle.sasl_gate.proofs.ServerGates.{received_first}
 use Rattle.sasl_gate.proofs.gate.server.ServerExchange.on_client_first.Goals as goal

@@ -1,5 +1,3 @@
-use Rattle.std.proofs.Common.{ap, sym, ◌∙◌}
-use Rattle.sasl_gate.specs.ServerGate.{ServerEnd}
 use Rattle.sasl_gate.proofs.ServerGates.{received_late_init, received_other_init}
 use Rattle.sasl_gate.proofs.gate.server.ServerExchange.on_init.Goals as goal
 

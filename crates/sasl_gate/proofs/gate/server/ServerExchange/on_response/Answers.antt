@@ -1,5 +1,3 @@
-use Rattle.std.proofs.Common.{ap, sym, ◌∙◌, subst}
-use Rattle.sasl_gate.specs.ServerGate.{ServerEnd}
 use Rattle.sasl_gate.proofs.ServerGates.{received_early_response, received_final}
 use Rattle.sasl_gate.proofs.gate.server.ServerExchange.on_response.Goals as goal
 
