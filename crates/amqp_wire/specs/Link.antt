@@ -1,5 +1,5 @@
 -- What one call of a link does.
-use Rattle.std.specs.Prelude.{◌≡◌, ◌<◌, ◌≤◌, ◌⊎◌, ◌^◌, ◌-◌, List, ℕ, [], ◌++◌, Option, Some, None, length, take, ⊤}
+use Rattle.std.specs.Prelude.{◌≡◌, ◌<◌, ◌≤◌, ◌⊎◌, ◌^◌, ◌-◌, List, ℕ, Option, length, take, ⊤}
 use Rattle.list_laws.specs.Told.{Loses, Gains, IsEmptyIfTold}
 use Rattle.amqp_wire.specs.declared.link.LinkRead.{LinkRead}
 use Rattle.amqp_wire.specs.declared.link.LinkRead.TheVariants.{Bytes, Empty, End, Failed as FailedRead}

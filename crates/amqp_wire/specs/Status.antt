@@ -1,5 +1,5 @@
 -- How a program ends.
-use Rattle.std.specs.Prelude.{ℕ}
+use Rattle.std.specs.Prelude.{ℕ, List, ◌++◌, codes, decimal}
 use Rattle.amqp_wire.specs.declared.status.Status.{Status}
 use Rattle.amqp_wire.specs.declared.status.Status.TheVariants.{Done, Usage, BadScript, BadStep, Memory, ReadFault, WriteFault, TooLong}
 
@@ -13,3 +13,14 @@ exit_code_of Memory = 5
 exit_code_of ReadFault = 6
 exit_code_of WriteFault = 7
 exit_code_of TooLong = 8
+
+-- the line for standard error
+abbrev pub line_of : Status → List ℕ
+line_of Done = codes "done"
+line_of Usage = codes "usage"
+line_of (BadScript line) = codes "bad script " ++ decimal line
+line_of (BadStep index) = codes "bad step " ++ decimal index
+line_of Memory = codes "no memory"
+line_of ReadFault = codes "read fault"
+line_of WriteFault = codes "write fault"
+line_of TooLong = codes "too long"

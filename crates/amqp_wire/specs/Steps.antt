@@ -1,5 +1,5 @@
 -- What a link went through in one call.
-use Rattle.std.specs.Prelude.{◌≡◌, ◌<◌, ◌≤◌, ◌⊎◌, ◌^◌, ◌-◌, ℕ, List, [], ◌++◌, length, Option, Some, None, Result, Ok, Err}
+use Rattle.std.specs.Prelude.{◌≡◌, ◌<◌, ◌≤◌, ℕ, List, [], ◌++◌, length, Option, Some, None, Result, Ok, Err}
 use Rattle.list_laws.specs.Told.{Loses, Gains, IsEmptyIfTold}
 use Rattle.amqp_wire.specs.Link.{Rose}
 use Rattle.amqp_wire.specs.declared.link.Link.{Ghosts}

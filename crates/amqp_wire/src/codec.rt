@@ -1,5 +1,5 @@
 //! A link with what was read of it and what is to be written.
-ghost use Rattle.std.specs.Prelude.{◌≡◌, ◌<◌, ◌≤◌, ◌==◌, ◌+◌, ◌++◌, ◌^◌, [], length, drop, min, OnOk, OnErr};
+ghost use Rattle.std.specs.Prelude.{◌≡◌, ◌<◌, ◌≤◌, ◌↔◌, ◌+◌, ◌++◌, ◌^◌, [], length, drop, min, IsTrue, OnOk, OnErr};
 ghost use Rattle.std.specs.Borrow.{Lends, sem};
 ghost use Rattle.amqp_wire.specs.contracts.codec.FramedCodec.{the_row};
 ghost use Rattle.amqp_wire.specs.Frame.{frame_of};
@@ -70,7 +70,7 @@ impl<L: Link> FramedCodec<L> {
 
     /// Whether nothing is left to be written.
     pub fn is_flushed(&self) -> bool
-        ensures { result ≡ (length self.now.output == 0) }
+        ensures { IsTrue result ↔ (self.now.output ≡ []) }
     {
         self.output.is_empty()
     }

@@ -12,3 +12,5 @@ pub mod memory;
 pub mod pipe;
 pub mod source;
 pub mod status;
+#[cfg(test)]
+mod tests;

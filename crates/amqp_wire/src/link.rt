@@ -1,5 +1,5 @@
 //! A stream of bytes in both directions, as the transport sees it.
-ghost use Rattle.std.specs.Prelude.{◌≡◌, ◌<◌, ◌≤◌, List, ℕ, Option, length};
+ghost use Rattle.std.specs.Prelude.{◌≡◌, List, ℕ, Option};
 ghost use Rattle.amqp_wire.specs.Link.{Reads, Writes, HasCause, IsFailedRead, IsFailedWrite};
 ghost use Rattle.amqp_wire.specs.declared.link.LinkRead.{LinkRead};
 ghost use Rattle.amqp_wire.specs.declared.link.LinkWrite.{LinkWrite};

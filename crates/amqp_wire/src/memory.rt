@@ -53,7 +53,7 @@ impl Source for MemorySource {
         ensures cause { HasCause self.old.failures.faults self.new.failures.faults (result ≡ SourceRead.Failed) }
         ensures failed { result ≡ SourceRead.Failed ↔ fails_next self.old.failures ≡ true }
         ensures most { (n : ℕ) → result ≡ SourceRead.Bytes n → n ≡ min (length buf.old) (length self.old.left) }
-        ensures end { result ≡ SourceRead.End → (self.old.left ≡ []) × 0 < length buf.old }
+        ensures end { result ≡ SourceRead.End ↔ (fails_next self.old.failures ≡ false) × (self.old.left ≡ []) × 0 < length buf.old }
         ensures counted { self.new.failures ≡ after_call (fails_next self.old.failures) self.old.failures }
     {
         if self.failures.next_fails() {

@@ -1,5 +1,6 @@
 //! A link in memory.
-ghost use Rattle.std.specs.Prelude.{◌≡◌, ◌+◌, ◌-◌, ◌≤◌, List, ℕ, [], ◌∷◌, ◌++◌, length, drop, Some, None, OnOk, OnErr, min};
+ghost use Rattle.std.specs.Prelude.{◌≡◌, ◌+◌, ◌≤◌, ℕ, [], ◌++◌, length, drop, min, Some, OnOk, OnErr};
+ghost use Rattle.amqp_wire.specs.Link.{Reads, Writes, HasCause, IsFailedRead, IsFailedWrite};
 
 use crate::link::{Link, LinkRead, LinkWrite};
 use std::alloc::{AllocError, Global};
@@ -87,7 +88,14 @@ impl Link for Pipe {
 
     ghost faults = { λ _. 0 };
 
-    fn read(&mut self, buf: &mut [u8]) -> LinkRead {
+    fn read(&mut self, buf: &mut [u8]) -> LinkRead
+        ensures bytes { Reads (Some self.old.input) (Some self.new.input) (Some self.old.input) result buf.new }
+        ensures kept { Some self.new.output ≡ Some self.old.output }
+        ensures mark { self.new.mark ≡ self.old.mark }
+        ensures end { result ≡ LinkRead.End → ⊥ }
+        ensures cause { HasCause 0 0 (IsFailedRead result) }
+        ensures most { (n : ℕ) → result ≡ LinkRead.Bytes n → n ≡ min (length buf.old) (length self.old.input) }
+    {
         let count = buf.len().min(self.input.len() - self.front);
         if count == 0 {
             return LinkRead::Empty;
@@ -97,7 +105,15 @@ impl Link for Pipe {
         LinkRead::Bytes(count)
     }
 
-    fn write(&mut self, piece: &[u8]) -> LinkWrite {
+    fn write(&mut self, piece: &[u8]) -> LinkWrite
+        ensures bytes { Writes (Some self.old.output) (Some self.new.output) result piece.now }
+        ensures kept { Some self.new.input ≡ Some self.old.input }
+        ensures ready { Some self.new.input ≡ Some self.old.input }
+        ensures mark { self.new.mark ≡ self.old.mark }
+        ensures full { result ≡ LinkWrite.Full → ⊥ }
+        ensures cause { HasCause 0 0 (IsFailedWrite result) }
+        ensures whole { (n : ℕ) → result ≡ LinkWrite.Took n → n ≡ length piece.now }
+    {
         match self.output.extend_from_slice(piece) {
             Ok(()) => LinkWrite::Took(piece.len()),
             Err(_) => LinkWrite::Memory,

@@ -1,5 +1,5 @@
 //! Where a text comes from, and where one goes.
-ghost use Rattle.std.specs.Prelude.{◌≡◌, ◌<◌, ◌≤◌, List, ℕ, Option, length};
+ghost use Rattle.std.specs.Prelude.{◌≡◌, List, ℕ, Option};
 ghost use Rattle.amqp_wire.specs.Link.{HasCause};
 ghost use Rattle.amqp_wire.specs.Source.{SourceReads, SinkWrites};
 

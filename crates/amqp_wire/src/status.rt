@@ -45,6 +45,11 @@ impl Status {
 
 /// The line for standard error.
 impl fmt::Display for Status {
+    ghost use Rattle.std.specs.Prelude.{Some};
+    ghost use Rattle.amqp_wire.specs.Status.{line_of};
+
+    ghost output = { λ s. Some (line_of s) };
+
     fn fmt<W: fmt::Write>(&self, f: &mut fmt::Formatter<W>) -> fmt::Result {
         match *self {
             Status::Done => f.write_str("done"),

@@ -1,5 +1,5 @@
 //! Laws of a stream of bytes whose content may be told.
-ghost use Rattle.std.specs.Prelude.{◌≡◌, List, ℕ, [], ◌++◌, Option};
+ghost use Rattle.std.specs.Prelude.{List, ℕ, [], ◌++◌, Option};
 ghost use Rattle.list_laws.specs.Told.{Loses, Gains};
 
 /// A stream that is as it was has lost no bytes.

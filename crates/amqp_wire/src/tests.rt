@@ -1,0 +1,156 @@
+use crate::codec::{Filled, FramedCodec};
+use crate::faulty_pipe::FaultyPipe;
+use crate::frame::{Front, front_of};
+use crate::link::{Held, Link, LinkRead, LinkWrite, Stop};
+use crate::memory::{MemorySink, MemorySource};
+use crate::pipe::Pipe;
+use crate::source::{Sink, SinkWrite, Source, SourceRead};
+use crate::status::Status;
+use std::test::Fail;
+
+/// A read through the trait, as generic callers make it.
+fn read_some<S: Source>(source: &mut S, buf: &mut [u8]) -> SourceRead {
+    source.read(buf)
+}
+
+/// A write through the trait, as generic callers make it.
+fn write_some<K: Sink>(sink: &mut K, piece: &[u8]) -> SinkWrite {
+    sink.write(piece)
+}
+
+#[test]
+fn source_fails_at_its_second_read(rt: HostRuntime) -> Result<(), Fail> {
+    let mut source = MemorySource::new(rt.alloc(), b"abc", &[1])?;
+    let mut buf = [0u8; 2];
+    let answers = [
+        SourceRead::Bytes(2),
+        SourceRead::Failed,
+        SourceRead::Bytes(1),
+        SourceRead::End,
+    ];
+    for want in answers {
+        assert_eq!(rt; read_some(&mut source, &mut buf), want);
+    }
+    assert_eq!(rt; buf.as_slice(), b"cb".as_slice());
+    Ok(())
+}
+
+#[test]
+fn sink_fails_at_its_first_write(rt: HostRuntime) -> Result<(), Fail> {
+    let mut sink = MemorySink::new(rt.alloc(), &[0])?;
+    assert_eq!(rt; write_some(&mut sink, b"ab"), SinkWrite::Failed);
+    assert_eq!(rt; write_some(&mut sink, b"cd"), SinkWrite::Took(2));
+    assert_eq!(rt; sink.written(), b"cd".as_slice());
+    Ok(())
+}
+
+#[test]
+fn pipe_moves_bytes(rt: HostRuntime) -> Result<(), Fail> {
+    let mut pipe = Pipe::new(rt.alloc());
+    let mut buf = [0u8; 2];
+    assert_eq!(rt; pipe.read(&mut buf), LinkRead::Empty);
+    pipe.give(b"abc")?;
+    assert_eq!(rt; pipe.read(&mut buf), LinkRead::Bytes(2));
+    assert_eq!(rt; buf.as_slice(), b"ab".as_slice());
+    assert_eq!(rt; pipe.write(b"xyz"), LinkWrite::Took(3));
+    assert_eq!(rt; pipe.untaken(), b"xyz".as_slice());
+    pipe.taken(2);
+    assert_eq!(rt; pipe.untaken(), b"z".as_slice());
+    assert_eq!(rt; pipe.output(), b"xyz".as_slice());
+    Ok(())
+}
+
+#[test]
+fn faulty_pipe_counts_both_calls(rt: HostRuntime) -> Result<(), Fail> {
+    let mut pipe = FaultyPipe::new(rt.alloc(), b"ab", true, &[1, 2])?;
+    let mut buf = [0u8; 8];
+    assert_eq!(rt; pipe.read(&mut buf), LinkRead::Bytes(2));
+    assert_eq!(rt; pipe.write(b"x"), LinkWrite::Failed);
+    assert_eq!(rt; pipe.read(&mut buf), LinkRead::Failed);
+    assert_eq!(rt; pipe.write(b"y"), LinkWrite::Took(1));
+    assert_eq!(rt; pipe.read(&mut buf), LinkRead::End);
+    pipe.give(b"c")?;
+    assert_eq!(rt; pipe.read(&mut buf), LinkRead::Bytes(1));
+    assert_eq!(rt; pipe.untaken(), b"y".as_slice());
+    pipe.taken(1);
+    assert_eq!(rt; pipe.untaken(), b"".as_slice());
+    assert_eq!(rt; pipe.output(), b"y".as_slice());
+    Ok(())
+}
+
+#[test]
+fn fronts_at_512_bytes(rt: HostRuntime) -> Result<(), Fail> {
+    let empty = Front::Whole {
+        size: 8,
+        start: 8,
+        channel: 0,
+    };
+    let rows: [(&[u8], Front); 7] = [
+        (&[0, 0, 0], Front::Partial),
+        (&[0, 0, 0, 7], Front::Refused),
+        (&[0, 0, 2, 1], Front::Refused),
+        (&[0, 0, 0, 8, 1, 0, 0, 0], Front::Refused),
+        (&[0, 0, 0, 8, 2, 0, 0], Front::Partial),
+        (&[0, 0, 0, 8, 2, 0, 0, 0], empty),
+        (&[0, 0, 0, 8, 2, 5, 0, 0], Front::Foreign),
+    ];
+    for (bytes, want) in rows {
+        assert_eq!(rt; front_of(0, 512, bytes), want);
+    }
+    Ok(())
+}
+
+#[test]
+fn codec_over_a_pipe(rt: HostRuntime) -> Result<(), Fail> {
+    let mut pipe = Pipe::new(rt.alloc());
+    pipe.give(b"AMQP\x00\x01\x00\x00rest")?;
+    let mut codec = FramedCodec::new(rt.alloc(), pipe);
+    assert_eq!(rt; codec.fill(8)?, Filled::More);
+    assert_eq!(rt; codec.input(), b"AMQP\x00\x01\x00\x00".as_slice());
+    codec.take_front(codec.input().len());
+    assert_eq!(rt; codec.fill(8)?, Filled::More);
+    assert_eq!(rt; codec.input(), b"rest".as_slice());
+    assert_eq!(rt; codec.fill(8)?, Filled::Stopped(Stop::Empty));
+    codec.queue(b"AMQP")?;
+    codec.queue_frame(1, 258, &[64])?;
+    assert!(rt; !codec.is_flushed());
+    assert_eq!(rt; codec.flush(), None);
+    assert!(rt; codec.is_flushed());
+    codec.link().taken(4);
+    let pipe = codec.into_link();
+    assert_eq!(rt; pipe.untaken(), [0, 0, 0, 9, 2, 1, 1, 2, 64].as_slice());
+    Ok(())
+}
+
+#[test]
+fn codec_over_a_faulty_pipe(rt: HostRuntime) -> Result<(), Fail> {
+    let pipe = FaultyPipe::new(rt.alloc(), b"", true, &[0, 2])?;
+    let mut codec = FramedCodec::new(rt.alloc(), pipe);
+    codec.queue(b"ab")?;
+    assert_eq!(rt; codec.fill(8)?, Filled::Stopped(Stop::Failed));
+    assert_eq!(rt; codec.fill(8)?, Filled::Stopped(Stop::End));
+    assert_eq!(rt; codec.flush(), Some(Held::Failed));
+    assert_eq!(rt; codec.flush(), None);
+    assert_eq!(rt; codec.link().output(), b"ab".as_slice());
+    Ok(())
+}
+
+#[test]
+fn statuses(rt: HostRuntime) -> Result<(), Fail> {
+    let rows = [
+        (Status::Done, 0, "done"),
+        (Status::Usage, 2, "usage"),
+        (Status::BadScript { line: 12 }, 3, "bad script 12"),
+        (Status::BadStep { index: 7 }, 4, "bad step 7"),
+        (Status::Memory, 5, "no memory"),
+        (Status::ReadFault, 6, "read fault"),
+        (Status::WriteFault, 7, "write fault"),
+        (Status::TooLong, 8, "too long"),
+    ];
+    for (status, code, line) in rows {
+        assert_eq!(rt; status.exit_code(), code);
+        let text = format!(in rt.alloc(); "{status}")?;
+        assert_eq!(rt; text.as_str(), line);
+    }
+    Ok(())
+}
