@@ -23,7 +23,6 @@ use Rattle.sasl_gate.specs.declared.gate.exchange.Turn.TheVariants.{Send, Receiv
 use Rattle.sasl_gate.specs.declared.gate.exchange.Verdict.{Verdict}
 use Rattle.sasl_gate.specs.declared.gate.exchange.Verdict.TheVariants.{Taken, Refused}
 use Rattle.sasl_gate.specs.declared.gate.negotiation.GatePoll.{GatePoll}
-use Rattle.sasl_gate.specs.declared.gate.negotiation.GatePoll.TheVariants as poll
 use Rattle.sasl_gate.specs.declared.gate.negotiation.Phase.{Phase}
 use Rattle.sasl_gate.specs.declared.scram.client.ClientPhase.{ClientPhase}
 use Rattle.sasl_gate.specs.declared.scram.client.ClientPhase.TheVariants.{Unanswered, Answered, Verified}

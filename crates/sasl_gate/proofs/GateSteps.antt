@@ -1,13 +1,11 @@
 -- The steps of a negotiation.
-use Rattle.std.proofs.Common.{◌≡◌, ◌<◌, ◌≤◌, ◌+◌, ◌⊎◌, inl, inr, ℕ, List, [], ◌∷◌, ◌++◌, length, take, drop, Option, Some, None, Result, Ok, Err, refl, sym, ap, ◌∙◌, subst, arith}
+use Rattle.std.proofs.Common.{◌≡◌, ◌≤◌, inl, inr, ℕ, List, [], ◌∷◌, ◌++◌, length, take, drop, Some, None, Result, Ok, Err, refl, sym, subst}
 use Rattle.amqp_base.specs.declared.sasl.body.SaslBody.{SaslBody}
 use Rattle.amqp_base.specs.declared.sasl.body.SaslCode.{SaslCode}
 use Rattle.amqp_base.specs.Sasl.{Spells}
-use Rattle.amqp_base.specs.Canonical.{canonical_of}
 use Rattle.amqp_wire.specs.declared.link.Link.{Ghosts}
 use Rattle.amqp_wire.specs.declared.link.Stop.{Stop}
 use Rattle.amqp_wire.specs.declared.link.Stop.TheVariants.{Empty, End, Failed as FailedRead}
-use Rattle.amqp_wire.specs.declared.link.Held.{Held}
 use Rattle.amqp_wire.specs.declared.link.Held.TheVariants.{Full, Failed as FailedWrite, Memory as HeldMemory}
 use Rattle.amqp_wire.specs.declared.link.IoKind.TheVariants.{Fault, End as InputEnd}
 use Rattle.amqp_wire.specs.declared.frame.Front.{Front}
@@ -15,13 +13,13 @@ use Rattle.amqp_wire.specs.declared.frame.Front.TheVariants.{Partial, Refused as
 use Rattle.amqp_wire.specs.declared.reading.Wait.{Wait}
 use Rattle.amqp_wire.specs.declared.reading.Wait.TheVariants.{Over, Stopped, Spent}
 use Rattle.amqp_wire.specs.Codec.{Codec, Flushed}
-use Rattle.amqp_wire.specs.Frame.{HasBody, IsFront}
+use Rattle.amqp_wire.specs.Frame.{HasBody}
 use Rattle.std.proofs.lemmas.List.{take-append-drop}
-use Rattle.amqp_wire.specs.Events.{LinkEvent, NotRead, NotWritten, Includes, read_of}
+use Rattle.amqp_wire.specs.Events.{LinkEvent, NotRead, read_of}
 use Rattle.amqp_wire.specs.Reading.{ReadOn, IsKnown}
 use Rattle.amqp_wire.proofs.Events.{includes_left}
 use Rattle.sasl_gate.specs.declared.gate.error.NegotiationError.{NegotiationError}
-use Rattle.sasl_gate.specs.declared.gate.error.NegotiationError.TheVariants.{Memory, ProtocolHeaderMismatch, NotImplemented, Io, DecodeError, FramingError}
+use Rattle.sasl_gate.specs.declared.gate.error.NegotiationError.TheVariants.{Memory, ProtocolHeaderMismatch, Io, FramingError}
 use Rattle.sasl_gate.specs.declared.gate.exchange.Exchange.{Ghosts as Mechanism}
 use Rattle.std.specs.declared.alloc.AllocError.{AllocError}
 use Rattle.sasl_gate.specs.declared.gate.negotiation.GatePoll.{GatePoll}
@@ -32,9 +30,9 @@ use Rattle.sasl_gate.specs.declared.gate.negotiation.Step.{Step}
 use Rattle.sasl_gate.specs.declared.gate.negotiation.Step.TheVariants.{Goes, Waits, Ends}
 use Rattle.sasl_gate.specs.Exchange.{refused_with}
 use Rattle.sasl_gate.specs.Frames.{sasl_header, Heard, sasl_frame}
-use Rattle.sasl_gate.specs.Negotiation.{Negotiating, IsCaused, at_link, at_header, at_frame, by_body, too_long, HeaderCause, FrameCause, IsOverlong, HasHeader, HasFrames, HasIn, Has, GoesOn, IsPollAnswer, Polled}
+use Rattle.sasl_gate.specs.Negotiation.{Negotiating, IsCaused, at_link, at_header, at_frame, by_body, too_long, HeaderCause, FrameCause, IsOverlong, HasHeader, HasFrames, HasIn, IsPollAnswer, Polled}
 use Rattle.sasl_gate.specs.Steps.{IsStepEnd, Stepped, IsAlive, IsStopAnswer, IsWaitAnswer, IsEndAnswer, ArrivesIn}
-use Rattle.sasl_gate.proofs.Negotiations.{goes_none, goes_then, stepped_then, goes_flushed, flush_events, goes_read, goes_failed, goes_header, goes_taken, goes_sent, heard_push, frame_cut}
+use Rattle.sasl_gate.proofs.Negotiations.{goes_none, stepped_then, goes_flushed, flush_events, goes_read, goes_failed, goes_header, goes_taken, goes_sent, heard_push, frame_cut}
 
 pub alive_header : (p : Phase) → p ≡ Header → IsAlive p
 alive_header p e = subst IsAlive (sym e) tt

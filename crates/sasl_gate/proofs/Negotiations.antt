@@ -1,21 +1,20 @@
 -- What a negotiation went through, joined.
-use Rattle.std.proofs.Common.{◌≡◌, ◌≢◌, ◌<◌, ◌≤◌, ◌+◌, ◌-◌, ◌⊎◌, inl, inr, ℕ, List, [], ◌∷◌, ◌++◌, length, take, drop, get_or, Option, Some, None, refl, sym, ap, ◌∙◌, subst, append_assoc, arith}
+use Rattle.std.proofs.Common.{◌≡◌, ◌<◌, ◌≤◌, ◌+◌, ◌-◌, inl, inr, ℕ, List, [], ◌∷◌, ◌++◌, length, take, drop, Option, Some, None, refl, sym, ap, ◌∙◌, subst, append_assoc, arith}
 use Rattle.std.specs.Prelude.{flat_map, slice_index}
 use Rattle.std.proofs.lemmas.List.{append-nil, take-append-drop, length-take-le, drop-take}
 use Rattle.std.proofs.lemmas.Grind.{flat_map-append, common_steps}
 use Rattle.amqp_base.specs.declared.sasl.body.SaslBody.{SaslBody}
 use Rattle.amqp_base.specs.Sasl.{Spells}
-use Rattle.amqp_base.specs.Canonical.{canonical_of}
 use Rattle.amqp_wire.specs.declared.link.Link.{Ghosts}
 use Rattle.amqp_wire.specs.declared.link.Held.{Held}
 use Rattle.amqp_wire.specs.declared.reading.Wait.{Wait}
 use Rattle.amqp_wire.specs.Codec.{Codec, Flushed}
-use Rattle.amqp_wire.specs.Steps.{Took, TookNone, WroteBy}
-use Rattle.amqp_wire.specs.Size.{size_of, start_of, channel_of}
-use Rattle.amqp_wire.specs.Frame.{HasBody, frame_of}
-use Rattle.amqp_wire.specs.Events.{LinkEvent, Read, Wrote, NotRead, NotWritten, Went, read_of, wrote_of, reads_in, Includes, HasFailed}
+use Rattle.amqp_wire.specs.Steps.{Took, WroteBy}
+use Rattle.amqp_wire.specs.Size.{size_of}
+use Rattle.amqp_wire.specs.Frame.{HasBody}
+use Rattle.amqp_wire.specs.Events.{LinkEvent, Wrote, NotWritten, Went, read_of, wrote_of, reads_in}
 use Rattle.amqp_wire.specs.Reading.{ReadOn}
-use Rattle.amqp_wire.proofs.Events.{went_then, read_of-append, wrote_of-append, reads_in-append, includes_left, includes_right}
+use Rattle.amqp_wire.proofs.Events.{went_then, read_of-append, wrote_of-append, reads_in-append, includes_left}
 use Rattle.sasl_gate.specs.declared.gate.error.NegotiationError.{NegotiationError}
 use Rattle.sasl_gate.specs.declared.gate.exchange.Exchange.{Ghosts as Mechanism}
 use Rattle.sasl_gate.specs.declared.gate.negotiation.Phase.{Phase}
@@ -23,7 +22,7 @@ use Rattle.sasl_gate.specs.declared.gate.negotiation.Phase.TheVariants.{Header, 
 use Rattle.sasl_gate.specs.declared.gate.negotiation.Step.{Step}
 use Rattle.sasl_gate.specs.declared.gate.negotiation.Step.TheVariants.{Goes, Waits, Ends}
 use Rattle.sasl_gate.specs.Frames.{sasl_header, IsSaslFrame, Carries, Heard, sasl_frame, said}
-use Rattle.sasl_gate.specs.Negotiation.{Negotiating, IsCaused, HasHeader, HasFrames, HasFailure, HasIn, Has, IsHeldUp, GoesOn}
+use Rattle.sasl_gate.specs.Negotiation.{Negotiating, IsCaused, HasHeader, HasFrames, HasFailure, HasIn, Has, GoesOn}
 use Rattle.sasl_gate.specs.Steps.{IsStepEnd, Stepped, IsAlive}
 
 -- nothing happened

@@ -19,7 +19,6 @@ use Rattle.sasl_gate.specs.declared.gate.exchange.Turn.TheVariants.{Send, Receiv
 use Rattle.sasl_gate.specs.declared.gate.exchange.Verdict.{Verdict}
 use Rattle.sasl_gate.specs.declared.gate.exchange.Verdict.TheVariants.{Taken, Refused as VerdictRefused}
 use Rattle.sasl_gate.specs.declared.gate.negotiation.GatePoll.{GatePoll}
-use Rattle.sasl_gate.specs.declared.gate.negotiation.GatePoll.TheVariants as poll
 use Rattle.sasl_gate.specs.declared.gate.negotiation.Phase.{Phase}
 use Rattle.sasl_gate.specs.declared.gate.server.ServerStage.{ServerStage}
 use Rattle.sasl_gate.specs.declared.gate.server.ServerStage.TheVariants.{OwesMechanisms, AwaitsInit, OwesChallenge, AwaitsResponse, OwesOutcome, Passed, OwesRefusal, Refused}

@@ -1,4 +1,3 @@
-use Rattle.std.proofs.Common.{◌≡◌}
 use Rattle.amqp_wire.specs.declared.reading.Wait.TheVariants.{Over}
 use Rattle.sasl_gate.specs.Steps.{step_in}
 use Rattle.sasl_gate.proofs.GateSteps.{alive_frames, arrived, read_more}

@@ -1,4 +1,3 @@
-use Rattle.std.proofs.Common.{◌≡◌, refl}
 use Rattle.amqp_wire.specs.declared.reading.Wait.TheVariants.{Over}
 use Rattle.sasl_gate.proofs.GateSteps.{alive_header, read_then, read_stopped, read_spent, read_more}
 use Rattle.sasl_gate.proofs.gate.negotiation.Negotiation.await_header.Goals as goal

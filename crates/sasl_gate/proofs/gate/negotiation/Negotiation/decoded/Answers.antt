@@ -1,4 +1,4 @@
-use Rattle.std.proofs.Common.{◌≡◌, ◌≤◌, ◌-◌, ◌∙◌, ap, sym, subst, refl, take, drop, List, ℕ, arith}
+use Rattle.std.proofs.Common.{◌≡◌, ◌≤◌, ◌-◌, ◌∙◌, ap, sym, subst, refl, take, drop, List, ℕ}
 use Rattle.amqp_base.specs.Sasl.{Spells}
 use Rattle.sasl_gate.specs.Negotiation.{Negotiating}
 use Rattle.sasl_gate.proofs.Negotiations.{cut_same}

@@ -1,4 +1,3 @@
-use Rattle.std.proofs.Common.{◌≡◌}
 use Rattle.sasl_gate.specs.declared.gate.error.NegotiationError.TheVariants.{FramingError, NotImplemented}
 use Rattle.sasl_gate.proofs.GateSteps.{failed_front}
 use Rattle.sasl_gate.proofs.gate.negotiation.Negotiation.on_arrival.Goals as goal

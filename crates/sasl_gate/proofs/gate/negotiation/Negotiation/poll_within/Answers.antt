@@ -1,4 +1,3 @@
-use Rattle.std.proofs.Common.{◌≡◌}
 use Rattle.sasl_gate.specs.declared.gate.negotiation.Step.TheVariants.{Goes}
 use Rattle.sasl_gate.proofs.Negotiations.{stepped_then}
 use Rattle.sasl_gate.proofs.GateSteps.{polled_waits, polled_ends, polled_memory}

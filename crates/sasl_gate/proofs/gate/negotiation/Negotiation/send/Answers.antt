@@ -1,4 +1,3 @@
-use Rattle.std.proofs.Common.{◌≡◌}
 use Rattle.sasl_gate.proofs.GateSteps.{failed_overlong}
 use Rattle.sasl_gate.proofs.gate.negotiation.Negotiation.send.Goals as goal
 

@@ -1,4 +1,4 @@
-use Rattle.std.proofs.Common.{◌≡◌, refl}
+use Rattle.std.proofs.Common.{refl}
 use Rattle.sasl_gate.specs.Steps.{step_in}
 use Rattle.sasl_gate.proofs.GateSteps.{flushed_then, flushed_full, flushed_failed, flushed_memory}
 use Rattle.sasl_gate.proofs.gate.negotiation.Negotiation.step.Goals as goal

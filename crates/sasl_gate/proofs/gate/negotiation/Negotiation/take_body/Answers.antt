@@ -1,4 +1,3 @@
-use Rattle.std.proofs.Common.{◌≡◌}
 use Rattle.sasl_gate.proofs.GateSteps.{body_taken, failed_body}
 use Rattle.sasl_gate.proofs.gate.negotiation.Negotiation.take_body.Goals as goal
 

@@ -1,4 +1,4 @@
-use Rattle.std.proofs.Common.{◌≡◌, ap, sym}
+use Rattle.std.proofs.Common.{ap, sym}
 use Rattle.sasl_gate.specs.Negotiation.{Negotiating}
 use Rattle.sasl_gate.proofs.GateSteps.{failed_refusal}
 use Rattle.sasl_gate.proofs.gate.negotiation.Negotiation.take_turn.Goals as goal
