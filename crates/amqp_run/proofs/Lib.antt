@@ -1,0 +1,5 @@
+pub mod Pieces
+pub mod Numbers
+pub mod Escapes
+pub mod Lines
+pub mod Told

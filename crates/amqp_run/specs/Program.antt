@@ -1,0 +1,82 @@
+-- What a run of the program did.
+use Rattle.std.specs.Prelude.{◌≡◌, ◌≤◌, ◌<◌, ◌↔◌, List, ℕ, length, take, Option, Some, None, ⊤}
+use Rattle.list_laws.specs.Told.{Loses, Gains, IsEmptyIfTold}
+use Rattle.amqp_wire.specs.declared.status.Status.{Status}
+use Rattle.amqp_wire.specs.declared.status.Status.TheVariants.{Done, Usage, BadScript, BadStep, Memory, ReadFault, WriteFault, TooLong}
+use Rattle.amqp_world.specs.declared.step.Step.{Step}
+use Rattle.amqp_world.specs.declared.trace.Entry.{Entry}
+use Rattle.amqp_world.specs.Explains.{past_of, Explained, IsFirstInvalid}
+use Rattle.amqp_run.specs.Script.{Spells, IsFirstBad}
+use Rattle.amqp_run.specs.TraceText.{text_of}
+use Rattle.amqp_run.specs.Request.{Request, RunScript, DeriveKey, key_text}
+
+-- a source was read to its end, and gave this script
+pub record ReadsScript (left left' : Option (List ℕ)) (script : List ℕ) : Type 0 where
+  pub gave : Loses left left' script
+  pub ended : IsEmptyIfTold left'
+
+-- the text of a trace that explains the steps of the script that a source gave
+pub record IsRunText (left left' : Option (List ℕ)) (text : List ℕ) : Type 0 where
+  pub script : List ℕ
+  pub steps : List Step
+  pub entries : List Entry
+  pub read : ReadsScript left left' script
+  pub spelled : Spells script steps
+  pub form : length entries ≡ length steps
+  pub explained : Explained (past_of steps entries)
+  pub shown : text ≡ text_of entries
+
+-- the text of a key; nothing is read for it
+abbrev pub IsAskedText : Option Request → Option (List ℕ) → Option (List ℕ) → List ℕ → Type 0
+IsAskedText None left left' text = ⊥
+IsAskedText (Some RunScript) left left' text = IsRunText left left' text
+IsAskedText (Some (DeriveKey hash rounds length password salt)) left left' text = (left' ≡ left) × (text ≡ key_text hash rounds length password salt)
+
+-- a text of this kind was written whole
+pub record WritesAll (IsText : List ℕ → Type 0) (written written' : Option (List ℕ)) : Type 0 where
+  pub text : List ℕ
+  pub asked : IsText text
+  pub wrote : Gains written written' text
+
+-- a front of a text was written
+pub record WritesFront (text : List ℕ) (written written' : Option (List ℕ)) : Type 0 where
+  pub count : ℕ
+  pub within : count ≤ length text
+  pub wrote : Gains written written' (take count text)
+
+-- a front of a text of this kind was written
+pub record WritesSome (IsText : List ℕ → Type 0) (written written' : Option (List ℕ)) : Type 0 where
+  pub text : List ℕ
+  pub asked : IsText text
+  pub front : WritesFront text written written'
+
+-- the script that a source gave has this first line outside the grammar
+pub record HasBadLine (left left' : Option (List ℕ)) (line : ℕ) : Type 0 where
+  pub script : List ℕ
+  pub read : ReadsScript left left' script
+  pub bad : IsFirstBad script line
+
+-- the script that a source gave says steps of which this is the first that is not valid
+pub record HasBadStep (left left' : Option (List ℕ)) (index : ℕ) : Type 0 where
+  pub script : List ℕ
+  pub steps : List Step
+  pub read : ReadsScript left left' script
+  pub spelled : Spells script steps
+  pub bad : IsFirstInvalid steps index
+
+-- a source gave bytes: more than the limit exactly where it was too long
+pub record ReadsUpTo (limit : ℕ) (left left' : Option (List ℕ)) (too_long : Type 0) : Type 0 where
+  pub bytes : List ℕ
+  pub gave : Loses left left' bytes
+  pub exact : too_long ↔ (limit < length bytes)
+
+-- the program ended before it wrote
+abbrev pub IsUnwritten : Status → Type 0
+IsUnwritten Done = ⊥
+IsUnwritten WriteFault = ⊥
+IsUnwritten Memory = ⊥
+IsUnwritten Usage = ⊤
+IsUnwritten (BadScript line) = ⊤
+IsUnwritten (BadStep index) = ⊤
+IsUnwritten ReadFault = ⊤
+IsUnwritten TooLong = ⊤

@@ -1,0 +1,87 @@
+//! Two ends of AMQP 1.0 in memory, driven by a script.
+//!
+//! `amqp_run world` reads a script from standard input (module `script`), makes its steps and
+//! writes the text of the trace (module `trace_text`) to standard output. `amqp_run kdf HASH ROUNDS
+//! LENGTH PASSWORD SALT` writes a key. A run that does not end with its whole text written says why
+//! in one line on standard error, and ends with the number of its status.
+#![tactic(auto)]
+
+pub mod command;
+pub mod key;
+pub mod outside;
+pub mod program;
+pub mod script;
+pub mod standard;
+#[cfg(test)]
+mod tests;
+pub mod trace_text;
+#[cfg(test)]
+mod world_tests;
+
+use crate::program::run_program;
+use crate::standard::{StandardInput, StandardOutput};
+use amqp_value::Text;
+use amqp_wire::status::Status;
+use std::process::ExitCode;
+use std::rt::{Env, Runtime};
+use std::{env, io};
+
+const HELP: &str = "amqp_run world < SCRIPT
+    reads a script, makes its steps and writes the text of the trace
+amqp_run kdf HASH ROUNDS LENGTH PASSWORD SALT
+    writes a key of PBKDF2 in hexadecimal; HASH is sha1, sha256 or sha512,
+    ROUNDS below 2^32, LENGTH at most 4096 bytes
+amqp_run --help | --version
+";
+
+const VERSION: &str = "amqp_run 0.1.0
+";
+
+/// The words behind the program's name.
+fn read_words(rt: &(impl Env + AllocGlobal)) -> io::Result<Vec<Text>> {
+    let mut words = Vec::new(rt.alloc());
+    for word in env::args(rt)?.skip(1) {
+        let word = Text::from_str(rt.alloc(), word.as_str())?;
+        words.push(word)?;
+    }
+    Ok(words)
+}
+
+fn print(rt: &impl Print, text: &str) -> Status {
+    match rt.print(text) {
+        Ok(()) => Status::Done,
+        Err(_) => Status::WriteFault,
+    }
+}
+
+fn run(rt: &(impl Runtime + AllocGlobal), words: &[Text]) -> Status {
+    if let [word] = words {
+        match word.as_str() {
+            "--help" => return print(rt, HELP),
+            "--version" => return print(rt, VERSION),
+            _ => {}
+        }
+    }
+    let mut source = StandardInput::new(rt.reader());
+    let mut sink = StandardOutput::new(io::writer(rt));
+    run_program(rt.alloc(), words, &mut source, &mut sink)
+}
+
+/// Words that are no text are no command.
+fn status_of(error: io::Error) -> Status {
+    match error.kind() {
+        io::ErrorKind::OutOfMemory => Status::Memory,
+        _ => Status::Usage,
+    }
+}
+
+fn main(rt: HostRuntime) -> ExitCode {
+    let status = match read_words(&rt) {
+        Ok(words) => run(&rt, words.as_slice()),
+        Err(error) => status_of(error),
+    };
+    if status != Status::Done {
+        let _ = eprintln!(rt; "{status}");
+    }
+    ExitCode::from(status.exit_code())
+}

@@ -1,0 +1,124 @@
+//! Rows that run the world: the conversation of RFC 7677, whole, refused and cut, and its statuses.
+use crate::tests::outcome;
+use amqp_wire::status::Status;
+use std::alloc::{AllocError, Global};
+use std::str;
+use std::test::Fail;
+
+const SCRIPT: &str = "c 0 open id=c sasl=sha256 user=user pass=pencil nonce=rOprNGfwEbeRWgbNEkqO
+l 0 accept id=l sasl=sha256 user=user pass=pencil salt=W22ZaJ0SNY7soEsUEjb6gQ== rounds=4096 nonce=%25hvYDpWUa2RaTCAfuxFIlj)hNlF$k0
+l 0 take 8
+c 0 take 40
+l 0 take 63
+c 0 take 102
+l 0 take 122
+c 0 take 72
+l 0 take 8
+";
+
+const TRACE: &str = "0 0 pending
+0 wrote 414d515003010000
+1 1 pending
+1 wrote 414d515003010000
+2 wrote 0000002002010000005340c01301e01001a30d534352414d2d5348412d323536
+3 wrote 0000003f02010000005341c03202a30d534352414d2d5348412d323536a0206e2c2c6e3d757365722c723d724f70724e476677456265525767624e456b714f
+4 wrote 0000006602010000005342c05901a056723d724f70724e476677456265525767624e456b714f25687659447057556132526154434166757846496c6a29684e6c46246b302c733d5732325a614a30534e5937736f457355456a623667513d3d2c693d34303936
+5 wrote 0000007a02010000005343c06d01a06a633d626977732c723d724f70724e476677456265525767624e456b714f25687659447057556132526154434166757846496c6a29684e6c46246b302c703d64487a625a617057496b346a55684e2b5574653979746167397a6a664d486773716d6d697a37416e6456513d
+6 wrote 0000004002010000005344c033025000a02e763d36727269545242693233577052522f777475702b6d4d68555a556e2f6442356e4c544a52736a6c393547343d414d515000010000
+7 wrote 414d515000010000
+";
+
+#[test]
+fn conversation(rt: HostRuntime) -> Result<(), Fail> {
+    let (status, written) = outcome(rt.alloc(), &["world"], SCRIPT.as_bytes(), &[], &[])?;
+    assert_eq!(rt; status, Status::Done);
+    assert_eq!(rt; written.as_slice(), TRACE.as_bytes());
+    Ok(())
+}
+
+const OTHER_PASSWORD: &str = "c 0 open id=c sasl=sha256 user=user pass=pencil2 nonce=rOprNGfwEbeRWgbNEkqO
+l 0 accept id=l sasl=sha256 user=user pass=pencil salt=W22ZaJ0SNY7soEsUEjb6gQ== rounds=4096 nonce=%25hvYDpWUa2RaTCAfuxFIlj)hNlF$k0
+l 0 take 8
+c 0 take 40
+l 0 take 63
+c 0 take 102
+l 0 take 122
+c 0 take all
+";
+
+#[test]
+fn other_password(rt: HostRuntime) -> Result<(), Fail> {
+    let (status, written) = outcome(rt.alloc(), &["world"], OTHER_PASSWORD.as_bytes(), &[], &[])?;
+    assert_eq!(rt; status, Status::Done);
+    let text = str::from_utf8(written.as_slice())?;
+    let end = "6 1 error Open.Negotiation.SaslError 1 -
+6 wrote 0000001002010000005344c003015001
+7 0 error Open.Negotiation.SaslError 1 -
+";
+    assert!(rt; text.ends_with(end), "{text}");
+    assert!(rt; !text.contains("414d515000010000"), "{text}");
+    Ok(())
+}
+
+#[test]
+fn statuses(rt: HostRuntime) -> Result<(), Fail> {
+    let rows: [(&str, Status); 4] = [
+        ("", Status::Done),
+        ("c 0 take 1\n", Status::BadStep { index: 0 }),
+        (
+            "c 0 open id=c sasl=sha256 user=u pass=p nonce=a,b\n",
+            Status::BadStep { index: 0 },
+        ),
+        ("c 1 take all\nc 0 take all\n", Status::BadStep { index: 1 }),
+    ];
+    for (script, wanted) in &rows {
+        let (status, written) = outcome(rt.alloc(), &["world"], script.as_bytes(), &[], &[])?;
+        assert_eq!(rt; status, *wanted, "at {script}");
+        assert_eq!(rt; written.len(), 0);
+    }
+    let (status, written) = outcome(rt.alloc(), &["world"], SCRIPT.as_bytes(), &[], &[0])?;
+    assert_eq!(rt; status, Status::WriteFault);
+    assert_eq!(rt; written.len(), 0);
+    Ok(())
+}
+
+/// The same lines, with takes of one byte in place of each take.
+fn cut(alloc: Global, script: &str) -> Result<String, AllocError> {
+    let mut lines = String::new(alloc);
+    for line in script.lines() {
+        let Some((front, count)) = line.split_once(" take ") else {
+            lines.push_str(line)?;
+            lines.push('\n')?;
+            continue;
+        };
+        for _ in 0..count.parse::<u8>().unwrap_or(0) {
+            lines.push_str(front)?;
+            lines.push_str(" take 1\n")?;
+        }
+    }
+    Ok(lines)
+}
+
+/// What was written in all steps, in hexadecimal.
+fn all_written(alloc: Global, trace: &str) -> Result<String, AllocError> {
+    let mut all = String::new(alloc);
+    for line in trace.lines() {
+        if let Some((_, bytes)) = line.split_once(" wrote ") {
+            all.push_str(bytes)?;
+        }
+    }
+    Ok(all)
+}
+
+#[test]
+fn bytes_one_by_one(rt: HostRuntime) -> Result<(), Fail> {
+    let script = cut(rt.alloc(), SCRIPT)?;
+    let (status, written) = outcome(rt.alloc(), &["world"], script.as_bytes(), &[], &[])?;
+    assert_eq!(rt; status, Status::Done);
+    let text = str::from_utf8(written.as_slice())?;
+    let got = all_written(rt.alloc(), text)?;
+    let wanted = all_written(rt.alloc(), TRACE)?;
+    assert_eq!(rt; got.as_str(), wanted.as_str());
+    assert!(rt; !text.contains("error"), "{text}");
+    Ok(())
+}

@@ -1,0 +1,51 @@
+-- Pipes as links: what passed at one.
+use Rattle.std.proofs.Common.{◌≡◌, inl, inr, List, [], ◌∷◌, ◌++◌, subst, arith}
+use Rattle.amqp_wire.specs.declared.link.Stop.TheVariants as stop
+use Rattle.amqp_wire.specs.Link.{Rose}
+use Rattle.amqp_wire.specs.Events.{LinkEvent, NotRead, IsEvent, Went, Includes, read_of, wrote_of}
+use Rattle.amqp_wire.specs.Piped.{Piped}
+use Rattle.amqp_wire.proofs.Events.{went_reads, went_writes, went_mark, went_failed}
+use Rattle.amqp_world.specs.Causes.{IsCalm}
+use Rattle.amqp_world.specs.Turn.{piping}
+
+pub pipe_input : (a b : Piped) (es : List LinkEvent) → Went piping a es b → a.input ≡ read_of es ++ b.input
+pipe_input a b es w = went_reads piping a b es w
+
+pub pipe_output : (a b : Piped) (es : List LinkEvent) → Went piping a es b → b.output ≡ a.output ++ wrote_of es
+pipe_output a b es w = went_writes piping a b es w
+
+pub pipe_mark : (a b : Piped) (es : List LinkEvent) → Went piping a es b → b.mark ≡ a.mark
+pipe_mark a b es w = went_mark piping a b es w
+
+never_rose : Rose 0 0 → ⊥
+never_rose (inl r) = omega arith
+never_rose (inr r) = omega arith
+
+never_ends : (a b : Piped) (es : List LinkEvent) → Went piping a es b → Includes es (NotRead stop.End) → ⊥
+never_ends a b [] w i = i
+never_ends a b (x ∷ es) w (inl e) = let q : IsEvent piping w.0 (NotRead stop.End) b = subst (λ (y : LinkEvent). IsEvent piping w.0 y b) e w.2 in q.why
+never_ends a b (x ∷ es) w (inr i) = never_ends a w.0 es w.1 i
+
+pub pipe_calm : (a b : Piped) (es : List LinkEvent) → Went piping a es b → IsCalm es
+pipe_calm a b es w =
+    record {
+      unfailed_reads = λ i. never_rose (went_failed piping a b es w (inl i));
+      unfailed_writes = λ i. never_rose (went_failed piping a b es w (inr i));
+      unended = never_ends a b es w;
+    }
+
+pub calm_none : IsCalm []
+calm_none = record { unfailed_reads = λ i. i; unfailed_writes = λ i. i; unended = λ i. i }
+
+none_of : (fs es : List LinkEvent) (y : LinkEvent) → (Includes fs y → ⊥) → (Includes es y → ⊥) → Includes (fs ++ es) y → ⊥
+none_of [] es y p q i = q i
+none_of (f ∷ fs) es y p q (inl e) = p (inl e)
+none_of (f ∷ fs) es y p q (inr i) = none_of fs es y (λ j. p (inr j)) q i
+
+pub calm_more : (fs es : List LinkEvent) → IsCalm fs → IsCalm es → IsCalm (fs ++ es)
+calm_more fs es p q =
+    record {
+      unfailed_reads = none_of fs es _ p.unfailed_reads q.unfailed_reads;
+      unfailed_writes = none_of fs es _ p.unfailed_writes q.unfailed_writes;
+      unended = none_of fs es _ p.unended q.unended;
+    }

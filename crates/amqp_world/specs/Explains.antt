@@ -1,0 +1,40 @@
+-- What a trace says of its steps, and which step is the first that is not valid.
+use Rattle.std.specs.Prelude.{◌≡◌, List, ℕ, [], ◌∷◌, length, take, slice_get, Some, ⊤}
+use Rattle.amqp_world.specs.declared.step.Step.{Step}
+use Rattle.amqp_world.specs.declared.trace.Entry.{Entry}
+use Rattle.amqp_world.specs.History.{Event}
+use Rattle.amqp_world.specs.Valid.{IsValid}
+use Rattle.amqp_world.specs.Form.{Form}
+use Rattle.amqp_world.specs.Gate.{Gate}
+use Rattle.amqp_world.specs.Causes.{Causes}
+
+-- an event after a past
+pub record Explains (x : Event) (past : List Event) : Type 0 where
+  pub valid : IsValid past x.step
+  pub form : Form x past
+  pub gate : Gate (x ∷ past)
+  pub causes : Causes x past
+
+-- each event of a past, after those before it
+abbrev pub Explained : List Event → Type 0
+Explained [] = ⊤
+Explained (x ∷ past) = Explains x past × Explained past
+
+abbrev pub onto : List Event → List Step → List Entry → List Event
+onto past [] [] = past
+onto past [] (x ∷ xs) = past
+onto past (s ∷ ss) [] = past
+onto past (s ∷ ss) (x ∷ xs) = onto (record { step = s; entry = x } ∷ past) ss xs
+
+-- the past that steps and their entries make, the newest first
+abbrev pub past_of : List Step → List Entry → List Event
+past_of steps entries = onto [] steps entries
+
+-- Step i is the first that is not valid: those before it have entries that explain them, after which it is not.
+pub record IsFirstInvalid (steps : List Step) (i : ℕ) : Type 0 where
+  pub entries : List Entry
+  pub step : Step
+  pub form : length entries ≡ i
+  pub before : Explained (past_of (take i steps) entries)
+  pub at : slice_get steps i ≡ Some step
+  pub invalid : IsValid (past_of (take i steps) entries) step → ⊥
