@@ -1,15 +1,12 @@
 -- Laws of what passes at a link.
-use Rattle.std.proofs.Common.{◌≡◌, ◌<◌, ◌≤◌, ◌+◌, ◌-◌, ◌^◌, ◌⊎◌, inl, inr, ℕ, List, [], ◌∷◌, ◌++◌, length, Option, refl, sym, ap, ◌∙◌, subst, append_assoc, arith}
+use Rattle.std.proofs.Common.{◌≡◌, ◌≤◌, ◌+◌, ◌⊎◌, inl, inr, ℕ, List, [], ◌∷◌, ◌++◌, refl, sym, ap, ◌∙◌, subst, append_assoc, arith}
 use Rattle.std.proofs.lemmas.List.{append-nil}
 use Rattle.std.proofs.lemmas.Bool.{cases_lt}
 use Rattle.list_laws.specs.Told.{Loses, Gains}
 use Rattle.list_laws.proofs.Told.{loses_none, gains_none, loses_then, gains_then}
 use Rattle.amqp_wire.specs.declared.link.Link.{Ghosts}
-use Rattle.amqp_wire.specs.declared.link.Stop.{Stop}
-use Rattle.amqp_wire.specs.declared.link.Stop.TheVariants.{Empty, End, Failed}
-use Rattle.amqp_wire.specs.declared.link.Held.{Held}
-use Rattle.amqp_wire.specs.declared.link.Held.TheVariants.{Full, Failed as FailedWrite, Memory}
-use Rattle.amqp_wire.specs.Steps.{Gave, GaveNone, Took, TookNone}
+use Rattle.amqp_wire.specs.declared.link.Stop.TheVariants.{Failed}
+use Rattle.amqp_wire.specs.declared.link.Held.TheVariants.{Failed as FailedWrite}
 use Rattle.amqp_wire.specs.Link.{Rose}
 use Rattle.amqp_wire.specs.Events.{LinkEvent, Read, Wrote, NotRead, NotWritten, IsEvent, Went, read_of, wrote_of, reads_in, Includes, HasFailed}
 
@@ -82,13 +79,13 @@ pub went_reads : {L : Type 0} (link : Ghosts L) (a b : L) (es : List LinkEvent) 
 went_reads {L} link a b [] p = loses_none _ _ (ap (λ (x : L). link.input x) p)
 went_reads link a b (x ∷ es) p =
     subst (λ (u : List ℕ). Loses (link.input a) (link.input b) u) (sym (read_of-append (x ∷ []) es))
-      (loses_then _ _ _ (read_of es) (read_of (x ∷ [])) (went_reads link a p.0 es p.1) (event_reads link p.0 b x p.2))
+    (loses_then _ _ _ (read_of es) (read_of (x ∷ [])) (went_reads link a p.0 es p.1) (event_reads link p.0 b x p.2))
 
 pub went_writes : {L : Type 0} (link : Ghosts L) (a b : L) (es : List LinkEvent) → Went link a es b → Gains (link.output a) (link.output b) (wrote_of es)
 went_writes {L} link a b [] p = gains_none _ _ (ap (λ (x : L). link.output x) p)
 went_writes link a b (x ∷ es) p =
     subst (λ (u : List ℕ). Gains (link.output a) (link.output b) u) (sym (wrote_of-append (x ∷ []) es))
-      (gains_then _ _ _ (wrote_of es) (wrote_of (x ∷ [])) (went_writes link a p.0 es p.1) (event_writes link p.0 b x p.2))
+    (gains_then _ _ _ (wrote_of es) (wrote_of (x ∷ [])) (went_writes link a p.0 es p.1) (event_writes link p.0 b x p.2))
 
 pub went_mark : {L : Type 0} (link : Ghosts L) (a b : L) (es : List LinkEvent) → Went link a es b → link.mark b ≡ link.mark a
 went_mark {L} link a b [] p = ap (λ (x : L). link.mark x) p
@@ -121,6 +118,6 @@ went_failed link a b (x ∷ es) p q =
     let first : link.faults a ≤ link.faults p.0 = went_faults link a p.0 es p.1 in
     let last : link.faults p.0 ≤ link.faults b = event_faults link p.0 b x p.2 in
     elim (failed_here x es q) [
-      inl here ↦ rose_between (link.faults a) (link.faults p.0) (link.faults b) (link.faults b) first last (event_failed link p.0 b x p.2 here) (omega arith)
-    | inr there ↦ rose_between (link.faults a) (link.faults a) (link.faults p.0) (link.faults b) (omega arith) first (went_failed link a p.0 es p.1 there) last
+      | inl here ↦ rose_between (link.faults a) (link.faults p.0) (link.faults b) (link.faults b) first last (event_failed link p.0 b x p.2 here) (omega arith)
+      | inr there ↦ rose_between (link.faults a) (link.faults a) (link.faults p.0) (link.faults b) (omega arith) first (went_failed link a p.0 es p.1 there) last
     ]

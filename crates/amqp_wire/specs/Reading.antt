@@ -1,7 +1,6 @@
 -- Bytes that come in while something is waited for.
 use Rattle.std.specs.Prelude.{◌≡◌, ◌+◌, ℕ, List, [], ◌++◌, Result, Ok, Err, ⊤}
 use Rattle.amqp_wire.specs.declared.link.Link.{Ghosts}
-use Rattle.amqp_wire.specs.declared.link.Stop.{Stop}
 use Rattle.amqp_wire.specs.declared.frame.Front.{Front}
 use Rattle.amqp_wire.specs.declared.frame.Front.TheVariants.{Partial, Refused, Foreign, Whole}
 use Rattle.amqp_wire.specs.declared.reading.Wait.{Wait}

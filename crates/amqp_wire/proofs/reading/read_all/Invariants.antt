@@ -1,4 +1,3 @@
-use Rattle.std.proofs.Common.{◌-◌, length}
 use Rattle.amqp_wire.specs.Reading.{ReadOn}
 use Rattle.amqp_wire.specs.declared.reading.Wait.TheVariants.{Over}
 use Rattle.amqp_wire.proofs.reading.read_all.Given as goal

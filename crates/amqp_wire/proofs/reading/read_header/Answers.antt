@@ -1,7 +1,5 @@
-use Rattle.std.proofs.Common.{◌≡◌, ◌∙◌, ap, length, arith, refl, Ok}
 use Rattle.amqp_wire.specs.declared.reading.Wait.TheVariants.{Over, Stopped, Spent}
 use Rattle.amqp_wire.proofs.ReadingOn.{read_on_none, read_on_then}
-
 use Rattle.amqp_wire.proofs.reading.read_header.Goals as goal
 
 pub reads-init : goal.reads-init

@@ -1,4 +1,4 @@
-use Rattle.std.proofs.Common.{◌≡◌, ◌-◌, arith}
+use Rattle.std.proofs.Common.{◌-◌, arith}
 use Rattle.amqp_wire.proofs.ReadingOn.{read_on_more, read_on_stop}
 use Rattle.amqp_wire.proofs.reading.read_once.Goals as goal
 
