@@ -4,3 +4,5 @@
 pub use open_error::OpenError;
 
 pub mod open_error;
+#[cfg(test)]
+mod tests;

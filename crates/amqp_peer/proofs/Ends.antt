@@ -60,19 +60,21 @@ client_passed_in client.Passed x given sent t h = h
 client_passed : (x : ClientEnd) (rest out : List ℕ) (events : List LinkEvent) → HasPassed peer_mechanism (Client x) rest out events
     → (p : ClientPassed x.client.user x.client.password x.client.nonce x.hostname (wrote_of events) (read_of events)) × BeginsHeader p.more
 client_passed x rest out events h =
-    let c : ClientHasPassed x h.given h.sent = client_passed_in x.stage x h.given h.sent h.turn h.held in
-    (record {
-      names = c.names;
-      server_first = c.server_first;
-      client_final = c.client_final;
-      server_final = c.server_final;
-      more = h.part;
-      rest = rest;
-      wrote_is = h.wrote ∙ ap (λ (u : List SaslBody). said u ++ h.part) c.sent_is;
-      read_is = subst (λ (u : List SaslBody). Heard (read_of events) u rest) c.given_is h.heard;
-      listed = c.listed;
-      check = c.check;
-    }, (out, h.header))
+    let c : ClientHasPassed x h.given h.sent = client_passed_in x.stage x h.given h.sent h.turn h.held in (
+      record {
+        names = c.names;
+        server_first = c.server_first;
+        client_final = c.client_final;
+        server_final = c.server_final;
+        more = h.part;
+        rest = rest;
+        wrote_is = h.wrote ∙ ap (λ (u : List SaslBody). said u ++ h.part) c.sent_is;
+        read_is = subst (λ (u : List SaslBody). Heard (read_of events) u rest) c.given_is h.heard;
+        listed = c.listed;
+        check = c.check;
+      },
+      (out, h.header),
+    )
 
 server_passed_in : (s : ServerStage) (x : ServerState Account) (given sent : List SaslBody) → server_turn_in s ≡ Pass → server_holds_in stored_for s x given sent
     → (text : List ℕ) × HasProof (stored_for x.provider) x.nonce text given sent (outcome_body sasl.Ok (Some text) ∷ [])
@@ -89,20 +91,22 @@ server_passed : (x : ServerEnd Account) (rest out : List ℕ) (events : List Lin
     → (p : ServerPassed (stored_for x.server.provider) x.server.nonce (wrote_of events) (read_of events)) × BeginsHeader p.more
 server_passed x rest out events h =
     let t = server_passed_in x.stage x.server h.given h.sent h.turn h.held in
-    let c : HasProof (stored_for x.server.provider) x.server.nonce t.0 h.given h.sent (outcome_body sasl.Ok (Some t.0) ∷ []) = t.1 in
-    (record {
-      user = c.user;
-      hostname = c.hostname;
-      client_first = c.client_first;
-      server_first = c.server_first;
-      client_final = c.client_final;
-      server_final = t.0;
-      more = h.part;
-      rest = rest;
-      wrote_is = h.wrote ∙ ap (λ (u : List SaslBody). said u ++ h.part) c.sent_is;
-      read_is = subst (λ (u : List SaslBody). Heard (read_of events) u rest) c.given_is h.heard;
-      check = c.check;
-    }, (out, h.header))
+    let c : HasProof (stored_for x.server.provider) x.server.nonce t.0 h.given h.sent (outcome_body sasl.Ok (Some t.0) ∷ []) = t.1 in (
+      record {
+        user = c.user;
+        hostname = c.hostname;
+        client_first = c.client_first;
+        server_first = c.server_first;
+        client_final = c.client_final;
+        server_final = t.0;
+        more = h.part;
+        rest = rest;
+        wrote_is = h.wrote ∙ ap (λ (u : List SaslBody). said u ++ h.part) c.sent_is;
+        read_is = subst (λ (u : List SaslBody). Heard (read_of events) u rest) c.given_is h.heard;
+        check = c.check;
+      },
+      (out, h.header),
+    )
 
 -- an opening writes nothing but SASL before its exchange has passed
 gated_from : (call : Call) (x : Authentication) (events : List LinkEvent) → MadeFor call x → IsGuarded peer_mechanism x events → IsGatedBy call (wrote_of events) (read_of events)

@@ -133,34 +133,40 @@ gated_later : (call : Call) (wrote read more : List ℕ) → IsGatedBy call wrot
 gated_later (Open id (profile.ScramSha256 user password nonce)) wrote read more (inl only) = inl only
 gated_later (Open id (profile.ScramSha256 user password nonce)) wrote read more (inr h) =
     let p : ClientPassed user password nonce None wrote read = h.0 in
-    inr (record {
-      names = p.names;
-      server_first = p.server_first;
-      client_final = p.client_final;
-      server_final = p.server_final;
-      more = p.more;
-      rest = p.rest ++ more;
-      wrote_is = p.wrote_is;
-      read_is = heard_more read more p.rest _ p.read_is;
-      listed = p.listed;
-      check = p.check;
-    }, h.1)
+    inr (
+      record {
+        names = p.names;
+        server_first = p.server_first;
+        client_final = p.client_final;
+        server_final = p.server_final;
+        more = p.more;
+        rest = p.rest ++ more;
+        wrote_is = p.wrote_is;
+        read_is = heard_more read more p.rest _ p.read_is;
+        listed = p.listed;
+        check = p.check;
+      },
+      h.1,
+    )
 gated_later (Accept id (accept.ScramSha256 user password salt iterations nonce)) wrote read more (inl only) = inl only
 gated_later (Accept id (accept.ScramSha256 user password salt iterations nonce)) wrote read more (inr h) =
     let p : ServerPassed (stored_alone user password salt iterations) nonce wrote read = h.0 in
-    inr (record {
-      user = p.user;
-      hostname = p.hostname;
-      client_first = p.client_first;
-      server_first = p.server_first;
-      client_final = p.client_final;
-      server_final = p.server_final;
-      more = p.more;
-      rest = p.rest ++ more;
-      wrote_is = p.wrote_is;
-      read_is = heard_more read more p.rest _ p.read_is;
-      check = p.check;
-    }, h.1)
+    inr (
+      record {
+        user = p.user;
+        hostname = p.hostname;
+        client_first = p.client_first;
+        server_first = p.server_first;
+        client_final = p.client_final;
+        server_final = p.server_final;
+        more = p.more;
+        rest = p.rest ++ more;
+        wrote_is = p.wrote_is;
+        read_is = heard_more read more p.rest _ p.read_is;
+        check = p.check;
+      },
+      h.1,
+    )
 
 pub gated_more : (cs : List (ℕ × Call)) (wrote read more : List ℕ) → IsGated cs wrote read → IsGated cs wrote (read ++ more)
 gated_more [] wrote read more p = p

@@ -146,20 +146,26 @@ ran_stop {L} {X} link m o c End left k result new b s r e =
     (record {
       events = r.events;
       moves = record { went = r.went; counted = r.counted; kept = s };
-      comes = (refl, λ before h. record {
-        guarded = guarded_at m o.stage (record o.negotiation { codec = c }) (r.events ++ before) b (keeps_read link m o c (Stopped End) left k b r before h);
-        cause = in_negotiation (at_link (includes_left r.events before (NotRead End) r.end));
-      });
+      comes = (
+        refl,
+        λ before h. record {
+          guarded = guarded_at m o.stage (record o.negotiation { codec = c }) (r.events ++ before) b (keeps_read link m o c (Stopped End) left k b r before h);
+          cause = in_negotiation (at_link (includes_left r.events before (NotRead End) r.end));
+        },
+      );
     }))
 ran_stop {L} {X} link m o c FailedRead left k result new b s r e =
     subst (λ (t : Option NegotiationError). Ran {E = AllocError} link m o left (Ok t) new k) (sym e.0) (subst (λ (p : Opened L X). Ran {E = AllocError} link m o left (Ok (Some (Io Fault))) p k) (sym e.1)
     (record {
       events = r.events;
       moves = record { went = r.went; counted = r.counted; kept = s };
-      comes = (refl, λ before h. record {
-        guarded = guarded_at m o.stage (record o.negotiation { codec = c }) (r.events ++ before) b (keeps_read link m o c (Stopped FailedRead) left k b r before h);
-        cause = in_negotiation (at_link (inl (includes_left r.events before (NotRead FailedRead) r.end)));
-      });
+      comes = (
+        refl,
+        λ before h. record {
+          guarded = guarded_at m o.stage (record o.negotiation { codec = c }) (r.events ++ before) b (keeps_read link m o c (Stopped FailedRead) left k b r before h);
+          cause = in_negotiation (at_link (inl (includes_left r.events before (NotRead FailedRead) r.end)));
+        },
+      );
     }))
 
 pub ran_stopped : {L X : Type 0} (link : Ghosts L) (m : Mechanism X) (o : Opened L X) (c : Codec L) (stop : Stop) (left k : ℕ) (result : Option NegotiationError) (new : Opened L X) → IsBehind o.stage → m.same o.negotiation.exchange o.negotiation.exchange
@@ -202,10 +208,13 @@ ran_failed link m o c left b s f =
     record {
       events = flush_events f.bytes (Some FailedWrite);
       moves = record { went = g.went; counted = g.counted; kept = g.kept };
-      comes = (refl, λ before h. record {
-        guarded = guarded_at m o.stage (record o.negotiation { codec = c }) (flush_events f.bytes (Some FailedWrite) ++ before) b (keeps_flushed link m o c (Some FailedWrite) b f before h);
-        cause = in_negotiation (at_link (inr (inl refl)));
-      });
+      comes = (
+        refl,
+        λ before h. record {
+          guarded = guarded_at m o.stage (record o.negotiation { codec = c }) (flush_events f.bytes (Some FailedWrite) ++ before) b (keeps_flushed link m o c (Some FailedWrite) b f before h);
+          cause = in_negotiation (at_link (inr (inl refl)));
+        },
+      );
     }
 
 -- the AMQP header was read
@@ -226,12 +235,15 @@ ran_mismatch link m o left stage s l ne =
     record {
       events = [];
       moves = record { went = refl; counted = omega arith; kept = s };
-      comes = (refl, λ before h.
-        let n : HasPassed m o.negotiation.exchange o.negotiation.codec.input o.negotiation.codec.output before = subst (λ (s : Stage). HasAt m s o.negotiation before) stage h in
-        record {
-          guarded = inr (o.negotiation.codec.input, o.negotiation.codec.output, n);
-          cause = at_amqp_header n.given n.sent o.negotiation.codec.input n.heard n.held n.turn l ne refl;
-        });
+      comes = (
+        refl,
+        λ before h.
+            let n : HasPassed m o.negotiation.exchange o.negotiation.codec.input o.negotiation.codec.output before = subst (λ (s : Stage). HasAt m s o.negotiation before) stage h in
+            record {
+              guarded = inr (o.negotiation.codec.input, o.negotiation.codec.output, n);
+              cause = at_amqp_header n.given n.sent o.negotiation.codec.input n.heard n.held n.turn l ne refl;
+            },
+      );
     }
 
 -- the negotiation has passed, and the own header is queued
@@ -271,13 +283,16 @@ ran_refused link m o n left k e stage p phase =
     record {
       events = p.events;
       moves = record { went = p.goes.went; counted = p.goes.counted; kept = p.goes.kept };
-      comes = (refl, λ before h.
-        let old : Has m o.negotiation before = subst (λ (s : Stage). HasAt m s o.negotiation before) stage h in
-        let f : HasFailure m e n (p.events ++ before) = subst (λ (q : Phase). HasIn m q n (p.events ++ before)) phase (p.goes.grows before old) in
-        record {
-          guarded = inl (record { bodies = f.sent; rest = n.codec.output; frames = f.wrote });
-          cause = in_negotiation f.cause;
-        });
+      comes = (
+        refl,
+        λ before h.
+            let old : Has m o.negotiation before = subst (λ (s : Stage). HasAt m s o.negotiation before) stage h in
+            let f : HasFailure m e n (p.events ++ before) = subst (λ (q : Phase). HasIn m q n (p.events ++ before)) phase (p.goes.grows before old) in
+            record {
+              guarded = inl (record { bodies = f.sent; rest = n.codec.output; frames = f.wrote });
+              cause = in_negotiation f.cause;
+            },
+      );
     }
 
 some_none : {A : Type 0} (a : A) → None ≡ Some a → ⊥

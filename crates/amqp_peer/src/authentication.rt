@@ -88,7 +88,10 @@ fn error_of(kind: ScramErrorKind) -> NegotiationError
     }
 }
 
-fn client_exchange(container_id: Text, sasl: SaslProfile) -> Result<Authentication, NegotiationError>
+fn client_exchange(
+    container_id: Text,
+    sasl: SaslProfile,
+) -> Result<Authentication, NegotiationError>
     requires { IsAllowedProfile sasl }
     ensures ok { IfOk result (MadeFor (Open container_id sasl)) }
     ensures begins { IfOk result (λ x. holds_by x [] []) }

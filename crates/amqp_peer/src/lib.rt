@@ -11,3 +11,5 @@ pub mod call;
 pub mod opening;
 pub mod peer;
 pub mod reply;
+#[cfg(test)]
+mod tests;
