@@ -36,7 +36,8 @@ fn conversation(rt: HostRuntime) -> Result<(), Fail> {
     Ok(())
 }
 
-const OTHER_PASSWORD: &str = "c 0 open id=c sasl=sha256 user=user pass=pencil2 nonce=rOprNGfwEbeRWgbNEkqO
+const OTHER_PASSWORD: &str =
+    "c 0 open id=c sasl=sha256 user=user pass=pencil2 nonce=rOprNGfwEbeRWgbNEkqO
 l 0 accept id=l sasl=sha256 user=user pass=pencil salt=W22ZaJ0SNY7soEsUEjb6gQ== rounds=4096 nonce=%25hvYDpWUa2RaTCAfuxFIlj)hNlF$k0
 l 0 take 8
 c 0 take 40
