@@ -9,9 +9,9 @@ use Rattle.std.specs.Str.{is_utf8}
 use Rattle.std.proofs.lemmas.Bool.{ne_eqb}
 use Rattle.std.proofs.lemmas.Option.{none-some}
 use Rattle.std.proofs.lemmas.Str.{IsUtf8-from_is_utf8}
-use Rattle.amqp_value.specs.declared.text.Text.{Text}
-use Rattle.amqp_value.specs.declared.text.TextError.{TextError}
-use Rattle.amqp_value.specs.declared.text.TextError.TheVariants as text
+use Rattle.amqp_text.specs.declared.text.Text.{Text}
+use Rattle.amqp_text.specs.declared.text.TextError.{TextError}
+use Rattle.amqp_text.specs.declared.text.TextError.TheVariants as text
 use Rattle.amqp_base.specs.declared.fields.field.Field.{Field}
 use Rattle.amqp_base.specs.declared.fields.field.Field.TheVariants as field
 use Rattle.amqp_base.specs.declared.sasl.body.SaslCode.{SaslCode}

@@ -1,8 +1,8 @@
 -- What becomes of the errors of texts and of symbols.
-use Rattle.amqp_value.specs.declared.text.TextError.{TextError}
-use Rattle.amqp_value.specs.declared.text.TextError.TheVariants as text
-use Rattle.amqp_value.specs.declared.symbol.SymbolError.{SymbolError}
-use Rattle.amqp_value.specs.declared.symbol.SymbolError.TheVariants as symbol
+use Rattle.amqp_text.specs.declared.text.TextError.{TextError}
+use Rattle.amqp_text.specs.declared.text.TextError.TheVariants as text
+use Rattle.amqp_text.specs.declared.symbol.SymbolError.{SymbolError}
+use Rattle.amqp_text.specs.declared.symbol.SymbolError.TheVariants as symbol
 use Rattle.amqp_base.specs.declared.error.BaseError.{BaseError}
 use Rattle.amqp_base.specs.declared.error.BaseError.TheVariants.{Memory, Decode}
 

@@ -3,8 +3,8 @@ ghost use Rattle.std.specs.Prelude.{◌≡◌};
 ghost use Rattle.amqp_base.specs.declared.error.BaseError.TheVariants.{Memory};
 ghost use Rattle.amqp_base.specs.Error.{from_text_error, from_symbol_error};
 
-use amqp_value::symbol::SymbolError;
-use amqp_value::text::TextError;
+use amqp_text::symbol::SymbolError;
+use amqp_text::text::TextError;
 use std::alloc::AllocError;
 use thiserror::Error;
 

@@ -4,7 +4,7 @@ use crate::sasl::body::{
 };
 use crate::sasl::reading::decode_sasl;
 use crate::sasl::writing::encode_sasl;
-use amqp_value::{Binary, Symbol, SymbolList, Text};
+use amqp_text::{Binary, Symbol, SymbolList, Text};
 use std::alloc::Global;
 use std::test::Fail;
 

@@ -4,7 +4,7 @@ ghost use Rattle.sasl_gate.specs.Profile.{IsAllowedCount};
 ghost use Rattle.amqp_peer.specs.Calls.{IsAllowedProfile, IsAllowedSasl, IsFirstCall};
 
 use crate::peer::PeerKind;
-use amqp_value::{Binary, Text};
+use amqp_text::{Binary, Text};
 use sasl_gate::SaslProfile;
 use sasl_gate::scram::profile::is_nonce;
 use std::alloc::{AllocError, Global};

@@ -5,7 +5,7 @@ ghost use Rattle.amqp_run.specs.Request.{key_in, request_in, request_of};
 use crate::key::{HashName, KeyRequest};
 use crate::script::number::number;
 use crate::script::words::is_text;
-use amqp_value::Text;
+use amqp_text::Text;
 
 /// What the program is asked for.
 #[derive(Clone, Copy, Debug)]

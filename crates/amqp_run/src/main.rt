@@ -20,7 +20,7 @@ mod world_tests;
 
 use crate::program::run_program;
 use crate::standard::{StandardInput, StandardOutput};
-use amqp_value::Text;
+use amqp_text::Text;
 use amqp_wire::status::Status;
 use std::process::ExitCode;
 use std::rt::{Env, Runtime};

@@ -9,7 +9,7 @@ use crate::key::{KeyRequest, key_line};
 use crate::outside::{ReadError, WriteError, read_all, write_all};
 use crate::script::{ScriptError, parse};
 use crate::trace_text::text;
-use amqp_value::Text;
+use amqp_text::Text;
 use amqp_wire::source::{Sink, Source};
 use amqp_wire::status::Status;
 use amqp_world::{World, WorldError};

@@ -6,7 +6,7 @@ use crate::trace_text::text;
 use amqp_base::SaslCode;
 use amqp_connection::OpenError;
 use amqp_peer::{AcceptSasl, Call, NamedReply, Reply, ReplyList};
-use amqp_value::{Binary, Text};
+use amqp_text::{Binary, Text};
 use amqp_wire::link::IoKind;
 use amqp_wire::memory::{MemorySink, MemorySource};
 use amqp_wire::status::Status;

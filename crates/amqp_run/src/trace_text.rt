@@ -11,7 +11,7 @@ ghost use Rattle.amqp_run.specs.TraceText.{digit_of, hex_of, bytes_text, option_
 use amqp_base::SaslCode;
 use amqp_connection::OpenError;
 use amqp_peer::{NamedReply, Reply};
-use amqp_value::Binary;
+use amqp_text::Binary;
 use amqp_wire::link::IoKind;
 use amqp_world::{Entry, Trace};
 use sasl_gate::{NegotiationError, ScramErrorKind};

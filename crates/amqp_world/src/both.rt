@@ -11,7 +11,7 @@ ghost use Rattle.amqp_world.specs.Related.{Related, past_in, view_of};
 use crate::step::{Act, End, Step, StepList};
 use crate::trace::{Entry, EntryList, Trace};
 use amqp_peer::{Peer, PeerError};
-use amqp_value::Binary;
+use amqp_text::Binary;
 use amqp_wire::pipe::Pipe;
 use std::alloc::{AllocError, Global};
 

@@ -1,7 +1,7 @@
 use crate::step::{Act, End, Step};
 use crate::world::{World, WorldError};
 use amqp_peer::{AcceptSasl, Call, Reply};
-use amqp_value::{Binary, Text};
+use amqp_text::{Binary, Text};
 use sasl_gate::SaslProfile;
 use std::alloc::{AllocError, Global};
 use std::test::Fail;

@@ -2,7 +2,7 @@
 ghost use Rattle.std.specs.Prelude.{◌≡◌, [], ◌∷◌, ◌++◌, length, OnOk, OnErr};
 
 use amqp_peer::ReplyList;
-use amqp_value::Binary;
+use amqp_text::Binary;
 use std::alloc::{AllocError, Global};
 use std::marker::Model;
 

@@ -4,7 +4,7 @@ ghost use Rattle.amqp_base.specs.Field.{lent, lent_binary, lent_text};
 ghost use Rattle.amqp_base.specs.Reading.{Gives, binary_in, symbol_in, ubyte_in, symbols_in, optional_binary_in, optional_text_in};
 
 use crate::error::BaseError;
-use amqp_value::{Binary, Symbol, SymbolList, Text};
+use amqp_text::{Binary, Symbol, SymbolList, Text};
 use std::alloc::Global;
 
 /// A field that was read.

@@ -7,7 +7,7 @@ use crate::error::BaseError;
 use crate::fields::code::SizeWidth;
 use crate::fields::field::Field;
 use crate::fields::reading::{read_block, read_byte, read_field, read_size, read_symbol, read_u64};
-use amqp_value::{Binary, Symbol, SymbolList, Text};
+use amqp_text::{Binary, Symbol, SymbolList, Text};
 use std::alloc::Global;
 
 /// The fields of a list that are still to be read. A list may end before its last field: the

@@ -7,7 +7,7 @@ ghost use Rattle.amqp_base.specs.Reading.{Gives, byte_at, number_at, size_at, bl
 use crate::error::BaseError;
 use crate::fields::code::{Code, SizeWidth, code_of};
 use crate::fields::field::Field;
-use amqp_value::{Binary, Symbol, SymbolList, Text};
+use amqp_text::{Binary, Symbol, SymbolList, Text};
 use std::alloc::Global;
 
 /// The first byte, and the bytes after it.

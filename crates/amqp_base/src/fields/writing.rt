@@ -12,7 +12,7 @@ ghost use Rattle.amqp_base.specs.Writing.{Puts, PutsWhole, FitsBlock, FitsCompou
 use crate::error::BaseError;
 use crate::fields::code::{Code, SizeWidth};
 use crate::fields::field::FieldRef;
-use amqp_value::{Binary, Symbol};
+use amqp_text::{Binary, Symbol};
 use std::alloc::{AllocError, Global};
 
 const SIZE_LIMIT: usize = 0x1_0000_0000;

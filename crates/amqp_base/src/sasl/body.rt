@@ -3,7 +3,7 @@ ghost use Rattle.std.specs.Prelude.{◌≡◌};
 ghost use Rattle.amqp_base.specs.SaslCode.{code_number, IsSaslCode};
 
 use crate::error::BaseError;
-use amqp_value::{Binary, Symbol, SymbolList, Text};
+use amqp_text::{Binary, Symbol, SymbolList, Text};
 
 /// How an authentication ended (part 5, section 5.3.3.6).
 #[derive(Clone, Copy, Debug, PartialEq, Eq)]

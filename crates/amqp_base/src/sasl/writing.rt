@@ -9,7 +9,7 @@ use crate::fields::field::FieldRef;
 use crate::fields::writing::write_described;
 use crate::sasl::body::SaslBody;
 use crate::sasl::kind::SaslKind;
-use amqp_value::Binary;
+use amqp_text::Binary;
 use std::alloc::Global;
 
 #[tactic(auto, unfolding(crate::specs::Canonical::canonical_of, crate::specs::Canonical::IsSized))]

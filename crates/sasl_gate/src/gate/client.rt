@@ -16,8 +16,8 @@ use crate::scram::error::ScramErrorKind;
 use amqp_base::{
     SaslBody, SaslChallenge, SaslCode, SaslInit, SaslMechanisms, SaslOutcome, SaslResponse,
 };
-use amqp_value::symbol::SymbolError;
-use amqp_value::{Binary, Symbol, Text};
+use amqp_text::symbol::SymbolError;
+use amqp_text::{Binary, Symbol, Text};
 use amqp_wire::codec::FramedCodec;
 use amqp_wire::link::Link;
 use kdf_core::Sha256Fn;

@@ -4,7 +4,7 @@ ghost use Rattle.sasl_gate.specs.declared.gate.error.NegotiationError.TheVariant
 
 use crate::scram::error::ScramErrorKind;
 use amqp_base::SaslCode;
-use amqp_value::Binary;
+use amqp_text::Binary;
 use amqp_wire::link::IoKind;
 use std::alloc::{AllocError, Global};
 use thiserror::Error;

@@ -19,7 +19,7 @@ ghost use Rattle.sasl_gate.specs.Steps.{Stepped, step_in, measure_of, HasEnded, 
 use crate::gate::error::NegotiationError;
 use crate::gate::exchange::{Exchange, Turn, Verdict};
 use amqp_base::{BaseError, FRAME_TYPE_SASL, SaslBody, decode_sasl, encode_sasl};
-use amqp_value::Binary;
+use amqp_text::Binary;
 use amqp_wire::codec::FramedCodec;
 use amqp_wire::frame::Front;
 use amqp_wire::link::{Held, IoKind, Link, Stop};

@@ -18,7 +18,7 @@ use crate::scram::server::ScramServer;
 use amqp_base::{
     SaslBody, SaslChallenge, SaslCode, SaslInit, SaslMechanisms, SaslOutcome, SaslResponse,
 };
-use amqp_value::{Binary, SymbolList, Text};
+use amqp_text::{Binary, SymbolList, Text};
 use amqp_wire::codec::FramedCodec;
 use amqp_wire::link::Link;
 use kdf_core::Sha256Fn;

@@ -21,7 +21,7 @@ use crate::scram::texts::{
     auth_message, client_final, client_final_bare, client_first, client_first_bare, extends,
     read_server_final, read_server_first,
 };
-use amqp_value::{Binary, Text};
+use amqp_text::{Binary, Text};
 use kdf_core::HashFn;
 use std::alloc::Global;
 use std::marker::{Model, PhantomData};

@@ -7,7 +7,7 @@ ghost use Rattle.base64.specs.GeneralPurpose.{IsBytes, encode_of};
 ghost use Rattle.sasl_gate.specs.Refusals.{IsDecodeRefusal, Spells};
 
 use crate::scram::error::ScramErrorKind;
-use amqp_value::Binary;
+use amqp_text::Binary;
 use base64::DecodeAllocError;
 use base64::engine::general_purpose::STANDARD;
 use std::alloc::{AllocError, Global};

@@ -3,7 +3,7 @@
 ghost use Rattle.std.specs.Prelude.{◌≡◌, List, ℕ, ◌∷◌, ◌++◌, MatchOption, IfSome, IfNone, IfOk, OnOk};
 ghost use Rattle.sasl_gate.specs.Texts.{escape_of, escaped_of};
 
-use amqp_value::Binary;
+use amqp_text::Binary;
 use std::alloc::{AllocError, Global};
 
 // Adds one byte of a user's name to a text as it is written.

@@ -10,7 +10,7 @@ ghost use Rattle.sasl_gate.specs.Profile.{IsAllowedUser, IsAllowedPassword};
 use crate::scram::error::ScramErrorKind;
 use crate::scram::profile::{is_allowed_password, is_allowed_user};
 use crate::scram::stored::StoredPassword;
-use amqp_value::Text;
+use amqp_text::Text;
 use std::marker::Model;
 
 /// The stored passwords of a listener's users.

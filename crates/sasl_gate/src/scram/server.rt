@@ -20,7 +20,7 @@ use crate::scram::stored::StoredPassword;
 use crate::scram::texts::{
     auth_message, read_client_final, read_client_first, server_final, server_first,
 };
-use amqp_value::{Binary, Text};
+use amqp_text::{Binary, Text};
 use kdf_core::HashFn;
 use std::alloc::Global;
 use std::marker::{Model, PhantomData};

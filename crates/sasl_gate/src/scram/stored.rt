@@ -8,7 +8,7 @@ ghost use Rattle.sasl_gate.specs.Refusals.{IsTextRefusal};
 use crate::scram::error::ScramErrorKind;
 use crate::scram::keys::{salted_into, server_key_into, stored_key_into};
 use crate::scram::profile::is_allowed_password;
-use amqp_value::Binary;
+use amqp_text::Binary;
 use kdf_core::HashFn;
 use std::alloc::Global;
 

@@ -2,7 +2,7 @@ use crate::scram::escape::unescape;
 use crate::scram::profile::is_nonce;
 use crate::scram::texts::client_first;
 use crate::{NoUsers, OneUser, ScramClient, ScramErrorKind, ScramServer, StoredPassword};
-use amqp_value::Text;
+use amqp_text::Text;
 use kdf_core::{HashFn, Sha1Fn, Sha256Fn};
 use std::alloc::Global;
 use std::process::Abort;

@@ -8,7 +8,7 @@ use crate::scram::encoding::{append_encoded, is_encoded};
 use crate::scram::escape::append_escaped;
 use crate::scram::extensions::{are_extensions, read_attribute, read_next, read_pair};
 use crate::scram::profile::is_nonce;
-use amqp_value::Binary;
+use amqp_text::Binary;
 use itoa::Buffer;
 use std::alloc::{AllocError, Global};
 

@@ -1,6 +1,6 @@
 //! Symbolic values from a constrained domain, in ASCII (OASIS AMQP 1.0, part 1, section 1.6.21).
 ghost use Rattle.std.specs.Prelude.{◌≡◌, ◌<◌, ◌↔◌, List, ℕ, [], ◌∷◌, ◌++◌, length, All, IsTrue, IfOk, OnOk, OnErr, IsErrOf};
-ghost use Rattle.amqp_value.specs.declared.symbol.SymbolError.TheVariants.{Memory, NotAscii};
+ghost use Rattle.amqp_text.specs.declared.symbol.SymbolError.TheVariants.{Memory, NotAscii};
 
 use std::alloc::{AllocError, Global};
 use std::marker::Model;

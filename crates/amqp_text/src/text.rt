@@ -1,7 +1,7 @@
 //! Strings of Unicode characters in UTF-8 (OASIS AMQP 1.0, part 1, section 1.6.20).
 ghost use Rattle.std.specs.Prelude.{◌≡◌, ◌↔◌, List, ℕ, [], length, IsUtf8, IsTrue, IfOk, IfErr, IsErrOf};
-ghost use Rattle.amqp_value.specs.declared.text.TextError.{TextError};
-ghost use Rattle.amqp_value.specs.declared.text.TextError.TheVariants.{Memory, NotUtf8};
+ghost use Rattle.amqp_text.specs.declared.text.TextError.{TextError};
+ghost use Rattle.amqp_text.specs.declared.text.TextError.TheVariants.{Memory, NotUtf8};
 ghost use Rattle.std.specs.String.{string_bytes};
 
 use std::alloc::{AllocError, Global};
