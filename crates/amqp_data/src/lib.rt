@@ -1,0 +1,10 @@
+//! AMQP values (OASIS AMQP 1.0, part 1, section 1.6): every kind, lists, maps with distinct keys, arrays of one kind,
+//! their equality, their hash and how deep they are nested.
+#![tactic(auto)]
+
+pub use amqp_text::{Binary, Symbol, SymbolList, Text};
+pub use kind::ElementKind;
+pub use value::{Described, Entry, OrderedMap, Timestamp, Uuid, Value, ValueArray, ValueList};
+
+pub mod kind;
+pub mod value;

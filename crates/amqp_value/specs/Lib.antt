@@ -1,0 +1,4 @@
+pub mod Code
+pub mod Grammar
+pub mod Reading
+pub mod Canonical
