@@ -46,6 +46,11 @@ abbrev pub pair_count : Pairs → ℕ
 pair_count no_pairs = 0
 pair_count (pair k v ps) = suc (pair_count ps)
 
+-- a value more at the end
+abbrev pub pushed : Items → Amqp → Items
+pushed no_items v = item v no_items
+pushed (item w ws) v = item w (pushed ws v)
+
 -- How deep a value is nested. A scalar and an empty compound have depth 1.
 abbrev mutual
   pub depth : Amqp → ℕ

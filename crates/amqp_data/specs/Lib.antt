@@ -4,3 +4,4 @@ pub mod View
 pub mod Falls
 pub mod Same
 pub mod SameLaws
+pub mod Errors

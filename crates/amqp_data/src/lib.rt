@@ -3,8 +3,16 @@
 #![tactic(auto)]
 
 pub use amqp_text::{Binary, Symbol, SymbolList, Text};
+pub use array::ArrayError;
 pub use kind::ElementKind;
+pub use map::MapError;
 pub use value::{Described, Entry, OrderedMap, Timestamp, Uuid, Value, ValueArray, ValueList};
 
+pub mod array;
+mod described;
 pub mod kind;
+mod hash;
+mod list;
+pub mod map;
+mod same;
 pub mod value;

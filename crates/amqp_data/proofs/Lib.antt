@@ -1,0 +1,4 @@
+pub mod Sames
+pub mod Distinct
+pub mod Lists
+pub mod Fed
