@@ -2,3 +2,4 @@ pub mod Sames
 pub mod Distinct
 pub mod Lists
 pub mod Fed
+pub mod Nests

@@ -6,6 +6,7 @@ pub use amqp_text::{Binary, Symbol, SymbolList, Text};
 pub use array::ArrayError;
 pub use kind::ElementKind;
 pub use map::MapError;
+pub use nesting::nests_within;
 pub use value::{Described, Entry, OrderedMap, Timestamp, Uuid, Value, ValueArray, ValueList};
 
 pub mod array;
@@ -14,5 +15,6 @@ pub mod kind;
 mod hash;
 mod list;
 pub mod map;
+pub mod nesting;
 mod same;
 pub mod value;
