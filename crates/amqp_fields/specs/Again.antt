@@ -1,0 +1,186 @@
+-- What is written is read again.
+use Rattle.std.specs.Prelude.{◌≡◌, ℕ, Bool, true, false, nat_eq, IsTrue, List, [], ◌∷◌, length, Option, Some, None, refl}
+use Rattle.std.proofs.Common.{zero, suc, cond, ap, sym, ◌∙◌}
+use Rattle.std.specs.Str.{bytes_eq}
+use Rattle.std.proofs.lemmas.Bool.{eqb-true}
+use Rattle.std.proofs.lemmas.Slice.Eq.{bytes_eq-Decides}
+use Rattle.amqp_data.specs.Data.{Amqp, Items, Scalar, null, scalar, list, dict, array, described, no_items, item, boolean, ubyte, ushort, uint, ulong, byte, short, int, long, char, timestamp, uuid, binary, string, symbol}
+use Rattle.amqp_fields.specs.Fields.{◌>>=◌, first, others, field_at, ends, ends_at, optional, or_default, maybe, unless, kept_before, trimmed, IsThere, same_bool, before, all_symbols, symbols_in, symbol_items, of_symbols}
+
+all_again : (ss : List (List ℕ)) → all_symbols (symbol_items ss) ≡ Some ss
+all_again [] = refl
+all_again (s ∷ ss) = ap (before s) (all_again ss)
+
+pub symbols_again : (ss : List (List ℕ)) → symbols_in (of_symbols ss) ≡ Some ss
+symbols_again ss = all_again ss
+
+pub bools_are : (x y : Bool) → IsTrue (same_bool x y) → x ≡ y
+bools_are true true e = refl
+bools_are true false e = absurd cc
+bools_are false true e = absurd cc
+bools_are false false e = refl
+
+pub numbers_are : (x y : ℕ) → IsTrue (nat_eq x y) → x ≡ y
+numbers_are x y e = eqb-true x y e
+
+pub texts_are : (x y : List ℕ) → IsTrue (bytes_eq x y) → x ≡ y
+texts_are x y e = (bytes_eq-Decides x y).0 e
+
+-- ---- whether there is a field
+
+scalar_there : {A : Type 0} (reads : Amqp → Option A) (s : Scalar) → IsThere (scalar s) → optional reads (scalar s) ≡ (reads (scalar s) >>= λ x. Some (Some x))
+scalar_there reads null h = absurd h
+scalar_there reads (boolean b) h = refl
+scalar_there reads (ubyte n) h = refl
+scalar_there reads (ushort n) h = refl
+scalar_there reads (uint n) h = refl
+scalar_there reads (ulong n) h = refl
+scalar_there reads (byte n) h = refl
+scalar_there reads (short n) h = refl
+scalar_there reads (int n) h = refl
+scalar_there reads (long n) h = refl
+scalar_there reads (char n) h = refl
+scalar_there reads (timestamp n) h = refl
+scalar_there reads (uuid u) h = refl
+scalar_there reads (binary s) h = refl
+scalar_there reads (string s) h = refl
+scalar_there reads (symbol s) h = refl
+
+optional_there : {A : Type 0} (reads : Amqp → Option A) (v : Amqp) → IsThere v → optional reads v ≡ (reads v >>= λ x. Some (Some x))
+optional_there reads (scalar s) h = scalar_there reads s h
+optional_there reads (list vs) h = refl
+optional_there reads (dict ps) h = refl
+optional_there reads (array k vs) h = refl
+optional_there reads (described d v) h = refl
+
+scalar_no_default : {A : Type 0} (x : A) (reads : Amqp → Option A) (s : Scalar) → IsThere (scalar s) → or_default x reads (scalar s) ≡ reads (scalar s)
+scalar_no_default x reads null h = absurd h
+scalar_no_default x reads (boolean b) h = refl
+scalar_no_default x reads (ubyte n) h = refl
+scalar_no_default x reads (ushort n) h = refl
+scalar_no_default x reads (uint n) h = refl
+scalar_no_default x reads (ulong n) h = refl
+scalar_no_default x reads (byte n) h = refl
+scalar_no_default x reads (short n) h = refl
+scalar_no_default x reads (int n) h = refl
+scalar_no_default x reads (long n) h = refl
+scalar_no_default x reads (char n) h = refl
+scalar_no_default x reads (timestamp n) h = refl
+scalar_no_default x reads (uuid u) h = refl
+scalar_no_default x reads (binary s) h = refl
+scalar_no_default x reads (string s) h = refl
+scalar_no_default x reads (symbol s) h = refl
+
+no_default : {A : Type 0} (x : A) (reads : Amqp → Option A) (v : Amqp) → IsThere v → or_default x reads v ≡ reads v
+no_default x reads (scalar s) h = scalar_no_default x reads s h
+no_default x reads (list vs) h = refl
+no_default x reads (dict ps) h = refl
+no_default x reads (array k vs) h = refl
+no_default x reads (described d v) h = refl
+
+module _ {A : Type 0} (reads : Amqp → Option A) (writes : A → Amqp) (again : (x : A) → reads (writes x) ≡ Some x) (there : (x : A) → IsThere (writes x)) where
+  pub optional_again : (x : Option A) → optional reads (maybe writes x) ≡ Some x
+  optional_again None = refl
+  optional_again (Some x) = optional_there reads (writes x) (there x) ∙ ap (λ (r : Option A). r >>= λ y. Some (Some y)) (again x)
+
+  default_by : (same : A → A → Bool) (d x : A) (b : Bool) → same x d ≡ b → ((x y : A) → IsTrue (same x y) → x ≡ y) → or_default d reads (cond b (scalar null) (writes x)) ≡ Some x
+  default_by same d x true e decides = ap Some (sym (decides x d e))
+  default_by same d x false e decides = no_default d reads (writes x) (there x) ∙ again x
+
+  pub default_again : (same : A → A → Bool) → ((x y : A) → IsTrue (same x y) → x ≡ y) → (d x : A) → or_default d reads (unless same d writes x) ≡ Some x
+  default_again same decides d x = default_by same d x (same x d) refl decides
+
+-- ---- the places of fields
+
+-- the field at a place, null behind the last
+abbrev pub place : List Amqp → ℕ → Amqp
+place [] i = scalar null
+place (v ∷ vs) zero = v
+place (v ∷ vs) (suc i) = place vs i
+
+no_field : (i : ℕ) → field_at no_items i ≡ scalar null
+no_field zero = refl
+no_field (suc i) = no_field i
+
+-- a field that is kept stands before the others
+kept_at : (v : Amqp) (vs : Items) (i : ℕ) → field_at (kept_before v vs) (suc i) ≡ field_at vs i
+kept_at (scalar null) no_items i = refl
+kept_at (scalar null) (item w ws) i = refl
+kept_at (scalar (boolean b)) vs i = refl
+kept_at (scalar (ubyte n)) vs i = refl
+kept_at (scalar (ushort n)) vs i = refl
+kept_at (scalar (uint n)) vs i = refl
+kept_at (scalar (ulong n)) vs i = refl
+kept_at (scalar (byte n)) vs i = refl
+kept_at (scalar (short n)) vs i = refl
+kept_at (scalar (int n)) vs i = refl
+kept_at (scalar (long n)) vs i = refl
+kept_at (scalar (char n)) vs i = refl
+kept_at (scalar (timestamp n)) vs i = refl
+kept_at (scalar (uuid u)) vs i = refl
+kept_at (scalar (binary s)) vs i = refl
+kept_at (scalar (string s)) vs i = refl
+kept_at (scalar (symbol s)) vs i = refl
+kept_at (list ws) vs i = refl
+kept_at (dict ps) vs i = refl
+kept_at (array k ws) vs i = refl
+kept_at (described d w) vs i = refl
+
+kept_first : (v : Amqp) (vs : Items) → first (kept_before v vs) ≡ v
+kept_first (scalar null) no_items = refl
+kept_first (scalar null) (item w ws) = refl
+kept_first (scalar (boolean b)) vs = refl
+kept_first (scalar (ubyte n)) vs = refl
+kept_first (scalar (ushort n)) vs = refl
+kept_first (scalar (uint n)) vs = refl
+kept_first (scalar (ulong n)) vs = refl
+kept_first (scalar (byte n)) vs = refl
+kept_first (scalar (short n)) vs = refl
+kept_first (scalar (int n)) vs = refl
+kept_first (scalar (long n)) vs = refl
+kept_first (scalar (char n)) vs = refl
+kept_first (scalar (timestamp n)) vs = refl
+kept_first (scalar (uuid u)) vs = refl
+kept_first (scalar (binary s)) vs = refl
+kept_first (scalar (string s)) vs = refl
+kept_first (scalar (symbol s)) vs = refl
+kept_first (list ws) vs = refl
+kept_first (dict ps) vs = refl
+kept_first (array k ws) vs = refl
+kept_first (described d w) vs = refl
+
+pub field_is : (vs : List Amqp) (i : ℕ) → field_at (trimmed vs) i ≡ place vs i
+field_is [] i = no_field i
+field_is (v ∷ vs) zero = kept_first v (trimmed vs)
+field_is (v ∷ vs) (suc i) = kept_at v (trimmed vs) i ∙ field_is vs i
+
+no_end : (i : ℕ) → ends_at no_items i ≡ Some tt
+no_end zero = refl
+no_end (suc i) = no_end i
+
+kept_ends : (v : Amqp) (vs : Items) (i : ℕ) → ends_at vs i ≡ Some tt → ends_at (kept_before v vs) (suc i) ≡ Some tt
+kept_ends (scalar null) no_items i e = no_end (suc i)
+kept_ends (scalar null) (item w ws) i e = e
+kept_ends (scalar (boolean b)) vs i e = e
+kept_ends (scalar (ubyte n)) vs i e = e
+kept_ends (scalar (ushort n)) vs i e = e
+kept_ends (scalar (uint n)) vs i e = e
+kept_ends (scalar (ulong n)) vs i e = e
+kept_ends (scalar (byte n)) vs i e = e
+kept_ends (scalar (short n)) vs i e = e
+kept_ends (scalar (int n)) vs i e = e
+kept_ends (scalar (long n)) vs i e = e
+kept_ends (scalar (char n)) vs i e = e
+kept_ends (scalar (timestamp n)) vs i e = e
+kept_ends (scalar (uuid u)) vs i e = e
+kept_ends (scalar (binary s)) vs i e = e
+kept_ends (scalar (string s)) vs i e = e
+kept_ends (scalar (symbol s)) vs i e = e
+kept_ends (list ws) vs i e = e
+kept_ends (dict ps) vs i e = e
+kept_ends (array k ws) vs i e = e
+kept_ends (described d w) vs i e = e
+
+pub field_ends : (vs : List Amqp) → ends_at (trimmed vs) (length vs) ≡ Some tt
+field_ends [] = refl
+field_ends (v ∷ vs) = kept_ends v (trimmed vs) (length vs) (field_ends vs)

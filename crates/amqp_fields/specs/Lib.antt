@@ -1,0 +1,5 @@
+pub mod Error
+pub mod Fields
+pub mod Left
+pub mod Writer
+pub mod Again
