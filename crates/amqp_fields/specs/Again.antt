@@ -5,7 +5,7 @@ use Rattle.std.specs.Str.{bytes_eq}
 use Rattle.std.proofs.lemmas.Bool.{eqb-true}
 use Rattle.std.proofs.lemmas.Slice.Eq.{bytes_eq-Decides}
 use Rattle.amqp_data.specs.Data.{Amqp, Items, Scalar, null, scalar, list, dict, array, described, no_items, item, boolean, ubyte, ushort, uint, ulong, byte, short, int, long, char, timestamp, uuid, binary, string, symbol}
-use Rattle.amqp_fields.specs.Fields.{◌>>=◌, first, others, field_at, ends, ends_at, optional, or_default, maybe, unless, kept_before, trimmed, IsThere, same_bool, before, all_symbols, symbols_in, symbol_items, of_symbols}
+use Rattle.amqp_fields.specs.Fields.{◌>>=◌, first, others, field_at, ends, ends_at, optional, or_default, maybe, unless, kept_before, trimmed, IsThere, IsValid, same_bool, before, all_symbols, symbols_in, symbol_items, of_symbols}
 
 all_again : (ss : List (List ℕ)) → all_symbols (symbol_items ss) ≡ Some ss
 all_again [] = refl
@@ -78,17 +78,17 @@ no_default x reads (dict ps) h = refl
 no_default x reads (array k vs) h = refl
 no_default x reads (described d v) h = refl
 
-module _ {A : Type 0} (reads : Amqp → Option A) (writes : A → Amqp) (again : (x : A) → reads (writes x) ≡ Some x) (there : (x : A) → IsThere (writes x)) where
-  pub optional_again : (x : Option A) → optional reads (maybe writes x) ≡ Some x
-  optional_again None = refl
-  optional_again (Some x) = optional_there reads (writes x) (there x) ∙ ap (λ (r : Option A). r >>= λ y. Some (Some y)) (again x)
+module _ {A : Type 0} (reads : Amqp → Option A) (writes : A → Amqp) (valid : A → Type 0) (again : (x : A) → valid x → reads (writes x) ≡ Some x) (there : (x : A) → IsThere (writes x)) where
+  pub optional_again : (x : Option A) → IsValid valid x → optional reads (maybe writes x) ≡ Some x
+  optional_again None h = refl
+  optional_again (Some x) h = optional_there reads (writes x) (there x) ∙ ap (λ (r : Option A). r >>= λ y. Some (Some y)) (again x h)
 
-  default_by : (same : A → A → Bool) (d x : A) (b : Bool) → same x d ≡ b → ((x y : A) → IsTrue (same x y) → x ≡ y) → or_default d reads (cond b (scalar null) (writes x)) ≡ Some x
-  default_by same d x true e decides = ap Some (sym (decides x d e))
-  default_by same d x false e decides = no_default d reads (writes x) (there x) ∙ again x
+  default_by : (same : A → A → Bool) (d x : A) (b : Bool) → valid x → same x d ≡ b → ((x y : A) → IsTrue (same x y) → x ≡ y) → or_default d reads (cond b (scalar null) (writes x)) ≡ Some x
+  default_by same d x true h e decides = ap Some (sym (decides x d e))
+  default_by same d x false h e decides = no_default d reads (writes x) (there x) ∙ again x h
 
-  pub default_again : (same : A → A → Bool) → ((x y : A) → IsTrue (same x y) → x ≡ y) → (d x : A) → or_default d reads (unless same d writes x) ≡ Some x
-  default_again same decides d x = default_by same d x (same x d) refl decides
+  pub default_again : (same : A → A → Bool) → ((x y : A) → IsTrue (same x y) → x ≡ y) → (d x : A) → valid x → or_default d reads (unless same d writes x) ≡ Some x
+  default_again same decides d x h = default_by same d x (same x d) h refl decides
 
 -- ---- the places of fields
 

@@ -1,8 +1,10 @@
 -- The fields of described lists (OASIS AMQP 1.0, part 1, section 1.4).
-use Rattle.std.specs.Prelude.{◌≡◌, ℕ, zero, suc, Bool, true, false, List, [], ◌∷◌, Option, Some, None, Result, Ok, Err, if◌then◌else◌}
+use Rattle.std.specs.Prelude.{◌≡◌, ℕ, zero, suc, Bool, true, false, List, [], ◌∷◌, Option, Some, None, Result, Ok, Err, if◌then◌else◌, ◌&&◌}
 use Rattle.amqp_data.specs.declared.kind.ElementKind.TheVariants as k
 use Rattle.amqp_data.specs.Data.{Scalar, null, boolean, ubyte, ushort, uint, ulong, byte, short, int, long, char, timestamp, uuid, binary, string, symbol, Amqp, Items, Pairs, scalar, list, dict, array, described, no_items, item, no_pairs, pair}
 use Rattle.amqp_data.specs.declared.value.Timestamp.{Timestamp}
+use Rattle.amqp_fields.specs.declared.map.KeyKind.{KeyKind}
+use Rattle.amqp_fields.specs.declared.map.KeyKind.TheVariants as keys
 use Rattle.amqp_fields.specs.declared.error.BaseError.{BaseError}
 use Rattle.amqp_fields.specs.declared.error.BaseError.TheVariants as errors
 
@@ -92,10 +94,6 @@ abbrev pub symbols_in : Amqp → Option (List (List ℕ))
 symbols_in (scalar (symbol s)) = Some (s ∷ [])
 symbols_in (array k.Symbol vs) = all_symbols vs
 symbols_in v = None
-
-abbrev pub map_in : Amqp → Option Pairs
-map_in (dict ps) = Some ps
-map_in v = None
 
 -- ---- whether there is a field
 
@@ -188,3 +186,42 @@ MakesItems view (Err errors.Size) vs = ⊥
 abbrev pub IsThere : Amqp → Type 0
 IsThere (scalar null) = ⊥
 IsThere v = Unit {0}
+
+-- what there is is valid
+abbrev pub IsValid : {A : Type 0} → (A → Type 0) → Option A → Type 0
+IsValid valid None = Unit {0}
+IsValid valid (Some x) = valid x
+
+-- ---- maps
+
+abbrev pub is_symbol : Amqp → Bool
+is_symbol (scalar (symbol s)) = true
+is_symbol v = false
+
+abbrev pub is_string : Amqp → Bool
+is_string (scalar (string s)) = true
+is_string v = false
+
+-- a symbol or an ulong (part 3, section 3.2.10)
+abbrev pub is_annotation : Amqp → Bool
+is_annotation (scalar (symbol s)) = true
+is_annotation (scalar (ulong n)) = true
+is_annotation v = false
+
+abbrev pub key_test : KeyKind → Amqp → Bool
+key_test keys.Symbol v = is_symbol v
+key_test keys.String v = is_string v
+key_test keys.Annotation v = is_annotation v
+
+-- each key passes
+abbrev pub all_keys : (Amqp → Bool) → Pairs → Bool
+all_keys test no_pairs = true
+all_keys test (pair k v ps) = test k && all_keys test ps
+
+-- a map whose keys pass
+abbrev pub map_with : (Amqp → Bool) → Amqp → Option Pairs
+map_with test (dict ps) = if all_keys test ps then Some ps else None
+map_with test v = None
+
+abbrev pub of_map : Pairs → Amqp
+of_map ps = dict ps

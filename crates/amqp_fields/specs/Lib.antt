@@ -3,3 +3,4 @@ pub mod Fields
 pub mod Left
 pub mod Writer
 pub mod Again
+pub mod Maps

@@ -13,11 +13,13 @@ use std::alloc::Global;
 use std::vec::IntoIter;
 
 /// A type that a field of a described list may have (OASIS AMQP 1.0, part 1, section 1.4).
-/// What is written of it is no null, and is read as the same again.
+/// What is written of it is no null, and is read as the same again where it is valid, as each value of the type is.
 pub trait Field: Sized {
     ghost reads: { Amqp → Option Self };
 
     ghost writes: { Self → Amqp };
+
+    ghost valid: { Self → Type 0 };
 
     /// What the value holds: `Decode` exactly where it holds no such thing.
     fn from_value(alloc: Global, value: Value) -> Result<Self, BaseError>
@@ -27,7 +29,7 @@ pub trait Field: Sized {
     fn to_value(&self, alloc: Global) -> Result<Value, BaseError>
         ensures { Makes view result (writes self.now) };
 
-    ghost again: { (x : Self) → reads (writes x) ≡ Some x };
+    ghost again: { (x : Self) → valid x → reads (writes x) ≡ Some x };
 
     ghost there: { (x : Self) → IsThere (writes x) };
 }
@@ -36,6 +38,8 @@ impl Field for bool {
     ghost reads = { bool_in };
 
     ghost writes = { of_bool };
+
+    ghost valid = { λ _. Unit {0} };
 
     fn from_value(_alloc: Global, value: Value) -> Result<Self, BaseError> {
         match value {
@@ -48,7 +52,7 @@ impl Field for bool {
         Ok(Value::Bool(*self))
     }
 
-    ghost again = { λ x. refl };
+    ghost again = { λ x h. refl };
 
     ghost there = { λ x. tt };
 }
@@ -57,6 +61,8 @@ impl Field for u8 {
     ghost reads = { ubyte_in };
 
     ghost writes = { of_ubyte };
+
+    ghost valid = { λ _. Unit {0} };
 
     fn from_value(_alloc: Global, value: Value) -> Result<Self, BaseError> {
         match value {
@@ -69,7 +75,7 @@ impl Field for u8 {
         Ok(Value::Ubyte(*self))
     }
 
-    ghost again = { λ x. refl };
+    ghost again = { λ x h. refl };
 
     ghost there = { λ x. tt };
 }
@@ -78,6 +84,8 @@ impl Field for u16 {
     ghost reads = { ushort_in };
 
     ghost writes = { of_ushort };
+
+    ghost valid = { λ _. Unit {0} };
 
     fn from_value(_alloc: Global, value: Value) -> Result<Self, BaseError> {
         match value {
@@ -90,7 +98,7 @@ impl Field for u16 {
         Ok(Value::Ushort(*self))
     }
 
-    ghost again = { λ x. refl };
+    ghost again = { λ x h. refl };
 
     ghost there = { λ x. tt };
 }
@@ -99,6 +107,8 @@ impl Field for u32 {
     ghost reads = { uint_in };
 
     ghost writes = { of_uint };
+
+    ghost valid = { λ _. Unit {0} };
 
     fn from_value(_alloc: Global, value: Value) -> Result<Self, BaseError> {
         match value {
@@ -111,7 +121,7 @@ impl Field for u32 {
         Ok(Value::Uint(*self))
     }
 
-    ghost again = { λ x. refl };
+    ghost again = { λ x h. refl };
 
     ghost there = { λ x. tt };
 }
@@ -120,6 +130,8 @@ impl Field for u64 {
     ghost reads = { ulong_in };
 
     ghost writes = { of_ulong };
+
+    ghost valid = { λ _. Unit {0} };
 
     fn from_value(_alloc: Global, value: Value) -> Result<Self, BaseError> {
         match value {
@@ -132,7 +144,7 @@ impl Field for u64 {
         Ok(Value::Ulong(*self))
     }
 
-    ghost again = { λ x. refl };
+    ghost again = { λ x h. refl };
 
     ghost there = { λ x. tt };
 }
@@ -141,6 +153,8 @@ impl Field for Timestamp {
     ghost reads = { timestamp_in };
 
     ghost writes = { of_timestamp };
+
+    ghost valid = { λ _. Unit {0} };
 
     fn from_value(_alloc: Global, value: Value) -> Result<Self, BaseError> {
         match value {
@@ -153,7 +167,7 @@ impl Field for Timestamp {
         Ok(Value::Timestamp(*self))
     }
 
-    ghost again = { λ x. refl };
+    ghost again = { λ x h. refl };
 
     ghost there = { λ x. tt };
 }
@@ -162,6 +176,8 @@ impl Field for Binary {
     ghost reads = { binary_in };
 
     ghost writes = { of_binary };
+
+    ghost valid = { λ _. Unit {0} };
 
     fn from_value(_alloc: Global, value: Value) -> Result<Self, BaseError> {
         match value {
@@ -175,7 +191,7 @@ impl Field for Binary {
         Ok(Value::Binary(copy))
     }
 
-    ghost again = { λ x. refl };
+    ghost again = { λ x h. refl };
 
     ghost there = { λ x. tt };
 }
@@ -184,6 +200,8 @@ impl Field for Text {
     ghost reads = { string_in };
 
     ghost writes = { of_string };
+
+    ghost valid = { λ _. Unit {0} };
 
     fn from_value(_alloc: Global, value: Value) -> Result<Self, BaseError> {
         match value {
@@ -197,7 +215,7 @@ impl Field for Text {
         Ok(Value::String(copy))
     }
 
-    ghost again = { λ x. refl };
+    ghost again = { λ x h. refl };
 
     ghost there = { λ x. tt };
 }
@@ -217,6 +235,8 @@ impl Field for Symbol {
 
     ghost writes = { of_symbol };
 
+    ghost valid = { λ _. Unit {0} };
+
     fn from_value(_alloc: Global, value: Value) -> Result<Self, BaseError> {
         match value {
             Value::Symbol(held) => Ok(held),
@@ -229,7 +249,7 @@ impl Field for Symbol {
         Ok(Value::Symbol(copy))
     }
 
-    ghost again = { λ x. refl };
+    ghost again = { λ x h. refl };
 
     ghost there = { λ x. tt };
 }
@@ -238,6 +258,8 @@ impl Field for SymbolList {
     ghost reads = { symbols_in };
 
     ghost writes = { of_symbols };
+
+    ghost valid = { λ _. Unit {0} };
 
     fn from_value(alloc: Global, value: Value) -> Result<Self, BaseError> {
         match value {
@@ -259,7 +281,7 @@ impl Field for SymbolList {
         Ok(Value::Array(array))
     }
 
-    ghost again = { symbols_again };
+    ghost again = { λ x h. symbols_again x };
 
     ghost there = { λ x. tt };
 }

@@ -5,10 +5,12 @@ pub use defaulted::Defaulted;
 pub use error::BaseError;
 pub use field::Field;
 pub use fields::Fields;
+pub use map::{AnnotationMap, FieldMap, KeyKind, TextMap};
 pub use writer::FieldWriter;
 
 pub mod defaulted;
 pub mod error;
 pub mod field;
 pub mod fields;
+pub mod map;
 pub mod writer;
