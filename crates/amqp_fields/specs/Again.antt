@@ -4,8 +4,9 @@ use Rattle.std.proofs.Common.{zero, suc, cond, ap, sym, ◌∙◌}
 use Rattle.std.specs.Str.{bytes_eq}
 use Rattle.std.proofs.lemmas.Bool.{eqb-true}
 use Rattle.std.proofs.lemmas.Slice.Eq.{bytes_eq-Decides}
-use Rattle.amqp_data.specs.Data.{Amqp, Items, Scalar, null, scalar, list, dict, array, described, no_items, item, boolean, ubyte, ushort, uint, ulong, byte, short, int, long, char, timestamp, uuid, binary, string, symbol}
-use Rattle.amqp_fields.specs.Fields.{◌>>=◌, first, others, field_at, ends, ends_at, optional, or_default, maybe, unless, kept_before, trimmed, IsThere, IsValid, same_bool, before, all_symbols, symbols_in, symbol_items, of_symbols}
+use Rattle.amqp_data.specs.Data.{Amqp, Items, Pairs, Scalar, null, scalar, list, dict, array, described, no_items, item, boolean, ubyte, ushort, uint, ulong, byte, short, int, long, char, timestamp, uuid, binary, string, symbol}
+use Rattle.amqp_fields.specs.Maps.{map_again}
+use Rattle.amqp_fields.specs.Fields.{◌>>=◌, bool_in, ubyte_in, ushort_in, uint_in, ulong_in, timestamp_in, binary_in, string_in, symbol_in, of_bool, of_ubyte, of_ushort, of_uint, of_ulong, of_timestamp, of_binary, of_string, of_symbol, all_keys, map_with, of_map, first, others, field_at, ends, ends_at, optional, or_default, maybe, unless, kept_before, trimmed, IsThere, IsValid, same_bool, before, all_symbols, symbols_in, symbol_items, of_symbols}
 
 all_again : (ss : List (List ℕ)) → all_symbols (symbol_items ss) ≡ Some ss
 all_again [] = refl
@@ -184,3 +185,66 @@ kept_ends (described d w) vs i e = e
 pub field_ends : (vs : List Amqp) → ends_at (trimmed vs) (length vs) ≡ Some tt
 field_ends [] = refl
 field_ends (v ∷ vs) = kept_ends v (trimmed vs) (length vs) (field_ends vs)
+
+-- ---- fields that are read again
+
+-- what is written of a type is there, and is read again
+pub record IsField {A : Type 0} (reads : Amqp → Option A) (writes : A → Amqp) (valid : A → Type 0) : Type 0 where
+  pub again : (x : A) → valid x → reads (writes x) ≡ Some x
+  pub there : (x : A) → IsThere (writes x)
+
+pub required_is : {A : Type 0} {reads : Amqp → Option A} {writes : A → Amqp} {valid : A → Type 0} → IsField reads writes valid → (fs : List Amqp) (i : ℕ) (x : A) → place fs i ≡ writes x → valid x → reads (field_at (trimmed fs) i) ≡ Some x
+required_is {A} {reads} f fs i x e h = ap reads (field_is fs i ∙ e) ∙ f.again x h
+
+pub optional_is : {A : Type 0} {reads : Amqp → Option A} {writes : A → Amqp} {valid : A → Type 0} → IsField reads writes valid → (fs : List Amqp) (i : ℕ) (x : Option A) → place fs i ≡ maybe writes x → IsValid valid x
+    → optional reads (field_at (trimmed fs) i) ≡ Some x
+optional_is {A} {reads} {writes} {valid} f fs i x e h = ap (optional reads) (field_is fs i ∙ e) ∙ optional_again reads writes valid f.again f.there x h
+
+pub default_is : {A : Type 0} {reads : Amqp → Option A} {writes : A → Amqp} {valid : A → Type 0} → IsField reads writes valid → (same : A → A → Bool) → ((x y : A) → IsTrue (same x y) → x ≡ y) → (fs : List Amqp) (i : ℕ) (d x : A)
+    → place fs i ≡ unless same d writes x → valid x → or_default d reads (field_at (trimmed fs) i) ≡ Some x
+default_is {A} {reads} {writes} {valid} f same decides fs i d x e h = ap (or_default d reads) (field_is fs i ∙ e) ∙ default_again reads writes valid f.again f.there same decides d x h
+
+-- a type of which each value is valid
+abbrev pub Each : {A : Type 0} → A → Type 0
+Each x = Unit {0}
+
+pub each : {A : Type 0} (x : Option A) → IsValid Each x
+each None = tt
+each (Some x) = tt
+
+pub bool_field : IsField bool_in of_bool Each
+bool_field = record { again = λ x h. refl; there = λ x. tt }
+
+pub ubyte_field : IsField ubyte_in of_ubyte Each
+ubyte_field = record { again = λ x h. refl; there = λ x. tt }
+
+pub ushort_field : IsField ushort_in of_ushort Each
+ushort_field = record { again = λ x h. refl; there = λ x. tt }
+
+pub uint_field : IsField uint_in of_uint Each
+uint_field = record { again = λ x h. refl; there = λ x. tt }
+
+pub ulong_field : IsField ulong_in of_ulong Each
+ulong_field = record { again = λ x h. refl; there = λ x. tt }
+
+pub timestamp_field : IsField timestamp_in of_timestamp Each
+timestamp_field = record { again = λ x h. refl; there = λ x. tt }
+
+pub binary_field : IsField binary_in of_binary Each
+binary_field = record { again = λ x h. refl; there = λ x. tt }
+
+pub string_field : IsField string_in of_string Each
+string_field = record { again = λ x h. refl; there = λ x. tt }
+
+pub symbol_field : IsField symbol_in of_symbol Each
+symbol_field = record { again = λ x h. refl; there = λ x. tt }
+
+pub symbols_field : IsField symbols_in of_symbols Each
+symbols_field = record { again = λ x h. symbols_again x; there = λ x. tt }
+
+-- the map's keys pass
+abbrev pub HasKeys : (Amqp → Bool) → Pairs → Type 0
+HasKeys test ps = IsTrue (all_keys test ps)
+
+pub map_field : (test : Amqp → Bool) → IsField (map_with test) of_map (HasKeys test)
+map_field test = record { again = λ ps h. map_again test ps h; there = λ ps. tt }

@@ -30,6 +30,11 @@ abbrev pub others : Items → Items
 others no_items = no_items
 others (item v vs) = vs
 
+-- the fields from a place on
+abbrev pub behind : ℕ → Items → Items
+behind zero vs = vs
+behind (suc i) vs = behind i (others vs)
+
 -- the field at a place: null where the list ends before it
 abbrev pub field_at : Items → ℕ → Amqp
 field_at vs zero = first vs

@@ -61,11 +61,7 @@ impl Fields {
     }
 
     /// The next field, or the default where it is null.
-    pub fn or_default<T: Field + Drop>(
-        &mut self,
-        alloc: Global,
-        default: T,
-    ) -> Result<T, BaseError>
+    pub fn or_default<T: Field + Drop>(&mut self, alloc: Global, default: T) -> Result<T, BaseError>
         ensures value { Gives result (or_default default T.reads (first (left self.old))) }
         ensures rest { left self.new ≡ others (left self.old) }
     {

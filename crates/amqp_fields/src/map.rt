@@ -60,7 +60,7 @@ fn with_keys(value: Value, kind: KeyKind) -> Result<OrderedMap, BaseError>
 }
 
 /// A map with symbols as keys: properties, filters and the like (OASIS AMQP 1.0, part 2, section 2.8.13).
-#[derive(Drop)]
+#[derive(Debug, Drop)]
 pub struct FieldMap {
     map: OrderedMap,
 }
@@ -135,7 +135,7 @@ impl Field for FieldMap {
 }
 
 /// A map with symbols or unsigned longs as keys (OASIS AMQP 1.0, part 3, section 3.2.10).
-#[derive(Drop)]
+#[derive(Debug, Drop)]
 pub struct AnnotationMap {
     map: OrderedMap,
 }
@@ -210,7 +210,7 @@ impl Field for AnnotationMap {
 }
 
 /// A map with texts as keys (OASIS AMQP 1.0, part 3, section 3.2.5).
-#[derive(Drop)]
+#[derive(Debug, Drop)]
 pub struct TextMap {
     map: OrderedMap,
 }

@@ -73,11 +73,7 @@ impl FieldWriter {
     }
 
     /// A field that is null where it is the default.
-    pub fn unless_default<T: Defaulted>(
-        &mut self,
-        field: &T,
-        default: &T,
-    ) -> Result<(), BaseError>
+    pub fn unless_default<T: Defaulted>(&mut self, field: &T, default: &T) -> Result<(), BaseError>
         ensures { Adds result (written self.old) (written self.new) (unless T.same default.now T.writes field.now) }
     {
         if field.is(default) {

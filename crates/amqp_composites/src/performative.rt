@@ -1,0 +1,111 @@
+//! The performatives (OASIS AMQP 1.0, part 2, section 2.7).
+ghost use Rattle.std.specs.Prelude.{◌≡◌};
+ghost use Rattle.amqp_data.specs.View.{view};
+ghost use Rattle.amqp_fields.specs.Fields.{Gives, Makes};
+ghost use Rattle.amqp_composites.specs.declared.performative.Performative.TheVariants as v;
+ghost use Rattle.amqp_composites.specs.Performative.{performative_in, of_performative, IsPerformativeValid, performative_again};
+
+use crate::attach::{Attach, attach_list, read_attach};
+use crate::begin::{Begin, begin_list, read_begin};
+use crate::close::{Close, close_list, read_close};
+use crate::described::{list_value, read_list};
+use crate::detach::{Detach, detach_list, read_detach};
+use crate::disposition::{Disposition, disposition_list, read_disposition};
+use crate::end::{End, end_list, read_end};
+use crate::flow::{Flow, flow_list, read_flow};
+use crate::kind::CompositeKind;
+use crate::open::{Open, open_list, read_open};
+use crate::transfer::{Transfer, read_transfer, transfer_list};
+use amqp_data::Value;
+use amqp_fields::BaseError;
+use std::alloc::Global;
+
+/// What a frame says.
+#[derive(Debug, Drop)]
+pub enum Performative {
+    /// What an end says of itself as it opens a connection.
+    Open(Open),
+    /// The begin of a session.
+    Begin(Begin),
+    /// The attach of a link.
+    Attach(Attach),
+    /// The state of a session's windows and of a link's credit.
+    Flow(Flow),
+    /// A part of a delivery or all of it; its payload follows.
+    Transfer(Transfer),
+    /// What has become of deliveries.
+    Disposition(Disposition),
+    /// The detach of a link.
+    Detach(Detach),
+    /// The end of a session.
+    End(End),
+    /// The close of a connection.
+    Close(Close),
+}
+
+impl Performative {
+    /// The body that the value holds: `Decode` exactly where it holds none.
+    pub fn from_value(alloc: Global, value: Value) -> Result<Self, BaseError>
+        ensures { Gives result (performative_in (view value)) }
+    {
+        let (kind, fields) = read_list(value)?;
+        match kind {
+            CompositeKind::Open => Ok(Performative::Open(read_open(alloc, fields)?)),
+            CompositeKind::Begin => Ok(Performative::Begin(read_begin(alloc, fields)?)),
+            CompositeKind::Attach => Ok(Performative::Attach(read_attach(alloc, fields)?)),
+            CompositeKind::Flow => Ok(Performative::Flow(read_flow(alloc, fields)?)),
+            CompositeKind::Transfer => Ok(Performative::Transfer(read_transfer(alloc, fields)?)),
+            CompositeKind::Disposition => Ok(Performative::Disposition(read_disposition(
+                alloc, fields,
+            )?)),
+            CompositeKind::Detach => Ok(Performative::Detach(read_detach(alloc, fields)?)),
+            CompositeKind::End => Ok(Performative::End(read_end(alloc, fields)?)),
+            CompositeKind::Close => Ok(Performative::Close(read_close(alloc, fields)?)),
+            _ => Err(BaseError::Decode),
+        }
+    }
+
+    /// The value that holds the body; the one error is want of memory.
+    pub fn to_value(&self, alloc: Global) -> Result<Value, BaseError>
+        ensures { Makes view result (of_performative self.now) }
+    {
+        match self {
+            Performative::Open(body) => {
+                let fields = open_list(alloc, body)?;
+                list_value(alloc, CompositeKind::Open, fields)
+            }
+            Performative::Begin(body) => {
+                let fields = begin_list(alloc, body)?;
+                list_value(alloc, CompositeKind::Begin, fields)
+            }
+            Performative::Attach(body) => {
+                let fields = attach_list(alloc, body)?;
+                list_value(alloc, CompositeKind::Attach, fields)
+            }
+            Performative::Flow(body) => {
+                let fields = flow_list(alloc, body)?;
+                list_value(alloc, CompositeKind::Flow, fields)
+            }
+            Performative::Transfer(body) => {
+                let fields = transfer_list(alloc, body)?;
+                list_value(alloc, CompositeKind::Transfer, fields)
+            }
+            Performative::Disposition(body) => {
+                let fields = disposition_list(alloc, body)?;
+                list_value(alloc, CompositeKind::Disposition, fields)
+            }
+            Performative::Detach(body) => {
+                let fields = detach_list(alloc, body)?;
+                list_value(alloc, CompositeKind::Detach, fields)
+            }
+            Performative::End(body) => {
+                let fields = end_list(alloc, body)?;
+                list_value(alloc, CompositeKind::End, fields)
+            }
+            Performative::Close(body) => {
+                let fields = close_list(alloc, body)?;
+                list_value(alloc, CompositeKind::Close, fields)
+            }
+        }
+    }
+}

@@ -1,0 +1,84 @@
+//! The bodies of SASL frames (OASIS AMQP 1.0, part 5, section 5.3.3).
+ghost use Rattle.std.specs.Prelude.{◌≡◌};
+ghost use Rattle.amqp_data.specs.View.{view};
+ghost use Rattle.amqp_fields.specs.Fields.{Gives, Makes};
+ghost use Rattle.amqp_composites.specs.declared.sasl_body.SaslBody.TheVariants as v;
+ghost use Rattle.amqp_composites.specs.SaslBody.{sasl_body_in, of_sasl_body, IsSaslBodyValid, sasl_body_again};
+
+use crate::described::{list_value, read_list};
+use crate::kind::CompositeKind;
+use crate::sasl::{
+    SaslChallenge, SaslInit, SaslMechanisms, SaslOutcome, SaslResponse, read_sasl_challenge,
+    read_sasl_init, read_sasl_mechanisms, read_sasl_outcome, read_sasl_response,
+    sasl_challenge_list, sasl_init_list, sasl_mechanisms_list, sasl_outcome_list,
+    sasl_response_list,
+};
+use amqp_data::Value;
+use amqp_fields::BaseError;
+use std::alloc::Global;
+
+/// The body of a SASL frame.
+#[derive(Debug, Drop)]
+pub enum SaslBody {
+    /// The mechanisms that a server offers.
+    Mechanisms(SaslMechanisms),
+    /// The mechanism that the client chooses.
+    Init(SaslInit),
+    /// What the server asks.
+    Challenge(SaslChallenge),
+    /// What the client answers.
+    Response(SaslResponse),
+    /// How the dialog ends.
+    Outcome(SaslOutcome),
+}
+
+impl SaslBody {
+    /// The body that the value holds: `Decode` exactly where it holds none.
+    pub fn from_value(alloc: Global, value: Value) -> Result<Self, BaseError>
+        ensures { Gives result (sasl_body_in (view value)) }
+    {
+        let (kind, fields) = read_list(value)?;
+        match kind {
+            CompositeKind::SaslMechanisms => Ok(SaslBody::Mechanisms(read_sasl_mechanisms(
+                alloc, fields,
+            )?)),
+            CompositeKind::SaslInit => Ok(SaslBody::Init(read_sasl_init(alloc, fields)?)),
+            CompositeKind::SaslChallenge => Ok(SaslBody::Challenge(read_sasl_challenge(
+                alloc, fields,
+            )?)),
+            CompositeKind::SaslResponse => Ok(SaslBody::Response(read_sasl_response(
+                alloc, fields,
+            )?)),
+            CompositeKind::SaslOutcome => Ok(SaslBody::Outcome(read_sasl_outcome(alloc, fields)?)),
+            _ => Err(BaseError::Decode),
+        }
+    }
+
+    /// The value that holds the body; the one error is want of memory.
+    pub fn to_value(&self, alloc: Global) -> Result<Value, BaseError>
+        ensures { Makes view result (of_sasl_body self.now) }
+    {
+        match self {
+            SaslBody::Mechanisms(body) => {
+                let fields = sasl_mechanisms_list(alloc, body)?;
+                list_value(alloc, CompositeKind::SaslMechanisms, fields)
+            }
+            SaslBody::Init(body) => {
+                let fields = sasl_init_list(alloc, body)?;
+                list_value(alloc, CompositeKind::SaslInit, fields)
+            }
+            SaslBody::Challenge(body) => {
+                let fields = sasl_challenge_list(alloc, body)?;
+                list_value(alloc, CompositeKind::SaslChallenge, fields)
+            }
+            SaslBody::Response(body) => {
+                let fields = sasl_response_list(alloc, body)?;
+                list_value(alloc, CompositeKind::SaslResponse, fields)
+            }
+            SaslBody::Outcome(body) => {
+                let fields = sasl_outcome_list(alloc, body)?;
+                list_value(alloc, CompositeKind::SaslOutcome, fields)
+            }
+        }
+    }
+}
