@@ -3,3 +3,4 @@ pub mod Distinct
 pub mod Lists
 pub mod Fed
 pub mod Nests
+pub mod Placed

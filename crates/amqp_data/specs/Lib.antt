@@ -4,4 +4,5 @@ pub mod View
 pub mod Falls
 pub mod Same
 pub mod SameLaws
+pub mod Maps
 pub mod Errors

@@ -1,13 +1,17 @@
 //! Maps with distinct keys, in the order of insertion (OASIS AMQP 1.0, part 1, section 1.6.23).
-ghost use Rattle.std.specs.Prelude.{◌≡◌, ◌↔◌, IsTrue, IfOk, OnOk, OnErr, IsErrOf};
-ghost use Rattle.amqp_data.specs.Data.{no_pairs, pair_count, HasDistinctKeys};
-ghost use Rattle.amqp_data.specs.Same.{distinct_keys};
+ghost use Rattle.std.specs.Prelude.{◌≡◌, ◌↔◌, IsTrue, IsNone, IfOk, OnOk, OnErr, IsErrOf, is_some, option_map, position};
+ghost use Rattle.std.specs.Slice.Iter.{iter_rest};
+ghost use Rattle.amqp_data.specs.Data.{no_pairs, pair_count, IsNew, HasDistinctKeys};
+ghost use Rattle.amqp_data.specs.Maps.{lookup, inserted};
+ghost use Rattle.amqp_data.specs.Same.{same, distinct_keys};
 ghost use Rattle.amqp_data.specs.View.{view, pairs_view};
 ghost use Rattle.amqp_data.specs.declared.map.MapError.TheVariants.{Memory};
 
 use crate::value::{Entry, OrderedMap, Value};
 use indexmap::IndexSet;
 use std::alloc::{AllocError, Global};
+use std::mem;
+use std::slice;
 use thiserror::Error;
 
 /// Why entries make no map.
@@ -39,6 +43,13 @@ fn has_distinct_keys(alloc: Global, entries: &[Entry]) -> Result<bool, AllocErro
         }
     }
     Ok(true)
+}
+
+/// The place of the key among the entries, if it is there.
+fn place_of(entries: &[Entry], key: &Value) -> Option<usize>
+    ensures { result ≡ position (λ e. same (view e.key) (view key.now)) entries.now }
+{
+    entries.iter().position(|entry| entry.key == *key)
 }
 
 impl OrderedMap {
@@ -79,5 +90,58 @@ impl OrderedMap {
         ensures distinct { HasDistinctKeys self.now }
     {
         &self.entries
+    }
+
+    /// The entries in order of insertion.
+    pub fn iter(&self) -> slice::Iter<'_, Entry>
+        ensures { pairs_view (iter_rest result) ≡ self.now }
+    {
+        self.entries.iter()
+    }
+
+    /// The number of entries.
+    pub fn len(&self) -> usize
+        ensures { result ≡ pair_count self.now }
+    {
+        self.entries.len()
+    }
+
+    /// Whether there are none.
+    pub fn is_empty(&self) -> bool
+        ensures { IsTrue result ↔ (self.now ≡ no_pairs) }
+    {
+        self.entries.is_empty()
+    }
+
+    /// The value at the key, lent. The work is linear in the number of entries.
+    pub fn get(&self, key: &Value) -> Option<&Value>
+        ensures value { option_map (λ v. view v.now) result ≡ lookup (view key.now) self.now }
+        ensures none { IsNone result ↔ IsNew (view key.now) self.now }
+    {
+        let place = place_of(&self.entries, key)?;
+        Some(&self.entries[place].value)
+    }
+
+    /// Whether the key is there. The work is linear in the number of entries.
+    pub fn contains_key(&self, key: &Value) -> bool
+        ensures { result ≡ is_some (lookup (view key.now) self.now) }
+    {
+        self.get(key).is_some()
+    }
+
+    /// Puts the value at the key. A key that is there keeps its place, and the value that it had is answered; another one
+    /// goes to the end. Want of memory leaves the map as it was. The work is linear in the number of entries.
+    pub fn insert(&mut self, key: Value, value: Value) -> Result<Option<Value>, AllocError>
+        ensures ok { OnOk result (self.new ≡ inserted (view key) (view value) self.old) }
+        ensures old { IfOk result (λ had. option_map view had ≡ lookup (view key) self.old) }
+        ensures err { OnErr result (self.new ≡ self.old) }
+    {
+        if let Some(place) = place_of(&self.entries, &key) {
+            let entry = &mut self.entries[place];
+            let had = mem::replace(&mut entry.value, value);
+            return Ok(Some(had));
+        }
+        self.entries.push(Entry { key, value })?;
+        Ok(None)
     }
 }
