@@ -89,6 +89,7 @@ same_scalar_self (symbol s) = (bytes_eq-Decides s s).1 refl
 
 mutual
   unfolding same
+
   pub same_is : (a b : Amqp) → same a b ≡ true → a ≡ b
   same_is (scalar a) (scalar b) e = ap scalar (same_scalar_is a b e)
   same_is (list vs) (list ws) e = ap list (same_items_is vs ws e)
@@ -109,6 +110,7 @@ mutual
 
 mutual
   unfolding same
+
   pub same_self : (a : Amqp) → same a a ≡ true
   same_self (scalar a) = same_scalar_self a
   same_self (list vs) = same_items_self vs

@@ -43,11 +43,8 @@ impl Value {
         ensures { result ≡ element_kind (view self.now) }
     {
         match self {
-            Value::Null
-            | Value::List(_)
-            | Value::Map(_)
-            | Value::Array(_)
-            | Value::Described(_) => None,
+            Value::Null | Value::List(_) | Value::Map(_) | Value::Array(_) | Value::Described(_) =>
+                None,
             Value::Bool(_) => Some(ElementKind::Bool),
             Value::Ubyte(_) => Some(ElementKind::Ubyte),
             Value::Ushort(_) => Some(ElementKind::Ushort),

@@ -34,6 +34,9 @@ impl Described {
         ensures descriptor { view result.0 ≡ self.0 }
         ensures value { view result.1 ≡ self.1 }
     {
-        (Box::into_inner(self.descriptor), Box::into_inner(self.value))
+        (
+            Box::into_inner(self.descriptor),
+            Box::into_inner(self.value),
+        )
     }
 }

@@ -10,9 +10,11 @@ pub use nesting::nests_within;
 pub use value::{Described, Entry, OrderedMap, Timestamp, Uuid, Value, ValueArray, ValueList};
 
 pub mod array;
+mod copy;
 mod described;
-pub mod kind;
+mod from;
 mod hash;
+pub mod kind;
 mod list;
 pub mod map;
 pub mod nesting;

@@ -10,8 +10,7 @@ ghost use Rattle.amqp_data.specs.declared.map.MapError.TheVariants.{Memory};
 use crate::value::{Entry, OrderedMap, Value};
 use indexmap::IndexSet;
 use std::alloc::{AllocError, Global};
-use std::mem;
-use std::slice;
+use std::{mem, slice};
 use thiserror::Error;
 
 /// Why entries make no map.

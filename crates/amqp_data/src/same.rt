@@ -28,25 +28,101 @@ fn same_values(a: &Value, b: &Value) -> bool
 {
     match a {
         Value::Null => matches!(b, Value::Null),
-        Value::Bool(m) => if let Value::Bool(n) = b { *m == *n } else { false },
-        Value::Ubyte(m) => if let Value::Ubyte(n) = b { *m == *n } else { false },
-        Value::Ushort(m) => if let Value::Ushort(n) = b { *m == *n } else { false },
-        Value::Uint(m) => if let Value::Uint(n) = b { *m == *n } else { false },
-        Value::Ulong(m) => if let Value::Ulong(n) = b { *m == *n } else { false },
-        Value::Byte(m) => if let Value::Byte(n) = b { *m == *n } else { false },
-        Value::Short(m) => if let Value::Short(n) = b { *m == *n } else { false },
-        Value::Int(m) => if let Value::Int(n) = b { *m == *n } else { false },
-        Value::Long(m) => if let Value::Long(n) = b { *m == *n } else { false },
-        Value::Char(m) => if let Value::Char(n) = b { *m == *n } else { false },
-        Value::Timestamp(m) => if let Value::Timestamp(n) = b { m.milliseconds == n.milliseconds } else { false },
-        Value::Uuid(m) => if let Value::Uuid(n) = b { m.bytes.as_slice() == n.bytes.as_slice() } else { false },
-        Value::Binary(s) => if let Value::Binary(t) = b { s.as_slice() == t.as_slice() } else { false },
-        Value::String(s) => if let Value::String(t) = b { s.as_bytes() == t.as_bytes() } else { false },
-        Value::Symbol(s) => if let Value::Symbol(t) = b { s.as_slice() == t.as_slice() } else { false },
-        Value::List(v) => if let Value::List(w) = b { same_lists(v, w) } else { false },
-        Value::Map(v) => if let Value::Map(w) = b { same_maps(v, w) } else { false },
-        Value::Array(v) => if let Value::Array(w) = b { same_arrays(v, w) } else { false },
-        Value::Described(v) => if let Value::Described(w) = b { same_described(v, w) } else { false },
+        Value::Bool(m) => if let Value::Bool(n) = b {
+            *m == *n
+        } else {
+            false
+        },
+        Value::Ubyte(m) => if let Value::Ubyte(n) = b {
+            *m == *n
+        } else {
+            false
+        },
+        Value::Ushort(m) => if let Value::Ushort(n) = b {
+            *m == *n
+        } else {
+            false
+        },
+        Value::Uint(m) => if let Value::Uint(n) = b {
+            *m == *n
+        } else {
+            false
+        },
+        Value::Ulong(m) => if let Value::Ulong(n) = b {
+            *m == *n
+        } else {
+            false
+        },
+        Value::Byte(m) => if let Value::Byte(n) = b {
+            *m == *n
+        } else {
+            false
+        },
+        Value::Short(m) => if let Value::Short(n) = b {
+            *m == *n
+        } else {
+            false
+        },
+        Value::Int(m) => if let Value::Int(n) = b {
+            *m == *n
+        } else {
+            false
+        },
+        Value::Long(m) => if let Value::Long(n) = b {
+            *m == *n
+        } else {
+            false
+        },
+        Value::Char(m) => if let Value::Char(n) = b {
+            *m == *n
+        } else {
+            false
+        },
+        Value::Timestamp(m) => if let Value::Timestamp(n) = b {
+            m.milliseconds == n.milliseconds
+        } else {
+            false
+        },
+        Value::Uuid(m) => if let Value::Uuid(n) = b {
+            m.bytes.as_slice() == n.bytes.as_slice()
+        } else {
+            false
+        },
+        Value::Binary(s) => if let Value::Binary(t) = b {
+            s.as_slice() == t.as_slice()
+        } else {
+            false
+        },
+        Value::String(s) => if let Value::String(t) = b {
+            s.as_bytes() == t.as_bytes()
+        } else {
+            false
+        },
+        Value::Symbol(s) => if let Value::Symbol(t) = b {
+            s.as_slice() == t.as_slice()
+        } else {
+            false
+        },
+        Value::List(v) => if let Value::List(w) = b {
+            same_lists(v, w)
+        } else {
+            false
+        },
+        Value::Map(v) => if let Value::Map(w) = b {
+            same_maps(v, w)
+        } else {
+            false
+        },
+        Value::Array(v) => if let Value::Array(w) = b {
+            same_arrays(v, w)
+        } else {
+            false
+        },
+        Value::Described(v) => if let Value::Described(w) = b {
+            same_described(v, w)
+        } else {
+            false
+        },
     }
 }
 

@@ -17,21 +17,21 @@ pub struct Uuid {
 
 /// Values in order (section 1.6.22).
 #[cycle(value)]
-#[derive(Drop)]
+#[derive(Debug, Drop)]
 pub struct ValueList {
     pub(crate) values: Vec<Value>,
 }
 
 /// Keys with their values, in the order of insertion; no key comes twice (section 1.6.23).
 #[cycle(value)]
-#[derive(Drop)]
+#[derive(Debug, Drop)]
 pub struct OrderedMap {
     pub(crate) entries: Vec<Entry>,
 }
 
 /// A key and its value.
 #[cycle(value)]
-#[derive(Drop)]
+#[derive(Debug, Drop)]
 pub struct Entry {
     pub key: Value,
     pub value: Value,
@@ -39,7 +39,7 @@ pub struct Entry {
 
 /// Values of one kind (section 1.6.24).
 #[cycle(value)]
-#[derive(Drop)]
+#[derive(Debug, Drop)]
 pub struct ValueArray {
     pub(crate) kind: ElementKind,
     pub(crate) values: Vec<Value>,
@@ -47,7 +47,7 @@ pub struct ValueArray {
 
 /// A value with a descriptor (section 1.1.2).
 #[cycle(value)]
-#[derive(Drop)]
+#[derive(Debug, Drop)]
 pub struct Described {
     pub(crate) descriptor: Box<Value>,
     pub(crate) value: Box<Value>,
@@ -55,7 +55,7 @@ pub struct Described {
 
 /// An AMQP value.
 #[cycle(value)]
-#[derive(Drop)]
+#[derive(Debug, Drop)]
 pub enum Value {
     Null,
     Bool(bool),
