@@ -1,5 +1,5 @@
 -- The entry of a map at a key, by its place in the list of entries.
-use Rattle.std.proofs.Common.{◌≡◌, ℕ, zero, suc, ◌+◌, ◌<◌, Bool, true, false, cond, List, [], ◌∷◌, ◌++◌, length, get_or, Option, Some, None, position, refl, sym, ap, subst, ◌∙◌, arith}
+use Rattle.std.proofs.Common.{◌≡◌, ◌≢◌, ℕ, zero, suc, ◌+◌, ◌<◌, Bool, true, false, cond, List, [], ◌∷◌, ◌++◌, length, get_or, Option, Some, None, position, refl, sym, ap, ap₂, subst, ◌∙◌, arith}
 use Rattle.std.proofs.Math.ListN.{set}
 use Rattle.std.specs.List.{position_from}
 use Rattle.std.proofs.lemmas.Bool.{true≢false}
@@ -125,15 +125,47 @@ HasDistinctKeys-along k v ps qs e h = subst HasDistinctKeys (sym e) (HasDistinct
 
 -- ---- the two ways to insert
 
+-- a place among the entries, lent or owned
+pub place_is : (k : Amqp) (es lent : List Entry) (r place : Option ℕ) → lent ≡ es → r ≡ position (has_key k) lent → r ≡ place → position (has_key k) es ≡ place
+place_is k es lent r place same_entries found is = ap (position (has_key k)) (sym same_entries) ∙ sym found ∙ is
+
 -- the entry at the key's place has another value
-pub replaced : (k v : Value) (es : List Entry) (i : ℕ) (e : Entry) (x : Value) → position (has_key (view k)) es ≡ Some i → e ≡ get_or es i e → x ≡ v
-    → pairs_view (set es i (record { key = e.key; value = x })) ≡ inserted (view k) (view v) (pairs_view es)
-replaced k v es i e x at here same_value =
+pub replaced : (k v x : Value) (es : List Entry) (ps : Pairs) (i : ℕ) (e : Entry) → position (has_key (view k)) es ≡ Some i → e ≡ get_or es i e → x ≡ v → pairs_view es ≡ ps
+    → pairs_view (set es i (record { key = e.key; value = x })) ≡ inserted (view k) (view v) ps
+replaced k v x es ps i e at here same_value same_pairs =
     ap (λ (z : Entry). pairs_view (set es i (record { key = z.key; value = x }))) here
     ∙ inserted-place (view k) x es i e at
-    ∙ ap (λ (z : Value). inserted (view k) (view z) (pairs_view es)) same_value
+    ∙ ap₂ (λ (z : Value) (qs : Pairs). inserted (view k) (view z) qs) same_value same_pairs
 
 -- an entry more at the end
-pub added : (k v : Value) (es new : List Entry) → position (has_key (view k)) es ≡ None → new ≡ es ++ record { key = k; value = v } ∷ []
-    → pairs_view new ≡ inserted (view k) (view v) (pairs_view es)
-added k v es new none e = ap pairs_view e ∙ inserted-absent k v es (lookup-no_place (view k) es none)
+pub added : (k v : Value) (es new : List Entry) (ps : Pairs) → position (has_key (view k)) es ≡ None → new ≡ es ++ record { key = k; value = v } ∷ [] → pairs_view es ≡ ps
+    → pairs_view new ≡ inserted (view k) (view v) ps
+added k v es new ps none e same_pairs = ap pairs_view e ∙ inserted-absent k v es (lookup-no_place (view k) es none) ∙ ap (inserted (view k) (view v)) same_pairs
+
+-- ---- what is at a key after an insertion
+
+same_self : (k : Amqp) → same k k ≡ true
+same_self k = (same_decides k k).1 refl
+
+pub lookup-inserted : (k v : Amqp) (ps : Pairs) → lookup k (inserted k v ps) ≡ Some v
+unfolding lookup inserted
+lookup-inserted k v no_pairs = rw (same_self k) refl
+lookup-inserted k v (pair l w ps) = by_test (same l k) refl (lookup-inserted k v ps) where
+  by_test : (b : Bool) → same l k ≡ b → lookup k (inserted k v ps) ≡ Some v → lookup k (cond b (pair l v ps) (pair l w (inserted k v ps))) ≡ Some v
+  by_test true e r = rw e refl
+  by_test false e r = rw e r
+
+pub lookup-inserted_other : (j k v : Amqp) (ps : Pairs) → j ≢ k → lookup j (inserted k v ps) ≡ lookup j ps
+unfolding lookup inserted
+lookup-inserted_other j k v no_pairs h = rw (other k j h) refl
+lookup-inserted_other j k v (pair l w ps) h = by_test (same l k) refl (lookup-inserted_other j k v ps h) where
+  by_test : (b : Bool) → same l k ≡ b → lookup j (inserted k v ps) ≡ lookup j ps
+      → lookup j (cond b (pair l v ps) (pair l w (inserted k v ps))) ≡ cond (same l j) (Some w) (lookup j ps)
+  by_test true e r = rw (other l j (λ g. h (g ∙ (same_decides l k).0 e))) refl
+  by_test false e r = ap (cond (same l j) (Some w)) r
+
+pub found_along : (k v : Amqp) (ps qs : Pairs) → qs ≡ inserted k v ps → lookup k qs ≡ Some v
+found_along k v ps qs e = ap (lookup k) e ∙ lookup-inserted k v ps
+
+pub others_along : (k v : Amqp) (ps qs : Pairs) → qs ≡ inserted k v ps → (j : Amqp) → j ≢ k → lookup j qs ≡ lookup j ps
+others_along k v ps qs e j h = ap (lookup j) e ∙ lookup-inserted_other j k v ps h

@@ -1,7 +1,7 @@
 //! Maps with distinct keys, in the order of insertion (OASIS AMQP 1.0, part 1, section 1.6.23).
-ghost use Rattle.std.specs.Prelude.{◌≡◌, ◌↔◌, IsTrue, IsNone, IfOk, OnOk, OnErr, IsErrOf, is_some, option_map, position};
+ghost use Rattle.std.specs.Prelude.{◌≡◌, ◌≢◌, ◌↔◌, Some, IsTrue, IsNone, IfOk, OnOk, OnErr, IsErrOf, is_some, option_map, position};
 ghost use Rattle.std.specs.Slice.Iter.{iter_rest};
-ghost use Rattle.amqp_data.specs.Data.{no_pairs, pair_count, IsNew, HasDistinctKeys};
+ghost use Rattle.amqp_data.specs.Data.{Amqp, no_pairs, pair_count, IsNew, HasDistinctKeys};
 ghost use Rattle.amqp_data.specs.Maps.{lookup, inserted};
 ghost use Rattle.amqp_data.specs.Same.{same, distinct_keys};
 ghost use Rattle.amqp_data.specs.View.{view, pairs_view};
@@ -133,6 +133,8 @@ impl OrderedMap {
     pub fn insert(&mut self, key: Value, value: Value) -> Result<Option<Value>, AllocError>
         ensures ok { OnOk result (self.new ≡ inserted (view key) (view value) self.old) }
         ensures old { IfOk result (λ had. option_map view had ≡ lookup (view key) self.old) }
+        ensures found { OnOk result (lookup (view key) self.new ≡ Some (view value)) }
+        ensures others { OnOk result ((k : Amqp) → k ≢ view key → lookup k self.new ≡ lookup k self.old) }
         ensures err { OnErr result (self.new ≡ self.old) }
     {
         if let Some(place) = place_of(&self.entries, &key) {
