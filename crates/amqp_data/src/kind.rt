@@ -1,4 +1,5 @@
-//! The kinds that an array's elements can have (OASIS AMQP 1.0, part 1, section 1.6.24).
+//! The kinds that an array's elements can have here: the scalar kinds (OASIS AMQP 1.0, part 1, section 1.6.24).
+//! Arrays of null, of floats and of compound values are not supported.
 
 ghost use Rattle.std.specs.Prelude.{◌≡◌};
 ghost use Rattle.amqp_data.specs.Same.{kind_number, same_kind};
@@ -6,20 +7,35 @@ ghost use Rattle.amqp_data.specs.Same.{kind_number, same_kind};
 /// The kind of all elements of an array.
 #[derive(Clone, Copy, Debug, PartialEq, Eq)]
 pub enum ElementKind {
+    /// True or false (section 1.6.2).
     Bool,
+    /// Whole numbers from 0 up to 2^8 - 1 (section 1.6.3).
     Ubyte,
+    /// Whole numbers from 0 up to 2^16 - 1 (section 1.6.4).
     Ushort,
+    /// Whole numbers from 0 up to 2^32 - 1 (section 1.6.5).
     Uint,
+    /// Whole numbers from 0 up to 2^64 - 1 (section 1.6.6).
     Ulong,
+    /// Whole numbers from -2^7 up to 2^7 - 1 (section 1.6.7).
     Byte,
+    /// Whole numbers from -2^15 up to 2^15 - 1 (section 1.6.8).
     Short,
+    /// Whole numbers from -2^31 up to 2^31 - 1 (section 1.6.9).
     Int,
+    /// Whole numbers from -2^63 up to 2^63 - 1 (section 1.6.10).
     Long,
+    /// Unicode characters (section 1.6.16).
     Char,
+    /// Points in time, in milliseconds (section 1.6.17).
     Timestamp,
+    /// Universally unique identifiers (section 1.6.18).
     Uuid,
+    /// Sequences of octets (section 1.6.19).
     Binary,
+    /// Texts in UTF-8 (section 1.6.20).
     String,
+    /// Symbols in ASCII (section 1.6.21).
     Symbol,
 }
 

@@ -1,5 +1,6 @@
-//! AMQP values (OASIS AMQP 1.0, part 1, section 1.6): every kind, lists, maps with distinct keys, arrays of one kind,
-//! their equality, their hash and how deep they are nested.
+//! AMQP values (OASIS AMQP 1.0, part 1, section 1.6): every kind but float, double and the decimals, with lists, maps with
+//! distinct keys, arrays of one scalar kind and described values, their equality, hash and copies, and how deep they are
+//! nested. What each value is as data is in specs/Data.antt.
 #![tactic(auto)]
 
 pub use amqp_text::{Binary, Symbol, SymbolList, Text};
@@ -19,4 +20,6 @@ mod list;
 pub mod map;
 pub mod nesting;
 mod same;
+#[cfg(test)]
+mod tests;
 pub mod value;

@@ -1,4 +1,5 @@
-//! Maps with distinct keys, in the order of insertion (OASIS AMQP 1.0, part 1, section 1.6.23).
+//! Maps with distinct keys, in the order of insertion (OASIS AMQP 1.0, part 1, section 1.6.23). A look-up and an insertion
+//! scan the entries; a whole map is made by `OrderedMap::from_entries` in linear time.
 ghost use Rattle.std.specs.Prelude.{◌≡◌, ◌≢◌, ◌↔◌, Some, IsTrue, IsNone, IfOk, OnOk, OnErr, IsErrOf, is_some, option_map, position};
 ghost use Rattle.std.specs.Slice.Iter.{iter_rest};
 ghost use Rattle.amqp_data.specs.Data.{Amqp, no_pairs, pair_count, IsNew, HasDistinctKeys};
@@ -144,5 +145,17 @@ impl OrderedMap {
         }
         self.entries.push(Entry { key, value })?;
         Ok(None)
+    }
+}
+
+impl<'a> IntoIterator for &'a OrderedMap {
+    type Item = &'a Entry;
+
+    type IntoIter = slice::Iter<'a, Entry>;
+
+    ghost into_iter_gives = { λ map it. pairs_view (iter_rest it) ≡ map.now };
+
+    fn into_iter(self) -> Self::IntoIter {
+        self.iter()
     }
 }

@@ -1,4 +1,4 @@
-//! How deep a value is nested.
+//! How deep a value is nested: scalars and empty compounds one level, others one more than their deepest part.
 ghost use Rattle.std.specs.Prelude.{◌≡◌, ◌≤◌, ◌↔◌, IsTrue, max};
 ghost use Rattle.amqp_data.specs.Data.{depth, items_depth, pairs_depth};
 ghost use Rattle.amqp_data.specs.View.{view, items_view, pairs_view};

@@ -1,4 +1,4 @@
-//! When two values are the same: kind and value are; and their hash.
+//! When two values are the same: they are of one kind and hold the same.
 ghost use Rattle.std.specs.Prelude.{◌≡◌, ◌&&◌};
 ghost use Rattle.amqp_data.specs.View.{view, items_view, pairs_view};
 ghost use Rattle.amqp_data.specs.Same.{same, same_items, same_pairs, same_kind};
@@ -7,6 +7,9 @@ ghost use Rattle.amqp_data.specs.SameLaws.{partial_laws, equal_laws};
 use crate::kind::same_kind;
 use crate::value::{Described, Entry, OrderedMap, Value, ValueArray, ValueList};
 
+/// Two values are equal where they are of one kind and hold the same: `Uint(1)` is not `Ulong(1)`, and lists are equal item
+/// by item. The order of a map's entries counts, as section 1.6.23 asks: two maps with the same entries in another order
+/// are not equal. The kind of an array counts also where it is empty.
 impl PartialEq for Value {
     ghost eq = { λ a b. same (view a) (view b) };
 

@@ -1,4 +1,4 @@
-//! Values of every kind (OASIS AMQP 1.0, part 1, sections 1.1 and 1.6).
+//! The types of values (OASIS AMQP 1.0, part 1, sections 1.1 and 1.6), and what contracts see of each.
 use crate::kind::ElementKind;
 use amqp_text::{Binary, Symbol, Text};
 use std::marker::Model;
@@ -6,12 +6,14 @@ use std::marker::Model;
 /// A point in time, in milliseconds since 1970-01-01 00:00 UTC (section 1.6.17).
 #[derive(Clone, Copy, Debug, PartialEq, Eq)]
 pub struct Timestamp {
+    /// Negative before that date.
     pub milliseconds: i64,
 }
 
 /// A universally unique identifier, in the order of RFC 4122 (section 1.6.18).
 #[derive(Clone, Copy, Debug, PartialEq, Eq)]
 pub struct Uuid {
+    /// The 16 octets, the first one first.
     pub bytes: [u8; 16],
 }
 
@@ -33,7 +35,9 @@ pub struct OrderedMap {
 #[cycle(value)]
 #[derive(Debug, Drop)]
 pub struct Entry {
+    /// The key, of any kind.
     pub key: Value,
+    /// The value at the key.
     pub value: Value,
 }
 
@@ -53,29 +57,49 @@ pub struct Described {
     pub(crate) value: Box<Value>,
 }
 
-/// An AMQP value.
+/// An AMQP value of any kind but float, double and the three decimals (sections 1.6.11 to 1.6.15), which are not supported.
 #[cycle(value)]
 #[derive(Debug, Drop)]
 pub enum Value {
+    /// No value (section 1.6.1).
     Null,
+    /// True or false (section 1.6.2).
     Bool(bool),
+    /// A whole number from 0 up to 2^8 - 1 (section 1.6.3).
     Ubyte(u8),
+    /// A whole number from 0 up to 2^16 - 1 (section 1.6.4).
     Ushort(u16),
+    /// A whole number from 0 up to 2^32 - 1 (section 1.6.5).
     Uint(u32),
+    /// A whole number from 0 up to 2^64 - 1 (section 1.6.6).
     Ulong(u64),
+    /// A whole number from -2^7 up to 2^7 - 1 (section 1.6.7).
     Byte(i8),
+    /// A whole number from -2^15 up to 2^15 - 1 (section 1.6.8).
     Short(i16),
+    /// A whole number from -2^31 up to 2^31 - 1 (section 1.6.9).
     Int(i32),
+    /// A whole number from -2^63 up to 2^63 - 1 (section 1.6.10).
     Long(i64),
+    /// A Unicode character (section 1.6.16).
     Char(char),
+    /// A point in time, in milliseconds (section 1.6.17).
     Timestamp(Timestamp),
+    /// A universally unique identifier (section 1.6.18).
     Uuid(Uuid),
+    /// A sequence of octets (section 1.6.19).
     Binary(Binary),
+    /// A text in UTF-8 (section 1.6.20).
     String(Text),
+    /// A symbol in ASCII (section 1.6.21).
     Symbol(Symbol),
+    /// Values in order, of any kinds (section 1.6.22).
     List(ValueList),
+    /// Keys with their values, in order (section 1.6.23).
     Map(OrderedMap),
+    /// Values in order, of one kind (section 1.6.24).
     Array(ValueArray),
+    /// A value with a descriptor (section 1.1.2).
     Described(Described),
 }
 
