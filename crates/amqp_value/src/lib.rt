@@ -6,6 +6,10 @@ pub use amqp_data::{
     Value, ValueArray, ValueList,
 };
 pub use error::ValueError;
+pub use payload::{PayloadBytes, PayloadError, PayloadList, PayloadReader};
 
 mod code;
 pub mod error;
+pub mod payload;
+#[cfg(test)]
+mod payload_tests;
