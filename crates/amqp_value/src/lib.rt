@@ -6,6 +6,8 @@ pub use amqp_data::{
     Value, ValueArray, ValueList,
 };
 pub use error::ValueError;
+pub use reading::read_value;
 
 mod code;
 pub mod error;
+pub mod reading;
