@@ -1,9 +1,9 @@
 //! Reading a value from the front of its bytes (OASIS AMQP 1.0, part 1, sections 1.2 and 1.6).
-ghost use Rattle.std.specs.Prelude.{◌≡◌, ◌≤◌, ◌×◌, ◌++◌, ℕ, List, length, take, IfOk, IfErr, Err};
+ghost use Rattle.std.specs.Prelude.{◌≡◌, ◌≤◌, ◌++◌, ℕ, List, length, take, IfOk, IfErr, Err};
 ghost use Rattle.amqp_data.specs.Data.{Amqp, depth};
 ghost use Rattle.amqp_data.specs.View.{view};
 ghost use Rattle.amqp_value.specs.Grammar.{Spells};
-ghost use Rattle.amqp_value.specs.Errors.{IsReadError};
+ghost use Rattle.amqp_value.specs.ReadErrors.{IsReadError};
 
 use crate::error::ValueError;
 use amqp_data::Value;

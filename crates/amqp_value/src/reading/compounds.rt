@@ -2,7 +2,7 @@
 ghost use Rattle.std.specs.Prelude.{Option, ℕ, List};
 ghost use Rattle.amqp_data.specs.View.{view, items_view, pairs_view};
 ghost use Rattle.amqp_data.specs.Data.{dict};
-ghost use Rattle.amqp_value.specs.Reading.{◌>>=◌, Gives, items_at, pairs_at, values_in, list_at, pairs_in, map_at, distinct, element_at, constructor_at, elements_in, array_at, described_at, code_at, body_at, value_at};
+ghost use Rattle.amqp_value.specs.Reading.{Gives, items_at, pairs_at, values_in, list_at, pairs_in, map_at, distinct, element_at, constructor_at, elements_in, array_at, described_at, code_at, body_at, value_at};
 
 use crate::code::{Code, ScalarCode, SizeWidth, code_of, scalar_code_of};
 use crate::error::ValueError;

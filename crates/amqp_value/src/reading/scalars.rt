@@ -145,6 +145,7 @@ fn read_binary(
     Ok((Value::Binary(octets), rest))
 }
 
+#[tactic(auto, unfolding(crate::specs::Reading::text_at))]
 fn read_string(
     alloc: Global,
     width: SizeWidth,
@@ -157,6 +158,7 @@ fn read_string(
     Ok((Value::String(text), rest))
 }
 
+#[tactic(auto, unfolding(crate::specs::Reading::symbol_at))]
 fn read_symbol(
     alloc: Global,
     width: SizeWidth,
