@@ -3,11 +3,13 @@ use Rattle.std.proofs.Common.{◌≡◌, ℕ, zero, suc, ◌<◌, ◌≤◌, max
 use Rattle.std.proofs.lemmas.Option.{none-some}
 use Rattle.amqp_data.specs.declared.kind.ElementKind.{ElementKind}
 use Rattle.amqp_data.specs.Data.{Scalar, Amqp, Items, scalar, no_items, item, count, depth, items_depth, AreOfKind}
+use Rattle.amqp_value.specs.declared.code.SizeWidth.{SizeWidth}
 use Rattle.amqp_value.specs.declared.code.ScalarCode.{ScalarCode}
 use Rattle.amqp_value.specs.Code.{code_kind}
 use Rattle.amqp_value.specs.Grammar.{LaysAll, no_elements, more_elements}
-use Rattle.amqp_value.specs.Reading.{◌>>=◌, scalar_at, kept, items_at, element_at}
-use Rattle.amqp_value.proofs.Numbers.{IsBytes, bind_some, some_is}
+use Rattle.amqp_value.specs.Reading.{◌>>=◌, size_at, scalar_at, kept, items_at, element_at, constructor_at}
+use Rattle.amqp_value.proofs.Numbers.{IsBytes, bind_some, some_is, sizes}
+use Rattle.amqp_value.proofs.Codes.{constructor_takes}
 use Rattle.amqp_value.proofs.Scalars.{TookScalar, scalar_sound, scalar_again, lays_kind}
 
 record TookElement (c : ScalarCode) (d : ℕ) (bytes : List ℕ) (v : Amqp) (rest : List ℕ) : Type 0 where
@@ -62,3 +64,12 @@ elements_again zero rest (more_elements c s vs first others l all) le = absurd (
 elements_again (suc d) rest (more_elements c s vs first others l all) le =
     let read : items_at (element_at c (suc d)) (count vs) (others ++ rest) ≡ Some (vs, rest) = elements_again (suc d) rest all (omega (arith, le)) in
     ap (items_at (element_at c (suc d)) (suc (count vs))) (append_assoc first others rest) ∙ rw (scalar_again (others ++ rest) l, read) refl
+
+-- the elements of an array that is read are of the kind that their constructor says
+pub never_mixed : (w : SizeWidth) (d n : ℕ) (c : ScalarCode) (k : ElementKind) (vs : Items) (bytes first second rest : List ℕ) → IsBytes bytes → size_at w bytes ≡ Some (n, first) → constructor_at first ≡ Some ((c, k), second)
+    → items_at (element_at c d) n second ≡ Some (vs, rest) → AreOfKind k vs
+never_mixed w d n c k vs bytes first second rest fits e f g =
+    let t = (sizes w).takes bytes n first fits e in
+    let u = constructor_takes first ((c, k), second) t.0.rest_fits f in
+    let v = elements_sound c d n second (vs, rest) u.takes.rest_fits g in
+    all_of_kind k v.spelled u.kind

@@ -2,7 +2,8 @@
 use Rattle.std.proofs.Common.{◌≡◌, ℕ, ℤ, ◌^◌, ◌<◌, Bool, true, false, cond, eqb, List, [], ◌∷◌, ◌++◌, length, Option, Some, None, refl, sym, ap, ap₂, subst, ◌⊎◌, inl, inr, ◌∙◌, arith}
 use Rattle.std.specs.Prelude.{FitsSigned, IsUtf8}
 use Rattle.std.specs.Str.{is_utf8}
-use Rattle.std.specs.Int.{Width, w8, w16, w32, w64, bits, to_be_bytes, cast_signed, cast_unsigned}
+use Rattle.std.specs.Int.{Width, w8, w16, w32, w64, to_be_bytes, cast_signed, cast_unsigned}
+use mir.Val.{bits}
 use lib.Utf8.{scalar as is_scalar, scalar_fits}
 use Rattle.std.proofs.Math.Facts.{sfits_to_z, Fits-of_z}
 use Rattle.std.proofs.lemmas.Bool.{eqb-true}

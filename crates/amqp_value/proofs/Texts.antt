@@ -9,11 +9,16 @@ use Rattle.amqp_text.specs.declared.text.TextError.TheVariants as text
 use Rattle.amqp_text.specs.declared.symbol.Symbol.{Symbol}
 use Rattle.amqp_text.specs.declared.symbol.SymbolError.{SymbolError}
 use Rattle.amqp_text.specs.declared.symbol.SymbolError.TheVariants as symbols
-use Rattle.amqp_data.specs.Data.{scalar, string, symbol}
+use Rattle.amqp_data.specs.declared.value.OrderedMap.{OrderedMap}
+use Rattle.amqp_data.specs.declared.map.MapError.{MapError}
+use Rattle.amqp_data.specs.declared.map.MapError.TheVariants as maps
+use Rattle.amqp_data.specs.Data.{scalar, string, symbol, Pairs, HasDistinctKeys}
+use Rattle.amqp_data.specs.Same.{distinct_keys}
+use Rattle.amqp_data.specs.SameLaws.{HasDistinctKeys-from}
 use Rattle.amqp_value.specs.Grammar.{IsAscii}
-use Rattle.amqp_value.specs.ReadErrors.{from_text_error, from_symbol_error}
+use Rattle.amqp_value.specs.ReadErrors.{from_text_error, from_symbol_error, from_map_error}
 use Rattle.amqp_value.specs.declared.code.SizeWidth.{SizeWidth}
-use Rattle.amqp_value.specs.Reading.{Fails, block_at, text_at, symbol_at, kept}
+use Rattle.amqp_value.specs.Reading.{Fails, block_at, text_at, symbol_at, kept, distinct}
 use Rattle.amqp_value.proofs.Ascii.{is_not_ascii}
 
 not_true : (b : Bool) → (b ≡ true → ⊥) → b ≡ false
@@ -31,3 +36,7 @@ pub symbol_fails : (e : SymbolError) (w : SizeWidth) (bytes s rest : List ℕ) �
 unfolding symbol_at
 symbol_fails (symbols.Memory a) w bytes s rest h refused = tt
 symbol_fails symbols.NotAscii w bytes s rest h refused = rw (h, is_not_ascii s (refused refl)) refl
+
+pub map_fails : (e : MapError) (ps : Pairs) → (◌≡◌ {A = Result OrderedMap MapError} (Err e) (Err maps.DuplicateKey) → HasDistinctKeys ps → ⊥) → Fails (from_map_error e) (distinct ps)
+map_fails (maps.Memory a) ps refused = tt
+map_fails maps.DuplicateKey ps refused = rw (not_true (distinct_keys ps) (λ t. refused refl (HasDistinctKeys-from ps t))) refl
