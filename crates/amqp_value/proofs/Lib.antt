@@ -5,3 +5,6 @@ pub mod Texts
 pub mod Scalars
 pub mod Codes
 pub mod Elements
+pub mod Sound
+pub mod Complete
+pub mod Whole
