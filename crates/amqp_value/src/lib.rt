@@ -10,4 +10,5 @@ pub use reading::read_value;
 
 mod code;
 pub mod error;
+pub mod laws;
 pub mod reading;

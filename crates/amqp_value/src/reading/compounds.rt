@@ -72,8 +72,8 @@ fn read_elements_in(
 {
     let (count, rest) = take_size(width, content)?;
     let (code, kind, rest) = read_constructor(rest)?;
-    let (values, rest) = read_elements(alloc, code, count, rest, depth)?;
-    if !rest.is_empty() {
+    let (values, after_elements) = read_elements(alloc, code, count, rest, depth)?;
+    if !after_elements.is_empty() {
         return Err(ValueError::Decode);
     }
     match ValueArray::from_vec(kind, values) {
@@ -128,8 +128,8 @@ fn read_values_in(
     ensures { Gives (λ x. x) result (values_in (value_at depth) width content.now) }
 {
     let (count, rest) = take_size(width, content)?;
-    let (values, rest) = read_items(alloc, count, rest, depth)?;
-    if !rest.is_empty() {
+    let (values, after_items) = read_items(alloc, count, rest, depth)?;
+    if !after_items.is_empty() {
         return Err(ValueError::Decode);
     }
     Ok(ValueList::from_vec(values))
@@ -184,8 +184,8 @@ fn read_pairs_in(
     if count % 2 != 0 {
         return Err(ValueError::Decode);
     }
-    let (entries, rest) = read_pairs(alloc, count / 2, rest, depth)?;
-    if !rest.is_empty() {
+    let (entries, after_pairs) = read_pairs(alloc, count / 2, rest, depth)?;
+    if !after_pairs.is_empty() {
         return Err(ValueError::Decode);
     }
     Ok(entries)
@@ -234,10 +234,10 @@ fn read_code(bytes: &[u8]) -> Result<(Code, &[u8]), ValueError>
     ensures { Gives (λ x. (x.0, x.1.now)) result (code_at bytes.now) }
 {
     let (byte, rest) = take_u8(bytes)?;
-    match code_of(byte) {
-        Some(code) => Ok((code, rest)),
-        None => Err(ValueError::Decode),
-    }
+    let Some(code) = code_of(byte) else {
+        return Err(ValueError::Decode);
+    };
+    Ok((code, rest))
 }
 
 #[cycle(read)]
