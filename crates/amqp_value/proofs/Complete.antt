@@ -1,9 +1,9 @@
 -- A value that is spelled so is read, whatever follows.
-use Rattle.std.proofs.Common.{◌≡◌, ℕ, zero, suc, ◌+◌, ◌*◌, ◌/◌, ◌%◌, ◌<◌, ◌≤◌, max, List, [], ◌∷◌, ◌++◌, length, take, Option, Some, None, refl, sym, ap, ◌∙◌, append_assoc, arith}
+use Rattle.std.proofs.Common.{◌≡◌, ℕ, zero, suc, ◌+◌, ◌*◌, ◌/◌, ◌%◌, ◌<◌, ◌≤◌, max, List, [], ◌∷◌, ◌++◌, length, take, Some, refl, sym, ap, ◌∙◌, append_assoc, arith}
 use Rattle.std.proofs.lemmas.List.{append-nil, take_at, length-append}
 use Rattle.std.proofs.lemmas.Option.{some_pair_parts}
 use Rattle.amqp_data.specs.declared.kind.ElementKind.{ElementKind}
-use Rattle.amqp_data.specs.Data.{Scalar, Amqp, Items, Pairs, scalar, list, dict, array, described, no_items, item, no_pairs, pair, count, pair_count, depth, items_depth, pairs_depth, HasDistinctKeys}
+use Rattle.amqp_data.specs.Data.{Amqp, Items, Pairs, scalar, list, dict, array, described, count, pair_count, depth, items_depth, pairs_depth, HasDistinctKeys}
 use Rattle.amqp_data.specs.SameLaws.{distinct_keys-from}
 use Rattle.amqp_value.specs.declared.code.SizeWidth.{SizeWidth}
 use Rattle.amqp_value.specs.declared.code.ScalarCode.{ScalarCode}
@@ -11,7 +11,7 @@ use Rattle.amqp_value.specs.declared.code.Code.{Code}
 use Rattle.amqp_value.specs.declared.code.Code.TheVariants as code
 use Rattle.amqp_value.specs.Code.{limit, block, content, scalar_number, number, code_kind}
 use Rattle.amqp_value.specs.Grammar.{LaysAll, Spells, scalar', empty_list, list', map', array', described', SpellAll, no_values, more_values, SpellPairs, no_keys, more_keys}
-use Rattle.amqp_value.specs.Reading.{◌>>=◌, Parse, size_at, block_at, kept, scalar_at, items_at, pairs_at, only, values_in, list_at, half, pairs_in, distinct, map_at, element_at, constructor_at, elements_in, array_at, described_at, code_at, body_at, value_at}
+use Rattle.amqp_value.specs.Reading.{Parse, items_at, pairs_at, values_in, list_at, half, pairs_in, distinct, map_at, element_at, elements_in, array_at, described_at, body_at, value_at}
 use Rattle.amqp_value.proofs.Numbers.{sizes, block_again}
 use Rattle.amqp_value.proofs.Codes.{code_again, constructor_again}
 use Rattle.amqp_value.proofs.Scalars.{scalar_again}

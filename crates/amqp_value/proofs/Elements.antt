@@ -1,5 +1,5 @@
 -- The elements of an array: what is read is laid so, and what is laid so is read.
-use Rattle.std.proofs.Common.{◌≡◌, ℕ, zero, suc, ◌<◌, ◌≤◌, max, List, [], ◌∷◌, ◌++◌, Option, Some, None, refl, sym, ap, subst, ◌∙◌, append_assoc, arith}
+use Rattle.std.proofs.Common.{◌≡◌, ℕ, zero, suc, ◌<◌, ◌≤◌, List, [], ◌++◌, Some, refl, sym, ap, subst, ◌∙◌, append_assoc, arith}
 use Rattle.std.proofs.lemmas.Option.{none-some}
 use Rattle.amqp_data.specs.declared.kind.ElementKind.{ElementKind}
 use Rattle.amqp_data.specs.Data.{Scalar, Amqp, Items, scalar, no_items, item, count, depth, items_depth, AreOfKind}
@@ -7,7 +7,7 @@ use Rattle.amqp_value.specs.declared.code.SizeWidth.{SizeWidth}
 use Rattle.amqp_value.specs.declared.code.ScalarCode.{ScalarCode}
 use Rattle.amqp_value.specs.Code.{code_kind}
 use Rattle.amqp_value.specs.Grammar.{LaysAll, no_elements, more_elements}
-use Rattle.amqp_value.specs.Reading.{◌>>=◌, size_at, scalar_at, kept, items_at, element_at, constructor_at}
+use Rattle.amqp_value.specs.Reading.{◌>>=◌, size_at, scalar_at, items_at, element_at, constructor_at}
 use Rattle.amqp_value.proofs.Numbers.{IsBytes, bind_some, some_is, sizes}
 use Rattle.amqp_value.proofs.Codes.{constructor_takes}
 use Rattle.amqp_value.proofs.Scalars.{TookScalar, scalar_sound, scalar_again, lays_kind}

@@ -1,6 +1,6 @@
 -- What follows a scalar's constructor: what is read is laid so, and what is laid so is read.
-use Rattle.std.proofs.Common.{◌≡◌, ℕ, ℤ, ◌^◌, ◌<◌, Bool, true, false, cond, eqb, List, [], ◌∷◌, ◌++◌, length, Option, Some, None, refl, sym, ap, ap₂, subst, ◌⊎◌, inl, inr, ◌∙◌, arith}
-use Rattle.std.specs.Prelude.{FitsSigned, IsUtf8}
+use Rattle.std.proofs.Common.{◌≡◌, ℕ, ℤ, ◌^◌, ◌<◌, Bool, true, false, cond, eqb, List, [], ◌∷◌, ◌++◌, length, Option, Some, None, refl, sym, ap, ap₂, subst, ◌⊎◌, inl, inr, ◌∙◌}
+use Rattle.std.specs.Prelude.{FitsSigned}
 use Rattle.std.specs.Str.{is_utf8}
 use Rattle.std.specs.Int.{Width, w8, w16, w32, w64, to_be_bytes, cast_signed, cast_unsigned}
 use mir.Val.{bits}
@@ -16,7 +16,7 @@ use Rattle.amqp_value.specs.declared.code.SizeWidth.{SizeWidth}
 use Rattle.amqp_value.specs.declared.code.ScalarCode.{ScalarCode}
 use Rattle.amqp_value.specs.declared.code.ScalarCode.TheVariants as c
 use Rattle.amqp_value.specs.Code.{limit, block, code_kind}
-use Rattle.amqp_value.specs.Grammar.{IsAscii, Lays, null', true', false', boolean_true, boolean_false, ubyte', ushort', uint0, small_uint, uint', ulong0, small_ulong, ulong', byte', short', small_int, int', small_long, long', char', timestamp', uuid', binary', string', symbol'}
+use Rattle.amqp_value.specs.Grammar.{Lays, null', true', false', boolean_true, boolean_false, ubyte', ushort', uint0, small_uint, uint', ulong0, small_ulong, ulong', byte', short', small_int, int', small_long, long', char', timestamp', uuid', binary', string', symbol'}
 use Rattle.amqp_value.specs.Reading.{◌>>=◌, byte_at, number_at, bytes_at, block_at, is_ascii, ascii, utf8, truth, character, kept, tested, text_at, symbol_at, scalar_at}
 use Rattle.amqp_value.proofs.Numbers.{IsBytes, bind_some, some_is, Takes, byte_takes, bytes_takes, bytes_again, IsWide, wide16, wide32, wide64, number_takes, number_again, block_takes, block_again}
 use Rattle.amqp_value.proofs.Ascii.{IsAscii-from_is_ascii, is_ascii-from_IsAscii}

@@ -1,6 +1,6 @@
 -- Bytes that are no text, no symbol or no map.
-use Rattle.std.proofs.Common.{◌≡◌, ℕ, ◌<◌, Bool, true, false, List, Some, None, Result, Ok, Err, refl}
-use Rattle.std.specs.Prelude.{IsUtf8, All}
+use Rattle.std.proofs.Common.{◌≡◌, ℕ, Bool, true, false, List, Some, Result, Err, refl}
+use Rattle.std.specs.Prelude.{IsUtf8}
 use Rattle.std.specs.Str.{is_utf8}
 use Rattle.std.proofs.lemmas.Str.{IsUtf8-from_is_utf8}
 use Rattle.amqp_text.specs.declared.text.Text.{Text}

@@ -216,11 +216,7 @@ fn read_map(
 
 #[cycle(read)]
 #[tactic(auto, unfolding(crate::specs::Reading::described_at))]
-fn read_described(
-    alloc: Global,
-    bytes: &[u8],
-    depth: u8,
-) -> Result<(Value, &[u8]), ValueError>
+fn read_described(alloc: Global, bytes: &[u8], depth: u8) -> Result<(Value, &[u8]), ValueError>
     ensures { Gives (λ x. (view x.0, x.1.now)) result (described_at (value_at depth) bytes.now) }
 {
     let (descriptor, after) = read_nested(alloc, bytes, depth)?;
@@ -263,11 +259,7 @@ fn read_body(
 /// The value that begins the bytes and is nested no deeper than `depth`, and the bytes after it.
 #[cycle(read)]
 #[tactic(auto, unfolding(crate::specs::Reading::value_at))]
-pub fn read_nested(
-    alloc: Global,
-    bytes: &[u8],
-    depth: u8,
-) -> Result<(Value, &[u8]), ValueError>
+pub fn read_nested(alloc: Global, bytes: &[u8], depth: u8) -> Result<(Value, &[u8]), ValueError>
     ensures { Gives (λ x. (view x.0, x.1.now)) result (value_at depth bytes.now) }
 {
     if depth == 0 {

@@ -133,11 +133,7 @@ fn read_uuid(bytes: &[u8]) -> Result<(Value, &[u8]), ValueError>
     Ok((Value::Uuid(Uuid { bytes }), rest))
 }
 
-fn read_binary(
-    alloc: Global,
-    width: SizeWidth,
-    bytes: &[u8],
-) -> Result<(Value, &[u8]), ValueError>
+fn read_binary(alloc: Global, width: SizeWidth, bytes: &[u8]) -> Result<(Value, &[u8]), ValueError>
     ensures { Gives (λ x. (view x.0, x.1.now)) result (kept scalar (kept binary (block_at width bytes.now))) }
 {
     let (octets, rest) = take_block(width, bytes)?;
@@ -146,11 +142,7 @@ fn read_binary(
 }
 
 #[tactic(auto, unfolding(crate::specs::Reading::text_at))]
-fn read_string(
-    alloc: Global,
-    width: SizeWidth,
-    bytes: &[u8],
-) -> Result<(Value, &[u8]), ValueError>
+fn read_string(alloc: Global, width: SizeWidth, bytes: &[u8]) -> Result<(Value, &[u8]), ValueError>
     ensures { Gives (λ x. (view x.0, x.1.now)) result (kept scalar (kept string (text_at width bytes.now))) }
 {
     let (octets, rest) = take_block(width, bytes)?;
@@ -159,11 +151,7 @@ fn read_string(
 }
 
 #[tactic(auto, unfolding(crate::specs::Reading::symbol_at))]
-fn read_symbol(
-    alloc: Global,
-    width: SizeWidth,
-    bytes: &[u8],
-) -> Result<(Value, &[u8]), ValueError>
+fn read_symbol(alloc: Global, width: SizeWidth, bytes: &[u8]) -> Result<(Value, &[u8]), ValueError>
     ensures { Gives (λ x. (view x.0, x.1.now)) result (kept scalar (kept symbol (symbol_at width bytes.now))) }
 {
     let (octets, rest) = take_block(width, bytes)?;
