@@ -1,2 +1,12 @@
 pub mod Filling
 pub mod Joined
+pub mod Ascii
+pub mod Numbers
+pub mod Loops
+pub mod Texts
+pub mod Scalars
+pub mod Codes
+pub mod Elements
+pub mod Sound
+pub mod Complete
+pub mod Whole

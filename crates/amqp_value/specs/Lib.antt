@@ -4,3 +4,4 @@ pub mod Reading
 pub mod Canonical
 pub mod Pieces
 pub mod Span
+pub mod ReadErrors

@@ -13,3 +13,7 @@ pub mod error;
 pub mod payload;
 #[cfg(test)]
 mod payload_tests;
+pub use reading::read_value;
+
+pub mod laws;
+pub mod reading;
