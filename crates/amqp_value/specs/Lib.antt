@@ -2,3 +2,4 @@ pub mod Code
 pub mod Grammar
 pub mod Reading
 pub mod Canonical
+pub mod Writing

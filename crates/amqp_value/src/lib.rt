@@ -6,6 +6,16 @@ pub use amqp_data::{
     Value, ValueArray, ValueList,
 };
 pub use error::ValueError;
+pub use size::serialized_size;
+pub use writing::{to_vec, write_value};
 
+mod bytes;
 mod code;
+mod elements;
 pub mod error;
+mod scalars;
+pub mod size;
+#[cfg(test)]
+mod tests;
+mod width;
+pub mod writing;
