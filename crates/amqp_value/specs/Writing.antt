@@ -1,6 +1,5 @@
 -- What is known of the sizes of values, and of what is written of them.
-use Rattle.std.specs.Prelude.{◌≡◌, ℕ, suc, ◌+◌, ◌*◌, ◌<◌, ◌≤◌, ◌^◌, max, List, ◌++◌, length, Option, Some, None, Result, Ok, Err, IsSome, IsUtf8, FitsSigned}
-use Rattle.std.specs.declared.alloc.AllocError.{AllocError}
+use Rattle.std.specs.Prelude.{◌≡◌, ℕ, suc, ◌+◌, ◌*◌, ◌<◌, ◌≤◌, ◌^◌, max, List, ◌++◌, length, Option, Some, None, IsSome, IsUtf8, FitsSigned}
 use Rattle.std.specs.Char.{IsScalar}
 use Rattle.std.specs.Int.{w8, w16, w32, w64}
 use Rattle.amqp_data.specs.declared.kind.ElementKind.{ElementKind}
@@ -176,9 +175,9 @@ abbrev pub Puts : List ℕ → List ℕ → Scalar → Type 0
 Puts old new s = (new ≡ old ++ canonical_scalar s) × IsInRange s
 
 -- the same of an element of an array
-abbrev pub PutsElement : SizeWidth → Result (Unit {0}) AllocError → List ℕ → List ℕ → Amqp → Type 0
-PutsElement w (Ok _) old new (scalar s) = (new ≡ old ++ laid (code_for w s) s) × IsInRange s
-PutsElement w r old new v = Unit {0}
+abbrev pub PutsElement : SizeWidth → List ℕ → List ℕ → Amqp → Type 0
+PutsElement w old new (scalar s) = (new ≡ old ++ laid (code_for w s) s) × IsInRange s
+PutsElement w old new v = Unit {0}
 
 pub record WroteElements (e : ScalarCode) (old new : List ℕ) (vs : Items) : Type 0 where
   pub bytes : new ≡ old ++ elements e vs

@@ -7,9 +7,9 @@ ghost use Rattle.amqp_value.specs.Code.{limit, octets, block};
 ghost use Rattle.amqp_value.specs.Canonical.{is_short, are_short, element_code, elements};
 ghost use Rattle.amqp_value.specs.Writing.{code_of_kind, width_in, AreBehind, HasRoom, HaveRoom, MeasuresElement, MeasuresElements, PutsElement, WroteElements};
 
-use crate::bytes::{put_char, put_i16, put_i32, put_i64, put_i8, put_text, put_u16, put_u32, put_u64, put_u8, put_uuid};
+use crate::octets::{put_char, put_i16, put_i32, put_i64, put_i8, put_text, put_u16, put_u32, put_u64, put_u8, put_uuid};
 use crate::code::{ScalarCode, SizeWidth};
-use crate::size::{SIZE_LIMIT, text_size};
+use crate::size::{SIZE_LIMIT, text_size, uuid_size};
 use amqp_data::{Binary, ElementKind, Value};
 use std::alloc::AllocError;
 
@@ -69,6 +69,7 @@ pub(crate) fn element_code(kind: ElementKind, values: &[Value]) -> ScalarCode
 }
 
 /// The length of an element, unless its own length has no room.
+#[tactic(auto, unfolding(crate::specs::Canonical::laid))]
 fn element_size(width: SizeWidth, value: &Value) -> Option<u64>
     requires { IsSome (element_kind (view value.now)) }
     ensures { MeasuresElement width result (view value.now) }
@@ -78,7 +79,7 @@ fn element_size(width: SizeWidth, value: &Value) -> Option<u64>
         Value::Ushort(_) | Value::Short(_) => Some(2),
         Value::Uint(_) | Value::Int(_) | Value::Char(_) => Some(4),
         Value::Ulong(_) | Value::Long(_) | Value::Timestamp(_) => Some(8),
-        Value::Uuid(uuid) => Some(uuid.bytes.len() as u64),
+        Value::Uuid(uuid) => Some(uuid_size(uuid)),
         Value::Binary(bytes) => text_size(width, bytes.as_slice()),
         Value::String(text) => text_size(width, text.as_str().as_bytes()),
         Value::Symbol(symbol) => text_size(width, symbol.as_slice()),
@@ -102,9 +103,10 @@ pub(crate) fn elements_size(code: ScalarCode, values: &[Value]) -> Option<u64>
     Some(total)
 }
 
+#[tactic(auto, unfolding(crate::specs::Canonical::laid))]
 fn put_element(out: &mut Binary, width: SizeWidth, value: &Value) -> Result<(), AllocError>
     requires { HasRoom width (view value.now) }
-    ensures { PutsElement width result out.old out.new (view value.now) }
+    ensures { OnOk result (PutsElement width out.old out.new (view value.now)) }
 {
     match value {
         Value::Bool(b) => put_u8(out, u8::from(*b)),

@@ -9,7 +9,7 @@ pub use error::ValueError;
 pub use size::serialized_size;
 pub use writing::{to_vec, write_value};
 
-mod bytes;
+mod octets;
 mod code;
 mod elements;
 pub mod error;

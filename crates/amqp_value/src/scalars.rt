@@ -5,10 +5,10 @@ ghost use Rattle.amqp_value.specs.Grammar.{IsAscii};
 ghost use Rattle.amqp_value.specs.Canonical.{shortest, laid, canonical_scalar};
 ghost use Rattle.amqp_value.specs.Writing.{Puts};
 
-use crate::bytes::{put_char, put_i16, put_i32, put_i64, put_i8, put_text, put_u16, put_u32, put_u64, put_u8, put_uuid};
-use crate::code::{ScalarCode, SizeWidth};
+use crate::octets::{put_char, put_i16, put_i32, put_i64, put_i8, put_text, put_u16, put_u32, put_u64, put_u8, put_uuid};
+use crate::code::ScalarCode;
 use crate::width::text_width;
-use amqp_data::{Binary, Timestamp, Uuid};
+use amqp_data::{Binary, Uuid};
 use std::alloc::AllocError;
 
 #[tactic(auto, unfolding(crate::specs::Canonical::canonical_scalar, crate::specs::Canonical::laid))]
@@ -120,11 +120,12 @@ pub(crate) fn put_character(out: &mut Binary, c: char) -> Result<(), AllocError>
 }
 
 #[tactic(auto, unfolding(crate::specs::Canonical::canonical_scalar, crate::specs::Canonical::laid))]
-pub(crate) fn put_timestamp(out: &mut Binary, time: Timestamp) -> Result<(), AllocError>
-    ensures { OnOk result (Puts out.old out.new (timestamp time.milliseconds)) }
+pub(crate) fn put_timestamp(out: &mut Binary, milliseconds: i64) -> Result<(), AllocError>
+    ensures { OnOk result (Puts out.old out.new (timestamp milliseconds)) }
 {
     out.push(0x83)?;
-    put_i64(out, time.milliseconds)
+    put_i64(out, milliseconds)?;
+    Ok(())
 }
 
 #[tactic(auto, unfolding(crate::specs::Canonical::canonical_scalar, crate::specs::Canonical::laid))]

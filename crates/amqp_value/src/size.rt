@@ -10,7 +10,7 @@ use crate::code::SizeWidth;
 use crate::elements::{element_code, elements_size};
 use crate::error::ValueError;
 use crate::width::{compound_width, text_width};
-use amqp_data::{Described, ElementKind, Entry, Value, nests_within};
+use amqp_data::{Described, ElementKind, Entry, Uuid, Value, nests_within};
 
 pub(crate) const SIZE_LIMIT: u64 = 0x1_0000_0000;
 
@@ -26,6 +26,15 @@ pub(crate) fn text_size(width: SizeWidth, bytes: &[u8]) -> Option<u64>
     } else {
         None
     }
+}
+
+/// The length of an identifier.
+pub(crate) fn uuid_size(uuid: &Uuid) -> u64
+    ensures value { result ≡ length uuid.now.bytes }
+    ensures sixteen { length uuid.now.bytes ≡ 16 }
+{
+    let bytes: &[u8] = &uuid.bytes;
+    bytes.len() as u64
 }
 
 #[tactic(auto, unfolding(crate::specs::Canonical::canonical_scalar, crate::specs::Canonical::laid))]
@@ -103,7 +112,7 @@ pub(crate) fn value_size(value: &Value) -> Option<u64>
         Value::Long(n) => Some(long_size(*n)),
         Value::Char(_) => Some(5),
         Value::Timestamp(_) => Some(9),
-        Value::Uuid(_) => Some(17),
+        Value::Uuid(uuid) => Some(uuid_size(uuid) + 1),
         Value::Binary(bytes) => block_size(bytes.as_slice()),
         Value::String(text) => block_size(text.as_bytes()),
         Value::Symbol(symbol) => block_size(symbol.as_slice()),

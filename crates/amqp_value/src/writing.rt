@@ -5,7 +5,7 @@ ghost use Rattle.amqp_data.specs.View.{view, items_view, pairs_view};
 ghost use Rattle.amqp_value.specs.Grammar.{Spells};
 ghost use Rattle.amqp_value.specs.Canonical.{canonical, canonical_items, canonical_pairs, IsSized, AreSized, ArePairsSized};
 
-use crate::bytes::put_octets;
+use crate::octets::put_octets;
 use crate::code::SizeWidth;
 use crate::elements::{element_code, elements_size, put_elements};
 use crate::error::ValueError;
@@ -81,7 +81,7 @@ fn put_value(out: &mut Binary, value: &Value) -> Result<(), AllocError>
         Value::Int(n) => put_int(out, *n),
         Value::Long(n) => put_long(out, *n),
         Value::Char(c) => put_character(out, *c),
-        Value::Timestamp(time) => put_timestamp(out, *time),
+        Value::Timestamp(time) => put_timestamp(out, time.milliseconds),
         Value::Uuid(identifier) => put_identifier(out, identifier),
         Value::Binary(bytes) => put_binary(out, bytes.as_slice()),
         Value::String(text) => put_string(out, text.as_str()),
