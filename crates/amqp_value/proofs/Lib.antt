@@ -1,3 +1,4 @@
 pub mod Rest
 pub mod Lengths
 pub mod ArrayItems
+pub mod Sizes

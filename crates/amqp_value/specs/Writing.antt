@@ -13,7 +13,7 @@ use Rattle.amqp_value.specs.declared.code.ScalarCode.{ScalarCode}
 use Rattle.amqp_value.specs.declared.code.ScalarCode.TheVariants as c
 use Rattle.amqp_value.specs.Code.{limit}
 use Rattle.amqp_value.specs.Grammar.{IsAscii, Lays, LaysAll, Spells, SpellAll, SpellPairs}
-use Rattle.amqp_value.specs.Canonical.{compound_width, laid, canonical_scalar, elements, canonical, canonical_items, canonical_pairs, IsScalarSized, IsSized, AreSized, ArePairsSized}
+use Rattle.amqp_value.specs.Canonical.{width_of, compound_width, laid, canonical_scalar, elements, canonical, canonical_items, canonical_pairs, IsScalarSized, IsSized, AreSized, ArePairsSized}
 
 -- how many octets a width has
 abbrev pub octet_count : SizeWidth → ℕ
@@ -109,6 +109,11 @@ IsInRange (symbol s) = IsAscii s
 abbrev pub MeasuresText : SizeWidth → Option ℕ → List ℕ → Type 0
 MeasuresText w (Some n) s = (n ≡ octet_count w + length s) × (length s < 2 ^ 32)
 MeasuresText w None s = length s < 2 ^ 32 → ⊥
+
+-- the same behind a constructor, at the least width
+abbrev pub MeasuresBlock : Option ℕ → List ℕ → Type 0
+MeasuresBlock (Some n) s = (n ≡ suc (octet_count (width_of s) + length s)) × (length s < 2 ^ 32)
+MeasuresBlock None s = length s < 2 ^ 32 → ⊥
 
 -- a constructor, a size, a count and the items
 abbrev pub compound_length : ℕ → ℕ → ℕ

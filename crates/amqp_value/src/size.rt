@@ -1,10 +1,10 @@
 //! How long the canonical spelling of a value is.
 ghost use Rattle.std.specs.Prelude.{◌≡◌, ◌≤◌, ◌<◌, ◌+◌, ◌*◌, ◌^◌, ◌⊎◌, ℕ, length, OnOk, IfOk, IfErr, IsOk, Err};
-ghost use Rattle.amqp_data.specs.Data.{ulong, uint, int, long, list, dict, array, described, depth, AreOfKind, scalar};
+ghost use Rattle.amqp_data.specs.Data.{ulong, uint, int, long, list, dict, array, described as described_of, depth, AreOfKind};
 ghost use Rattle.amqp_data.specs.View.{view, items_view, pairs_view};
 ghost use Rattle.amqp_value.specs.Code.{octets, block, content};
 ghost use Rattle.amqp_value.specs.Canonical.{canonical, canonical_scalar, IsSized};
-ghost use Rattle.amqp_value.specs.Writing.{Measures, MeasuresAll, MeasuresPairs, MeasuresText, compound_length};
+ghost use Rattle.amqp_value.specs.Writing.{Measures, MeasuresAll, MeasuresPairs, MeasuresEntry, MeasuresText, MeasuresBlock, compound_length};
 
 use crate::code::SizeWidth;
 use crate::elements::{element_code, elements_size};
@@ -37,9 +37,18 @@ pub(crate) fn uuid_size(uuid: &Uuid) -> u64
     bytes.len() as u64
 }
 
+/// The same behind a constructor, at the least width.
+fn block_size(bytes: &[u8]) -> Option<u64>
+    ensures { MeasuresBlock result bytes.now }
+{
+    let size = text_size(text_width(bytes), bytes)?;
+    Some(size + 1)
+}
+
 #[tactic(auto, unfolding(crate::specs::Canonical::canonical_scalar, crate::specs::Canonical::laid))]
 fn uint_size(n: u32) -> u64
-    ensures { result ≡ length (canonical_scalar (uint n)) }
+    ensures value { result ≡ length (canonical_scalar (uint n)) }
+    ensures small { result ≤ 9 }
 {
     if n == 0 {
         1
@@ -52,7 +61,8 @@ fn uint_size(n: u32) -> u64
 
 #[tactic(auto, unfolding(crate::specs::Canonical::canonical_scalar, crate::specs::Canonical::laid))]
 fn ulong_size(n: u64) -> u64
-    ensures { result ≡ length (canonical_scalar (ulong n)) }
+    ensures value { result ≡ length (canonical_scalar (ulong n)) }
+    ensures small { result ≤ 9 }
 {
     if n == 0 {
         1
@@ -65,14 +75,16 @@ fn ulong_size(n: u64) -> u64
 
 #[tactic(auto, unfolding(crate::specs::Canonical::canonical_scalar, crate::specs::Canonical::laid))]
 fn int_size(n: i32) -> u64
-    ensures { result ≡ length (canonical_scalar (int n)) }
+    ensures value { result ≡ length (canonical_scalar (int n)) }
+    ensures small { result ≤ 9 }
 {
     if n >= -128 && n <= 127 { 2 } else { 5 }
 }
 
 #[tactic(auto, unfolding(crate::specs::Canonical::canonical_scalar, crate::specs::Canonical::laid))]
 fn long_size(n: i64) -> u64
-    ensures { result ≡ length (canonical_scalar (long n)) }
+    ensures value { result ≡ length (canonical_scalar (long n)) }
+    ensures small { result ≤ 9 }
 {
     if n >= -128 && n <= 127 { 2 } else { 9 }
 }
@@ -123,14 +135,9 @@ pub(crate) fn value_size(value: &Value) -> Option<u64>
     }
 }
 
-fn block_size(bytes: &[u8]) -> Option<u64> {
-    let size = text_size(text_width(bytes), bytes)?;
-    Some(size + 1)
-}
-
 #[cycle(size)]
 fn described_size(described: &Described) -> Option<u64>
-    ensures { Measures result (described described.now.0 described.now.1) }
+    ensures { Measures result (described_of described.now.0 described.now.1) }
 {
     let descriptor = value_size(described.descriptor())?;
     let value = value_size(described.value())?;
@@ -173,7 +180,9 @@ fn map_size(entries: &[Entry]) -> Option<u64>
 }
 
 #[cycle(size)]
-fn entry_size(entry: &Entry) -> Option<u64> {
+fn entry_size(entry: &Entry) -> Option<u64>
+    ensures { MeasuresEntry result (view entry.now.key) (view entry.now.value) }
+{
     let key = value_size(&entry.key)?;
     let value = value_size(&entry.value)?;
     key.checked_add(value)
