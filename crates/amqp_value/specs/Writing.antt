@@ -1,5 +1,5 @@
 -- What is known of the sizes of values, and of what is written of them.
-use Rattle.std.specs.Prelude.{◌≡◌, ℕ, suc, ◌+◌, ◌*◌, ◌<◌, ◌≤◌, ◌^◌, max, List, ◌++◌, length, Option, Some, None, IsSome, IsUtf8, FitsSigned}
+use Rattle.std.specs.Prelude.{◌≡◌, ℕ, suc, ◌+◌, ◌*◌, ◌<◌, ◌≤◌, ◌^◌, max, List, ◌∷◌, ◌++◌, length, Option, Some, None, IsSome, IsUtf8, FitsSigned}
 use Rattle.std.specs.Char.{IsScalar}
 use Rattle.std.specs.Int.{w8, w16, w32, w64}
 use Rattle.amqp_data.specs.declared.kind.ElementKind.{ElementKind}
@@ -11,7 +11,7 @@ use Rattle.amqp_value.specs.declared.code.SizeWidth.{SizeWidth}
 use Rattle.amqp_value.specs.declared.code.SizeWidth.TheVariants.{One, Four}
 use Rattle.amqp_value.specs.declared.code.ScalarCode.{ScalarCode}
 use Rattle.amqp_value.specs.declared.code.ScalarCode.TheVariants as c
-use Rattle.amqp_value.specs.Code.{limit}
+use Rattle.amqp_value.specs.Code.{octets, limit}
 use Rattle.amqp_value.specs.Grammar.{IsAscii, Lays, LaysAll, Spells, SpellAll, SpellPairs}
 use Rattle.amqp_value.specs.Canonical.{width_of, compound_width, laid, canonical_scalar, elements, canonical, canonical_items, canonical_pairs, IsScalarSized, IsSized, AreSized, ArePairsSized}
 
@@ -200,6 +200,23 @@ pub record WroteAll (old new : List ℕ) (vs : Items) : Type 0 where
 pub record WrotePairs (old new : List ℕ) (ps : Pairs) : Type 0 where
   pub bytes : new ≡ old ++ canonical_pairs ps
   pub spelled : SpellPairs (canonical_pairs ps) ps
+
+-- each length has room, and the value is not nested too deep
+pub record IsWritable (v : Amqp) : Type 0 where
+  pub sized : IsSized v
+  pub nests : depth v ≤ 32
+
+pub record AreWritable (vs : Items) : Type 0 where
+  pub sized : AreSized vs
+  pub nests : items_depth vs ≤ 32
+
+pub record ArePairsWritable (ps : Pairs) : Type 0 where
+  pub sized : ArePairsSized ps
+  pub nests : pairs_depth ps ≤ 32
+
+-- a constructor, the size of a count and the items, and the count
+abbrev pub head : ℕ → SizeWidth → ℕ → ℕ → List ℕ
+head number w n items = number ∷ (octets w (items + octet_count w) ++ octets w n)
 
 -- what an error leaves: only want of memory may have added bytes
 abbrev pub Leaves : ValueError → List ℕ → List ℕ → Type 0

@@ -212,6 +212,7 @@ pub fn serialized_size(value: &Value) -> Result<u64, ValueError>
     ensures too_deep { 32 < depth (view value.now) → result ≡ Err ValueError.Depth }
     ensures deep { result ≡ Err ValueError.Depth → 32 < depth (view value.now) }
     ensures size { result ≡ Err ValueError.Size → IsSized (view value.now) → ⊥ }
+    ensures too_long { depth (view value.now) ≤ 32 → (IsSized (view value.now) → ⊥) → result ≡ Err ValueError.Size }
     ensures always { depth (view value.now) ≤ 32 → IsSized (view value.now) → IsOk result }
     ensures refused { IfErr result (λ e. (e ≡ ValueError.Depth) ⊎ (e ≡ ValueError.Size)) }
 {
