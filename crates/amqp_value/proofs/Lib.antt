@@ -10,3 +10,9 @@ pub mod Elements
 pub mod Sound
 pub mod Complete
 pub mod Whole
+pub mod Rest
+pub mod Lengths
+pub mod ArrayItems
+pub mod Sizes
+pub mod Shortest
+pub mod Written

@@ -5,3 +5,4 @@ pub mod Canonical
 pub mod Pieces
 pub mod Span
 pub mod ReadErrors
+pub mod Writing
