@@ -113,8 +113,8 @@ shallow n d lt le = omega (arith, lt, deeper d 31 le)
 pub sum_unmeasured : (d v : Amqp) (a b : ℕ) → IsLength a d → IsLength b v → 2 ^ 64 ≤ a + b + 1 → Measures None (described d v)
 sum_unmeasured d v a b h g le = λ s.
     elim (cases_lt 31 (max (depth d) (depth v))) [
-      inl lt ↦ omega arith
-    | inr few ↦ absurd (omega (arith, shallow a (depth d) h.below (omega arith), shallow b (depth v) g.below (omega arith), le))
+      | inl lt ↦ omega arith
+      | inr few ↦ absurd (omega (arith, shallow a (depth d) h.below (omega arith), shallow b (depth v) g.below (omega arith), le))
     ]
 
 -- ---- lists

@@ -249,7 +249,21 @@ pairs_put old out es i le h =
 
 kind_of_code : (e : ElementKind) (w : SizeWidth) → code_kind (code_of_kind e w) ≡ Some e
 kind_of_code e w = elim e as (λ (z : ElementKind). code_kind (code_of_kind z w) ≡ Some z) [
-  k.Bool ↦ refl | k.Ubyte ↦ refl | k.Ushort ↦ refl | k.Uint ↦ refl | k.Ulong ↦ refl | k.Byte ↦ refl | k.Short ↦ refl | k.Int ↦ refl | k.Long ↦ refl | k.Char ↦ refl | k.Timestamp ↦ refl | k.Uuid ↦ refl | k.Binary ↦ refl | k.String ↦ refl | k.Symbol ↦ refl
+  | k.Bool ↦ refl
+  | k.Ubyte ↦ refl
+  | k.Ushort ↦ refl
+  | k.Uint ↦ refl
+  | k.Ulong ↦ refl
+  | k.Byte ↦ refl
+  | k.Short ↦ refl
+  | k.Int ↦ refl
+  | k.Long ↦ refl
+  | k.Char ↦ refl
+  | k.Timestamp ↦ refl
+  | k.Uuid ↦ refl
+  | k.Binary ↦ refl
+  | k.String ↦ refl
+  | k.Symbol ↦ refl
 ]
 
 array_kind : (e : ElementKind) (vs : Items) → code_kind (element_code e vs) ≡ Some e
@@ -275,4 +289,4 @@ pub array_put : (old mid next new : List ℕ) (size : ℕ) (w : SizeWidth) (e : 
 array_put old mid next new size w e c xs same h is f n g =
     let len : length xs ≡ count (items_view xs) = sym (count_view xs) in
     elements_wrote old mid next new size w e (items_view xs) (subst (λ (z : ScalarCode). AreElementsLength z size (items_view xs)) same h) (is ∙ ap (λ (z : ℕ). compound_width z size) len) (f ∙ ap (λ (z : ℕ). old ++ head (array_number w) w z size) len)
-        (n ∙ ap (λ (z : ScalarCode). mid ++ scalar_number z ∷ []) same) (subst (λ (z : ScalarCode). WroteElements z next new (items_view xs)) same g)
+    (n ∙ ap (λ (z : ScalarCode). mid ++ scalar_number z ∷ []) same) (subst (λ (z : ScalarCode). WroteElements z next new (items_view xs)) same g)

@@ -99,12 +99,12 @@ pub value_size-returns-in-Short : goal.value_size-returns-in-Short
 value_size-returns-in-Short t c = rw c.in-Short.is (short_is c.in-Short.field-0)
 
 pub value_size-returns-in-Int : goal.value_size-returns-in-Int
-value_size-returns-in-Int t c = 
+value_size-returns-in-Int t c =
     let f : SFits w32 c.in-Int.n = search rules in
     rw c.in-Int.is (scalar_is c.int_size.result (int c.in-Int.n) (c.int_size.ensures.value ∙ ap (λ (z : ℤ). length (canonical_scalar (int z))) (to_z-of_z w32 c.in-Int.n f)) tt (omega (arith, c.int_size.ensures.small)))
 
 pub value_size-returns-in-Long : goal.value_size-returns-in-Long
-value_size-returns-in-Long t c = 
+value_size-returns-in-Long t c =
     let f : SFits w64 c.in-Long.n = search rules in
     rw c.in-Long.is (scalar_is c.long_size.result (long c.in-Long.n) (c.long_size.ensures.value ∙ ap (λ (z : ℤ). length (canonical_scalar (long z))) (to_z-of_z w64 c.in-Long.n f)) tt (omega (arith, c.long_size.ensures.small)))
 
