@@ -14,8 +14,8 @@ use Rattle.amqp_value.specs.Grammar.{LaysAll, Spells, scalar', empty_list, list'
 use Rattle.amqp_value.specs.Reading.{Parse, items_at, pairs_at, values_in, list_at, half, pairs_in, distinct, map_at, element_at, elements_in, array_at, described_at, body_at, value_at}
 use Rattle.amqp_value.proofs.Numbers.{sizes, block_again}
 use Rattle.amqp_value.proofs.Codes.{code_again, constructor_again}
-use Rattle.amqp_value.proofs.Scalars.{scalar_again}
-use Rattle.amqp_value.proofs.Elements.{elements_again}
+use Rattle.amqp_value.proofs.ScalarsRead.{scalar_again}
+use Rattle.amqp_value.proofs.ElementsRead.{elements_again}
 
 abbrev Complete : Parse Amqp → ℕ → Type 0
 Complete inner d = (text : List ℕ) (v : Amqp) (rest : List ℕ) → Spells text v → depth v ≤ d → inner (text ++ rest) ≡ Some (v, rest)

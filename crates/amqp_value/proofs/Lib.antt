@@ -4,9 +4,9 @@ pub mod Ascii
 pub mod Numbers
 pub mod Loops
 pub mod Texts
-pub mod Scalars
+pub mod ScalarsRead
 pub mod Codes
-pub mod Elements
+pub mod ElementsRead
 pub mod Sound
 pub mod Complete
 pub mod Whole

@@ -16,8 +16,8 @@ use Rattle.amqp_value.specs.Grammar.{LaysAll, Spells, scalar', empty_list, list'
 use Rattle.amqp_value.specs.Reading.{◌>>=◌, Parse, size_at, block_at, kept, scalar_at, items_at, pairs_at, only, values_in, list_at, half, pairs_in, distinct, map_at, element_at, constructor_at, elements_in, array_at, described_at, code_at, body_at, value_at}
 use Rattle.amqp_value.proofs.Numbers.{IsBytes, bind_some, some_is, sizes, block_takes}
 use Rattle.amqp_value.proofs.Codes.{code_takes, constructor_takes}
-use Rattle.amqp_value.proofs.Scalars.{scalar_sound}
-use Rattle.amqp_value.proofs.Elements.{elements_sound}
+use Rattle.amqp_value.proofs.ScalarsRead.{scalar_sound}
+use Rattle.amqp_value.proofs.ElementsRead.{elements_sound}
 
 -- what was taken spells the value
 pub record Took (d : ℕ) (bytes : List ℕ) (v : Amqp) (rest : List ℕ) : Type 0 where

@@ -1,6 +1,6 @@
 use Rattle.std.proofs.Common.{refl, arith}
 use Rattle.amqp_data.specs.View.{items_view}
-use Rattle.amqp_value.proofs.Elements.{never_mixed}
+use Rattle.amqp_value.proofs.ElementsRead.{never_mixed}
 use Rattle.amqp_value.proofs.reading.compounds.read_elements_in.Goals as goal
 
 pub unreachable-requires : goal.unreachable-requires

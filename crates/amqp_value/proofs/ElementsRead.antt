@@ -10,7 +10,7 @@ use Rattle.amqp_value.specs.Grammar.{LaysAll, no_elements, more_elements}
 use Rattle.amqp_value.specs.Reading.{◌>>=◌, size_at, scalar_at, items_at, element_at, constructor_at}
 use Rattle.amqp_value.proofs.Numbers.{IsBytes, bind_some, some_is, sizes}
 use Rattle.amqp_value.proofs.Codes.{constructor_takes}
-use Rattle.amqp_value.proofs.Scalars.{TookScalar, scalar_sound, scalar_again, lays_kind}
+use Rattle.amqp_value.proofs.ScalarsRead.{TookScalar, scalar_sound, scalar_again, lays_kind}
 
 record TookElement (c : ScalarCode) (d : ℕ) (bytes : List ℕ) (v : Amqp) (rest : List ℕ) : Type 0 where
   found : Scalar
