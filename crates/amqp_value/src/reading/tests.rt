@@ -165,7 +165,7 @@ fn compounds(rt: HostRuntime) -> Result<(), Fail> {
     Ok(())
 }
 
-const REFUSED: [&[u8]; 47] = [
+const REFUSED: [&[u8]; 48] = [
     // An odd count of keys and values, and a key that comes twice.
     b"\xc1\x05\x03\x52\x01\x41\x43",
     b"\xc1\x09\x02\xa1\x01a\x52\x01\xa1\x01a",
@@ -215,6 +215,7 @@ const REFUSED: [&[u8]; 47] = [
     b"\xc1\x04\x04\x52\x01\x40",
     b"\xe0\x05\x02\x52\x01\x02\x03",
     b"\xe0\x04\x03\x52\x01\x02",
+    b"\xd0\x00\x00\x00\x05\xff\xff\xff\xff\x45",
     // Bytes that end too early.
     b"",
     b"\x60\x01",
@@ -235,8 +236,10 @@ fn nested(rt: HostRuntime) -> Result<(), Fail> {
     let a = rt.alloc();
     assert!(rt; refuses(a, &LISTS)?);
     assert!(rt; refuses(a, &DESCRIBED)?);
-    assert!(rt; matches!(read_value(a, &LISTS[3..]), Ok((_, 96))));
-    assert!(rt; matches!(read_value(a, &DESCRIBED[2..]), Ok((_, 63))));
+    let (_, used) = read_value(a, &LISTS[3..])?;
+    assert_eq!(rt; used, 96);
+    let (_, used) = read_value(a, &DESCRIBED[2..])?;
+    assert_eq!(rt; used, 63);
     Ok(())
 }
 
