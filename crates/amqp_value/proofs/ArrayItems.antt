@@ -1,20 +1,18 @@
 -- The elements of an array.
-use Rattle.std.proofs.Common.{◌≡◌, ℕ, zero, suc, ◌+◌, ◌*◌, ◌<◌, ◌≤◌, ◌^◌, Bool, true, false, ltb, List, [], ◌∷◌, ◌++◌, length, get_or, drop, Option, Some, None, refl, sym, ap, subst, ◌∙◌, append_assoc, append-nil, arith}
+use Rattle.std.proofs.Common.{◌≡◌, ℕ, suc, ◌+◌, ◌<◌, ◌≤◌, ◌^◌, Bool, true, false, List, ◌++◌, length, get_or, drop, Some, None, refl, sym, ap, subst, ◌∙◌, append_assoc, append-nil, arith}
 use Rattle.std.specs.Prelude.{◌&&◌, IsSome}
 use Rattle.std.proofs.lemmas.Bool.{ltb-true, and_parts, false≢true}
 use Rattle.std.proofs.lemmas.List.{length-append}
 use Rattle.amqp_data.specs.declared.kind.ElementKind.{ElementKind}
 use Rattle.amqp_data.specs.declared.kind.ElementKind.TheVariants as k
 use Rattle.amqp_data.specs.declared.value.Value.{Value}
-use Rattle.amqp_data.specs.Data.{Scalar, null, boolean, ubyte, ushort, uint, ulong, byte, short, int, long, char, timestamp, uuid, binary, string, symbol, Amqp, Items, Pairs, scalar, list, dict, array, described, no_items, item, count, kind_of, element_kind, AreOfKind}
+use Rattle.amqp_data.specs.Data.{Scalar, null, boolean, ubyte, ushort, uint, ulong, byte, short, int, long, char, timestamp, uuid, binary, string, symbol, Amqp, Items, scalar, list, dict, array, described, no_items, item, count, kind_of, element_kind, AreOfKind}
 use Rattle.amqp_data.specs.View.{view, items_view}
 use Rattle.amqp_value.specs.declared.code.SizeWidth.{SizeWidth}
 use Rattle.amqp_value.specs.declared.code.SizeWidth.TheVariants.{One, Four}
 use Rattle.amqp_value.specs.declared.code.ScalarCode.{ScalarCode}
-use Rattle.amqp_value.specs.declared.code.ScalarCode.TheVariants as c
-use Rattle.amqp_value.specs.Code.{limit}
 use Rattle.amqp_value.specs.Grammar.{Lays, LaysAll, no_elements, more_elements, boolean_true, boolean_false, ubyte', ushort', uint', ulong', byte', short', int', long', char', timestamp', uuid', binary', string', symbol'}
-use Rattle.amqp_value.specs.Canonical.{narrow_if, laid, elements, is_short, are_short, element_code, IsScalarSized, IsSized, AreSized}
+use Rattle.amqp_value.specs.Canonical.{narrow_if, laid, elements, is_short, are_short, element_code, IsSized, AreSized}
 use Rattle.amqp_value.specs.Writing.{width_in, code_of_kind, code_for, IsBehind, AreBehind, HasRoom, HaveRoom, IsInRange, MeasuresElement, MeasuresElements, AreElementsLength, PutsElement, WroteElements}
 use Rattle.amqp_value.proofs.Rest.{rest_items, no_rest}
 

@@ -1,5 +1,5 @@
 -- The length of a value from those of its parts.
-use Rattle.std.proofs.Common.{◌≡◌, ℕ, zero, suc, ◌+◌, ◌*◌, ◌<◌, ◌≤◌, ◌^◌, max, List, [], ◌∷◌, ◌++◌, length, get_or, drop, Bool, true, false, Option, Some, None, inl, inr, refl, sym, ap, subst, ◌∙◌, arith}
+use Rattle.std.proofs.Common.{◌≡◌, ℕ, suc, ◌+◌, ◌*◌, ◌<◌, ◌≤◌, ◌^◌, max, List, [], ◌∷◌, ◌++◌, length, get_or, drop, Bool, true, false, Option, Some, None, inl, inr, refl, sym, ap, subst, ◌∙◌, arith}
 use Rattle.std.specs.Prelude.{SomeIff}
 use Rattle.std.proofs.Math.Nat.{pow-le-pow_right}
 use Rattle.std.proofs.lemmas.Bool.{cases_lt}
@@ -8,11 +8,11 @@ use Rattle.std.proofs.lemmas.List.{length-append}
 use Rattle.amqp_data.specs.declared.kind.ElementKind.{ElementKind}
 use Rattle.amqp_data.specs.declared.value.Value.{Value}
 use Rattle.amqp_data.specs.declared.value.Entry.{Entry}
-use Rattle.amqp_data.specs.Data.{Scalar, null, boolean, ubyte, ushort, uint, ulong, byte, short, int, long, char, timestamp, uuid, binary, string, symbol, Amqp, Items, Pairs, scalar, list, dict, array, described, no_items, item, no_pairs, pair, count, pair_count, depth, items_depth, pairs_depth}
+use Rattle.amqp_data.specs.Data.{Scalar, null, boolean, ubyte, ushort, byte, short, char, timestamp, uuid, binary, string, symbol, Amqp, Items, Pairs, scalar, list, dict, array, described, no_items, item, no_pairs, pair, count, pair_count, depth, items_depth, pairs_depth}
 use Rattle.amqp_data.specs.View.{view, items_view, pairs_view}
 use Rattle.amqp_value.specs.declared.code.SizeWidth.TheVariants.{Four}
-use Rattle.amqp_value.specs.Code.{block, content, list_number, map_number, array_number}
-use Rattle.amqp_value.specs.Canonical.{width_of, laid, canonical_scalar, compound, array_items, element_code, canonical, canonical_items, canonical_pairs, IsScalarSized, IsSized, AreSized, ArePairsSized}
+use Rattle.amqp_value.specs.Code.{list_number, map_number, array_number}
+use Rattle.amqp_value.specs.Canonical.{width_of, laid, canonical_scalar, array_items, element_code, canonical, canonical_items, canonical_pairs, IsScalarSized, IsSized, AreSized, ArePairsSized}
 use Rattle.amqp_value.specs.Writing.{octet_count, compound_length, MeasuresBlock, IsLength, Measures, AreLength, MeasuresAll, IsEntryLength, MeasuresEntry, ArePairsLength, MeasuresPairs, AreElementsLength, MeasuresElements}
 use Rattle.amqp_value.proofs.Rest.{rest_items, no_rest, rest_pairs, no_rest_pairs, count_view, count_entries}
 use Rattle.amqp_value.proofs.Lengths.{length-block, length-content, length-compound, octets_small, compound_near}
@@ -113,8 +113,8 @@ shallow n d lt le = omega (arith, lt, deeper d 31 le)
 pub sum_unmeasured : (d v : Amqp) (a b : ℕ) → IsLength a d → IsLength b v → 2 ^ 64 ≤ a + b + 1 → Measures None (described d v)
 sum_unmeasured d v a b h g le = λ s.
     elim (cases_lt 31 (max (depth d) (depth v))) [
-      inl lt ↦ omega arith
-    | inr few ↦ absurd (omega (arith, shallow a (depth d) h.below (omega arith), shallow b (depth v) g.below (omega arith), le))
+      | inl lt ↦ omega arith
+      | inr few ↦ absurd (omega (arith, shallow a (depth d) h.below (omega arith), shallow b (depth v) g.below (omega arith), le))
     ]
 
 -- ---- lists

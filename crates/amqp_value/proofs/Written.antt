@@ -1,21 +1,19 @@
 -- What is written of a value from what is written of its parts.
-use Rattle.std.proofs.Common.{◌≡◌, ℕ, zero, suc, ◌+◌, ◌*◌, ◌<◌, ◌≤◌, ◌^◌, max, Bool, true, false, List, [], ◌∷◌, ◌++◌, length, get_or, drop, Option, Some, None, Result, Ok, Err, refl, sym, ap, subst, ◌∙◌, append_assoc, append-nil, arith}
-use Rattle.std.specs.Prelude.{OnOk}
-use Rattle.std.specs.declared.alloc.AllocError.{AllocError}
+use Rattle.std.proofs.Common.{◌≡◌, ℕ, suc, ◌+◌, ◌*◌, ◌<◌, ◌≤◌, ◌^◌, List, [], ◌∷◌, ◌++◌, length, get_or, drop, Some, None, refl, sym, ap, subst, ◌∙◌, append_assoc, append-nil, arith}
 use Rattle.std.proofs.lemmas.List.{length-append}
 use Rattle.amqp_data.specs.declared.kind.ElementKind.{ElementKind}
 use Rattle.amqp_data.specs.declared.kind.ElementKind.TheVariants as k
 use Rattle.amqp_data.specs.declared.value.Value.{Value}
 use Rattle.amqp_data.specs.declared.value.Entry.{Entry}
-use Rattle.amqp_data.specs.Data.{Scalar, Amqp, Items, Pairs, scalar, list, dict, array, described, no_items, item, no_pairs, pair, count, pair_count, depth, items_depth, pairs_depth, AreOfKind, HasDistinctKeys}
+use Rattle.amqp_data.specs.Data.{Amqp, Items, Pairs, scalar, list, dict, array, described, no_items, item, no_pairs, pair, count, pair_count, HasDistinctKeys}
 use Rattle.amqp_data.specs.View.{view, items_view, pairs_view}
 use Rattle.amqp_value.specs.declared.code.SizeWidth.{SizeWidth}
-use Rattle.amqp_value.specs.declared.code.SizeWidth.TheVariants.{One, Four}
+use Rattle.amqp_value.specs.declared.code.SizeWidth.TheVariants.{Four}
 use Rattle.amqp_value.specs.declared.code.ScalarCode.{ScalarCode}
 use Rattle.amqp_value.specs.Code.{octets, limit, block, content, scalar_number, list_number, map_number, array_number, code_kind}
-use Rattle.amqp_value.specs.Grammar.{LaysAll, Spells, empty_list, list', map', array', described', SpellAll, no_values, more_values, SpellPairs, no_keys, more_keys}
-use Rattle.amqp_value.specs.Canonical.{narrow_if, compound_width, compound, elements, are_short, element_code, array_items, canonical_scalar, canonical, canonical_items, canonical_pairs, IsSized, AreSized, ArePairsSized}
-use Rattle.amqp_value.specs.Writing.{octet_count, head, code_of_kind, AreBehind, HaveRoom, width_in, AreLength, MeasuresAll, ArePairsLength, MeasuresPairs, AreElementsLength, MeasuresElements, WroteElements, Wrote, WroteAll, WrotePairs, IsWritable, AreWritable, ArePairsWritable}
+use Rattle.amqp_value.specs.Grammar.{empty_list, list', map', array', described', SpellAll, no_values, more_values, SpellPairs, no_keys, more_keys}
+use Rattle.amqp_value.specs.Canonical.{narrow_if, compound_width, compound, elements, are_short, element_code, array_items, canonical_scalar, canonical, canonical_items, canonical_pairs, IsSized, AreSized}
+use Rattle.amqp_value.specs.Writing.{octet_count, head, code_of_kind, AreLength, MeasuresAll, ArePairsLength, MeasuresPairs, AreElementsLength, WroteElements, Wrote, WroteAll, WrotePairs, IsWritable, AreWritable, ArePairsWritable}
 use Rattle.amqp_value.proofs.Rest.{rest_items, no_rest, rest_pairs, no_rest_pairs, count_view, count_entries}
 use Rattle.amqp_value.proofs.Lengths.{length-content, HaveLimits, limits}
 use Rattle.amqp_value.proofs.ArrayItems.{element_code-kind}
@@ -249,7 +247,21 @@ pairs_put old out es i le h =
 
 kind_of_code : (e : ElementKind) (w : SizeWidth) → code_kind (code_of_kind e w) ≡ Some e
 kind_of_code e w = elim e as (λ (z : ElementKind). code_kind (code_of_kind z w) ≡ Some z) [
-  k.Bool ↦ refl | k.Ubyte ↦ refl | k.Ushort ↦ refl | k.Uint ↦ refl | k.Ulong ↦ refl | k.Byte ↦ refl | k.Short ↦ refl | k.Int ↦ refl | k.Long ↦ refl | k.Char ↦ refl | k.Timestamp ↦ refl | k.Uuid ↦ refl | k.Binary ↦ refl | k.String ↦ refl | k.Symbol ↦ refl
+  | k.Bool ↦ refl
+  | k.Ubyte ↦ refl
+  | k.Ushort ↦ refl
+  | k.Uint ↦ refl
+  | k.Ulong ↦ refl
+  | k.Byte ↦ refl
+  | k.Short ↦ refl
+  | k.Int ↦ refl
+  | k.Long ↦ refl
+  | k.Char ↦ refl
+  | k.Timestamp ↦ refl
+  | k.Uuid ↦ refl
+  | k.Binary ↦ refl
+  | k.String ↦ refl
+  | k.Symbol ↦ refl
 ]
 
 array_kind : (e : ElementKind) (vs : Items) → code_kind (element_code e vs) ≡ Some e
@@ -275,4 +287,4 @@ pub array_put : (old mid next new : List ℕ) (size : ℕ) (w : SizeWidth) (e : 
 array_put old mid next new size w e c xs same h is f n g =
     let len : length xs ≡ count (items_view xs) = sym (count_view xs) in
     elements_wrote old mid next new size w e (items_view xs) (subst (λ (z : ScalarCode). AreElementsLength z size (items_view xs)) same h) (is ∙ ap (λ (z : ℕ). compound_width z size) len) (f ∙ ap (λ (z : ℕ). old ++ head (array_number w) w z size) len)
-        (n ∙ ap (λ (z : ScalarCode). mid ++ scalar_number z ∷ []) same) (subst (λ (z : ScalarCode). WroteElements z next new (items_view xs)) same g)
+    (n ∙ ap (λ (z : ScalarCode). mid ++ scalar_number z ∷ []) same) (subst (λ (z : ScalarCode). WroteElements z next new (items_view xs)) same g)

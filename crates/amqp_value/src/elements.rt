@@ -7,8 +7,11 @@ ghost use Rattle.amqp_value.specs.Code.{limit, octets, block};
 ghost use Rattle.amqp_value.specs.Canonical.{is_short, are_short, element_code, elements};
 ghost use Rattle.amqp_value.specs.Writing.{code_of_kind, width_in, AreBehind, HasRoom, HaveRoom, MeasuresElement, MeasuresElements, PutsElement, WroteElements};
 
-use crate::octets::{put_char, put_i16, put_i32, put_i64, put_i8, put_text, put_u16, put_u32, put_u64, put_u8, put_uuid};
 use crate::code::{ScalarCode, SizeWidth};
+use crate::octets::{
+    put_char, put_i8, put_i16, put_i32, put_i64, put_text, put_u8, put_u16, put_u32, put_u64,
+    put_uuid,
+};
 use crate::size::{SIZE_LIMIT, text_size, uuid_size};
 use amqp_data::{Binary, ElementKind, Value};
 use std::alloc::AllocError;
@@ -83,7 +86,8 @@ fn element_size(width: SizeWidth, value: &Value) -> Option<u64>
         Value::Binary(bytes) => text_size(width, bytes.as_slice()),
         Value::String(text) => text_size(width, text.as_str().as_bytes()),
         Value::Symbol(symbol) => text_size(width, symbol.as_slice()),
-        Value::Null | Value::List(_) | Value::Map(_) | Value::Array(_) | Value::Described(_) => None,
+        Value::Null | Value::List(_) | Value::Map(_) | Value::Array(_) | Value::Described(_) =>
+            None,
     }
 }
 
@@ -124,7 +128,9 @@ fn put_element(out: &mut Binary, width: SizeWidth, value: &Value) -> Result<(), 
         Value::Binary(bytes) => put_text(out, width, bytes.as_slice()),
         Value::String(text) => put_text(out, width, text.as_str().as_bytes()),
         Value::Symbol(symbol) => put_text(out, width, symbol.as_slice()),
-        Value::Null | Value::List(_) | Value::Map(_) | Value::Array(_) | Value::Described(_) => Ok(()),
+        Value::Null | Value::List(_) | Value::Map(_) | Value::Array(_) | Value::Described(_) => Ok(
+            (),
+        ),
     }
 }
 

@@ -9,10 +9,10 @@ pub use error::ValueError;
 pub use size::serialized_size;
 pub use writing::{to_vec, write_value};
 
-mod octets;
 mod code;
 mod elements;
 pub mod error;
+mod octets;
 mod scalars;
 pub mod size;
 #[cfg(test)]

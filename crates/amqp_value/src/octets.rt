@@ -69,11 +69,7 @@ pub(crate) fn put_uuid(out: &mut Binary, uuid: &Uuid) -> Result<(), AllocError>
 }
 
 /// Adds a number in so many octets, the highest first.
-pub(crate) fn put_octets(
-    out: &mut Binary,
-    width: SizeWidth,
-    number: u64,
-) -> Result<(), AllocError>
+pub(crate) fn put_octets(out: &mut Binary, width: SizeWidth, number: u64) -> Result<(), AllocError>
     requires { number < limit width }
     ensures { OnOk result (out.new ≡ out.old ++ octets width number) }
 {
@@ -84,11 +80,7 @@ pub(crate) fn put_octets(
 }
 
 /// Adds a text behind its length.
-pub(crate) fn put_text(
-    out: &mut Binary,
-    width: SizeWidth,
-    bytes: &[u8],
-) -> Result<(), AllocError>
+pub(crate) fn put_text(out: &mut Binary, width: SizeWidth, bytes: &[u8]) -> Result<(), AllocError>
     requires { length bytes.now < limit width }
     ensures { OnOk result (out.new ≡ out.old ++ block width bytes.now) }
 {

@@ -5,8 +5,11 @@ ghost use Rattle.amqp_value.specs.Grammar.{IsAscii};
 ghost use Rattle.amqp_value.specs.Canonical.{shortest, laid, canonical_scalar};
 ghost use Rattle.amqp_value.specs.Writing.{Puts};
 
-use crate::octets::{put_char, put_i16, put_i32, put_i64, put_i8, put_text, put_u16, put_u32, put_u64, put_u8, put_uuid};
 use crate::code::ScalarCode;
+use crate::octets::{
+    put_char, put_i8, put_i16, put_i32, put_i64, put_text, put_u8, put_u16, put_u32, put_u64,
+    put_uuid,
+};
 use crate::width::text_width;
 use amqp_data::{Binary, Uuid};
 use std::alloc::AllocError;

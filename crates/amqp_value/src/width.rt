@@ -45,7 +45,8 @@ impl ScalarCode {
         ensures { result ≡ width_in self }
     {
         match self {
-            ScalarCode::Binary(width) | ScalarCode::String(width) | ScalarCode::Symbol(width) => width,
+            ScalarCode::Binary(width) | ScalarCode::String(width) | ScalarCode::Symbol(width) =>
+                width,
             _ => SizeWidth::Four,
         }
     }

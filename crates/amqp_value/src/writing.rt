@@ -7,11 +7,14 @@ ghost use Rattle.amqp_value.specs.Grammar.{Spells};
 ghost use Rattle.amqp_value.specs.Canonical.{canonical, elements, IsSized, AreSized};
 ghost use Rattle.amqp_value.specs.Writing.{octet_count, head, AreBehind, AreLength, ArePairsLength, AreElementsLength, IsWritable, AreWritable, ArePairsWritable, Wrote, WroteAll, WrotePairs, Leaves, IsOfWriting};
 
-use crate::octets::put_octets;
 use crate::code::{ScalarCode, SizeWidth};
 use crate::elements::{element_code, elements_size, put_elements};
 use crate::error::ValueError;
-use crate::scalars::{put_binary, put_bool, put_byte, put_character, put_identifier, put_int, put_long, put_null, put_short, put_string, put_symbol, put_timestamp, put_ubyte, put_uint, put_ulong, put_ushort};
+use crate::octets::put_octets;
+use crate::scalars::{
+    put_binary, put_bool, put_byte, put_character, put_identifier, put_int, put_long, put_null,
+    put_short, put_string, put_symbol, put_timestamp, put_ubyte, put_uint, put_ulong, put_ushort,
+};
 use crate::size::{items_size, pairs_size, serialized_size};
 use crate::width::compound_width;
 use amqp_data::{Binary, Described, ElementKind, Entry, Value};

@@ -43,7 +43,13 @@ fn scalars(rt: HostRuntime) -> Result<(), Fail> {
     assert!(rt; is_spelled(alloc, &Value::Int(-128), &[0x54, 0x80]));
     assert!(rt; is_spelled(alloc, &Value::Int(128), &[0x71, 0, 0, 0, 0x80]));
     assert!(rt; is_spelled(alloc, &Value::Long(127), &[0x55, 0x7f]));
-    assert!(rt; is_spelled(alloc, &Value::Long(-129), &[0x81, 0xff, 0xff, 0xff, 0xff, 0xff, 0xff, 0xff, 0x7f]));
+    assert!(rt;
+        is_spelled(
+            alloc,
+            &Value::Long(-129),
+            &[0x81, 0xff, 0xff, 0xff, 0xff, 0xff, 0xff, 0xff, 0x7f]
+        )
+    );
     assert!(rt; is_spelled(alloc, &Value::Char('é'), &[0x73, 0, 0, 0, 0xe9]));
     Ok(())
 }
@@ -107,14 +113,29 @@ fn arrays(rt: HostRuntime) -> Result<(), Fail> {
     let mut uints = ValueArray::new(alloc, ElementKind::Uint);
     uints.push(Value::Uint(1))?;
     uints.push(Value::Uint(2))?;
-    assert!(rt; is_spelled(alloc, &Value::Array(uints), &[0xe0, 10, 2, 0x70, 0, 0, 0, 1, 0, 0, 0, 2]));
+    assert!(rt;
+        is_spelled(
+            alloc,
+            &Value::Array(uints),
+            &[0xe0, 10, 2, 0x70, 0, 0, 0, 1, 0, 0, 0, 2]
+        )
+    );
     let none = Value::Array(ValueArray::new(alloc, ElementKind::Symbol));
     assert!(rt; is_spelled(alloc, &none, &[0xe0, 2, 0, 0xa3]));
     let mut texts = ValueArray::new(alloc, ElementKind::Binary);
     texts.push(Value::Binary(Binary::from_slice(alloc, &[1])?))?;
     texts.push(Value::Binary(Binary::from_slice(alloc, &[2; 256])?))?;
     let long = Value::Array(texts);
-    assert!(rt; begins(alloc, &long, &[0xf0, 0, 0, 1, 14, 0, 0, 0, 2, 0xb0, 0, 0, 0, 1, 1, 0, 0, 1, 0, 2], 275));
+    assert!(rt;
+        begins(
+            alloc,
+            &long,
+            &[
+                0xf0, 0, 0, 1, 14, 0, 0, 0, 2, 0xb0, 0, 0, 0, 1, 1, 0, 0, 1, 0, 2
+            ],
+            275
+        )
+    );
     Ok(())
 }
 

@@ -1,10 +1,10 @@
-use Rattle.std.proofs.Common.{◌≡◌, ℕ, ℤ, List, None, length, ap, subst, ◌∙◌, arith, rules}
+use Rattle.std.proofs.Common.{ℕ, ℤ, List, None, length, ap, subst, ◌∙◌, arith, rules}
 use mir.Val.{SFits}
 use Rattle.std.specs.Int.{w32, w64}
 use Rattle.std.proofs.lemmas.Int.{to_z-of_z}
 use Rattle.amqp_data.specs.Data.{Amqp, uint, ulong, int, long}
 use Rattle.amqp_value.specs.Canonical.{canonical_scalar}
-use Rattle.amqp_data.specs.View.{view, items_view, pairs_view}
+use Rattle.amqp_data.specs.View.{items_view, pairs_view}
 use Rattle.amqp_value.specs.Writing.{IsLength, Measures, MeasuresBlock}
 use Rattle.amqp_value.proofs.Rest.{lighter, lighter_entry}
 use Rattle.amqp_value.proofs.Sizes.{scalar_is, null_is, boolean_is, ubyte_is, byte_is, ushort_is, short_is, char_is, timestamp_is, uuid_is, binary_measured, string_measured, symbol_measured, first_unmeasured, second_unmeasured, described_sum, values_empty, values_are, list_unmeasured, items_go, item_stops, items_too_long, items_end, entries_are, map_unmeasured, pairs_go, pair_stops, pairs_too_long, pairs_end}
@@ -99,12 +99,12 @@ pub value_size-returns-in-Short : goal.value_size-returns-in-Short
 value_size-returns-in-Short t c = rw c.in-Short.is (short_is c.in-Short.field-0)
 
 pub value_size-returns-in-Int : goal.value_size-returns-in-Int
-value_size-returns-in-Int t c = 
+value_size-returns-in-Int t c =
     let f : SFits w32 c.in-Int.n = search rules in
     rw c.in-Int.is (scalar_is c.int_size.result (int c.in-Int.n) (c.int_size.ensures.value ∙ ap (λ (z : ℤ). length (canonical_scalar (int z))) (to_z-of_z w32 c.in-Int.n f)) tt (omega (arith, c.int_size.ensures.small)))
 
 pub value_size-returns-in-Long : goal.value_size-returns-in-Long
-value_size-returns-in-Long t c = 
+value_size-returns-in-Long t c =
     let f : SFits w64 c.in-Long.n = search rules in
     rw c.in-Long.is (scalar_is c.long_size.result (long c.in-Long.n) (c.long_size.ensures.value ∙ ap (λ (z : ℤ). length (canonical_scalar (long z))) (to_z-of_z w64 c.in-Long.n f)) tt (omega (arith, c.long_size.ensures.small)))
 

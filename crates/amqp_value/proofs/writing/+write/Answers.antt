@@ -1,4 +1,4 @@
-use Rattle.std.proofs.Common.{◌≡◌, ℕ, ℤ, ◌*◌, ◌∷◌, ◌++◌, [], List, length, sym, ap, subst, ◌∙◌, arith, rules}
+use Rattle.std.proofs.Common.{◌≡◌, ℕ, ℤ, ◌*◌, ◌++◌, List, length, sym, ap, subst, ◌∙◌, arith, rules}
 use Rattle.std.specs.Prelude.{OnOk}
 use Rattle.std.specs.Int.{w8, w16, w32, w64}
 use mir.Val.{SFits}
@@ -6,7 +6,7 @@ use Rattle.std.proofs.lemmas.Int.{to_z-of_z}
 use Rattle.amqp_data.specs.declared.value.Value.{Value}
 use Rattle.amqp_data.specs.Data.{Amqp, null, boolean, ubyte, ushort, uint, ulong, byte, short, int, long, char, timestamp, uuid, binary, string, symbol}
 use Rattle.amqp_data.specs.Trees.{weight}
-use Rattle.amqp_data.specs.View.{view, items_view, pairs_view}
+use Rattle.amqp_data.specs.View.{view}
 use Rattle.amqp_value.specs.Code.{list_number, map_number}
 use Rattle.amqp_value.specs.Writing.{head, Puts, Wrote, IsWritable}
 use Rattle.amqp_value.proofs.Rest.{lighter, lighter_entry}
@@ -29,7 +29,7 @@ put_described-put_value-requires-2 t c = (
 pub put_described-returns : goal.put_described-returns
 put_described-returns t c =
     described_put c.args.out.now c.push.new.self c.put_value.new.out c.put_value-2.new.out c.args.described.now.0 c.args.described.now.1 c.in_ok-push.ensures.ok (subst (λ (z : Amqp). Wrote c.push.new.self c.put_value.new.out z) c.descriptor.ensures c.in_ok-put_value.ensures)
-        (subst (λ (z : Amqp). Wrote c.put_value.new.out c.put_value-2.new.out z) c.value.ensures c.in_ok-put_value-2.ensures)
+    (subst (λ (z : Amqp). Wrote c.put_value.new.out c.put_value-2.new.out z) c.value.ensures c.in_ok-put_value-2.ensures)
 
 pub put_items-put_value-requires : goal.put_items-put_value-requires
 put_items-put_value-requires t c = (
@@ -116,22 +116,22 @@ pub put_value-returns-in-Ulong : goal.put_value-returns-in-Ulong
 put_value-returns-in-Ulong t c = rw c.in-Ulong.is (scalar_put c.put_ulong.result c.args.out.now c.put_ulong.new.out (ulong c.in-Ulong.n) (subst (λ (z : Value). IsWritable (view z)) c.in-Ulong.is c.requires) c.put_ulong.ensures)
 
 pub put_value-returns-in-Byte : goal.put_value-returns-in-Byte
-put_value-returns-in-Byte t c = 
+put_value-returns-in-Byte t c =
     let f : SFits w8 c.in-Byte.n = search rules in
     rw c.in-Byte.is (scalar_put c.put_byte.result c.args.out.now c.put_byte.new.out (byte c.in-Byte.n) (subst (λ (z : Value). IsWritable (view z)) c.in-Byte.is c.requires) (subst (λ (z : ℤ). OnOk c.put_byte.result (Puts c.args.out.now c.put_byte.new.out (byte z))) (to_z-of_z w8 c.in-Byte.n f) c.put_byte.ensures))
 
 pub put_value-returns-in-Short : goal.put_value-returns-in-Short
-put_value-returns-in-Short t c = 
+put_value-returns-in-Short t c =
     let f : SFits w16 c.in-Short.n = search rules in
     rw c.in-Short.is (scalar_put c.put_short.result c.args.out.now c.put_short.new.out (short c.in-Short.n) (subst (λ (z : Value). IsWritable (view z)) c.in-Short.is c.requires) (subst (λ (z : ℤ). OnOk c.put_short.result (Puts c.args.out.now c.put_short.new.out (short z))) (to_z-of_z w16 c.in-Short.n f) c.put_short.ensures))
 
 pub put_value-returns-in-Int : goal.put_value-returns-in-Int
-put_value-returns-in-Int t c = 
+put_value-returns-in-Int t c =
     let f : SFits w32 c.in-Int.n = search rules in
     rw c.in-Int.is (scalar_put c.put_int.result c.args.out.now c.put_int.new.out (int c.in-Int.n) (subst (λ (z : Value). IsWritable (view z)) c.in-Int.is c.requires) (subst (λ (z : ℤ). OnOk c.put_int.result (Puts c.args.out.now c.put_int.new.out (int z))) (to_z-of_z w32 c.in-Int.n f) c.put_int.ensures))
 
 pub put_value-returns-in-Long : goal.put_value-returns-in-Long
-put_value-returns-in-Long t c = 
+put_value-returns-in-Long t c =
     let f : SFits w64 c.in-Long.n = search rules in
     rw c.in-Long.is (scalar_put c.put_long.result c.args.out.now c.put_long.new.out (long c.in-Long.n) (subst (λ (z : Value). IsWritable (view z)) c.in-Long.is c.requires) (subst (λ (z : ℤ). OnOk c.put_long.result (Puts c.args.out.now c.put_long.new.out (long z))) (to_z-of_z w64 c.in-Long.n f) c.put_long.ensures))
 
@@ -139,7 +139,7 @@ pub put_value-returns-in-Char : goal.put_value-returns-in-Char
 put_value-returns-in-Char t c = rw c.in-Char.is (scalar_put c.put_character.result c.args.out.now c.put_character.new.out (char c.in-Char.c) (subst (λ (z : Value). IsWritable (view z)) c.in-Char.is c.requires) c.put_character.ensures)
 
 pub put_value-returns-in-Timestamp : goal.put_value-returns-in-Timestamp
-put_value-returns-in-Timestamp t c = 
+put_value-returns-in-Timestamp t c =
     let f : SFits w64 c.in-Timestamp.time.milliseconds = search rules in
     rw c.in-Timestamp.is (scalar_put c.put_timestamp.result c.args.out.now c.put_timestamp.new.out (timestamp c.in-Timestamp.time.milliseconds) (subst (λ (z : Value). IsWritable (view z)) c.in-Timestamp.is c.requires) (subst (λ (z : ℤ). OnOk c.put_timestamp.result (Puts c.args.out.now c.put_timestamp.new.out (timestamp z))) (to_z-of_z w64 c.in-Timestamp.time.milliseconds f) c.put_timestamp.ensures))
 
