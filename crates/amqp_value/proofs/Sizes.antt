@@ -154,9 +154,6 @@ pub record SizingItems (total : ℕ) (rest all : Items) : Type 0 where
   pub shallow : items_depth rest ≤ items_depth all
   pub below : 4 + total < 2 ^ 32
 
-pub sizing_items : (all : Items) → SizingItems 0 all all
-sizing_items all = record { is = omega arith; sized = λ s. s; parts = λ s. s; shallow = omega arith; below = omega arith }
-
 next_item_sized : (total n : ℕ) (v : Amqp) (rest all : Items) → SizingItems total (item v rest) all → IsLength n v → 4 + (total + n) < 2 ^ 32 → SizingItems (total + n) rest all
 unfolding canonical IsSized
 next_item_sized total n v rest all h g lt = record {
@@ -211,18 +208,6 @@ pub map_unmeasured : (ps : Pairs) → MeasuresPairs None ps → Measures None (d
 unfolding IsSized
 map_unmeasured ps h = λ s. omega (arith, h s.0 (omega (arith, s.1, length-content Four (2 * pair_count ps) (canonical_pairs ps))))
 
-pub entry_is : (x y : Amqp) (a b n : ℕ) → IsLength a x → IsLength b y → n ≡ a + b → IsEntryLength n x y
-entry_is x y a b n h g e = record { is = omega (arith, h.is, g.is, e); key = h.sized; value = g.sized }
-
-pub key_unmeasured : (x y : Amqp) → Measures None x → MeasuresEntry None x y
-key_unmeasured x y h = λ s z b. omega (arith, h s)
-
-pub value_unmeasured : (x y : Amqp) → Measures None y → MeasuresEntry None x y
-value_unmeasured x y h = λ s z b. omega (arith, h z)
-
-pub entry_unmeasured : (x y : Amqp) (a b : ℕ) → IsLength a x → IsLength b y → 2 ^ 64 ≤ a + b → MeasuresEntry None x y
-entry_unmeasured x y a b h g le = λ s z lt. absurd (omega (arith, h.is, g.is, le, lt))
-
 -- total is the length of all keys and values but the rest
 pub record SizingPairs (total : ℕ) (rest all : Pairs) : Type 0 where
   pub is : total + length (canonical_pairs rest) ≡ length (canonical_pairs all)
@@ -230,9 +215,6 @@ pub record SizingPairs (total : ℕ) (rest all : Pairs) : Type 0 where
   pub parts : ArePairsSized all → ArePairsSized rest
   pub shallow : pairs_depth rest ≤ pairs_depth all
   pub below : 4 + total < 2 ^ 32
-
-pub sizing_pairs : (all : Pairs) → SizingPairs 0 all all
-sizing_pairs all = record { is = omega arith; sized = λ s. s; parts = λ s. s; shallow = omega arith; below = omega arith }
 
 next_pair_sized : (total n : ℕ) (x y : Amqp) (rest all : Pairs) → SizingPairs total (pair x y rest) all → IsEntryLength n x y → 4 + (total + n) < 2 ^ 32 → SizingPairs (total + n) rest all
 unfolding canonical IsSized

@@ -20,14 +20,6 @@ use Rattle.amqp_value.proofs.ArrayItems.{element_code-kind}
 
 -- ---- what has room
 
-pub items_writable : (vs : Items) → IsWritable (list vs) → AreWritable vs
-unfolding IsSized
-items_writable vs w = record { sized = w.sized.0; nests = omega (arith, w.nests) }
-
-pub pairs_writable : (ps : Pairs) → IsWritable (dict ps) → ArePairsWritable ps
-unfolding IsSized
-pairs_writable ps w = record { sized = w.sized.0; nests = omega (arith, w.nests) }
-
 pub first_writable : (d v : Amqp) → IsWritable (described d v) → IsWritable d
 unfolding IsSized
 first_writable d v w = record { sized = w.sized.0; nests = omega (arith, w.nests) }
@@ -149,9 +141,6 @@ pub record GoingItems (old out : List ℕ) (rest all : Items) : Type 0 where
   pub spelled : SpellAll (canonical_items rest) rest → SpellAll (canonical_items all) all
   pub writable : AreWritable rest
 
-pub going_items : (old : List ℕ) (all : Items) → AreWritable all → GoingItems old old all all
-going_items old all w = record { bytes = refl; spelled = λ z. z; writable = w }
-
 next_item_put : (old mid new : List ℕ) (v : Amqp) (rest all : Items) → GoingItems old mid (item v rest) all → Wrote mid new v → GoingItems old new rest all
 unfolding canonical IsSized
 next_item_put old mid new v rest all h g = record {
@@ -204,9 +193,6 @@ pub record GoingPairs (old out : List ℕ) (rest all : Pairs) : Type 0 where
   pub bytes : out ++ canonical_pairs rest ≡ old ++ canonical_pairs all
   pub spelled : SpellPairs (canonical_pairs rest) rest → SpellPairs (canonical_pairs all) all
   pub writable : ArePairsWritable rest
-
-pub going_pairs : (old : List ℕ) (all : Pairs) → ArePairsWritable all → GoingPairs old old all all
-going_pairs old all w = record { bytes = refl; spelled = λ z. z; writable = w }
 
 in_turn : (mid k v rest : List ℕ) → ((mid ++ k) ++ v) ++ rest ≡ mid ++ (k ++ (v ++ rest))
 in_turn mid k v rest = simp append_assoc
