@@ -1,33 +1,20 @@
 -- The elements of an array.
-use Rattle.std.proofs.Common.{◌≡◌, ℕ, zero, suc, ◌+◌, ◌*◌, ◌<◌, ◌≤◌, ◌^◌, Bool, true, false, ltb, List, [], ◌∷◌, ◌++◌, length, get_or, drop, Option, Some, None, refl, sym, ap, subst, ◌∙◌, append_assoc, append-nil, arith}
+use Rattle.std.proofs.Common.{◌≡◌, ℕ, suc, ◌+◌, ◌<◌, ◌≤◌, ◌^◌, Bool, true, false, List, ◌++◌, length, get_or, drop, Some, None, refl, sym, ap, subst, ◌∙◌, append_assoc, append-nil, arith}
 use Rattle.std.specs.Prelude.{◌&&◌, IsSome}
 use Rattle.std.proofs.lemmas.Bool.{ltb-true, and_parts, false≢true}
 use Rattle.std.proofs.lemmas.List.{length-append}
 use Rattle.amqp_data.specs.declared.kind.ElementKind.{ElementKind}
 use Rattle.amqp_data.specs.declared.kind.ElementKind.TheVariants as k
 use Rattle.amqp_data.specs.declared.value.Value.{Value}
-use Rattle.amqp_data.specs.Data.{Scalar, null, boolean, ubyte, ushort, uint, ulong, byte, short, int, long, char, timestamp, uuid, binary, string, symbol, Amqp, Items, Pairs, scalar, list, dict, array, described, no_items, item, count, kind_of, element_kind, AreOfKind}
+use Rattle.amqp_data.specs.Data.{Scalar, null, boolean, ubyte, ushort, uint, ulong, byte, short, int, long, char, timestamp, uuid, binary, string, symbol, Amqp, Items, scalar, list, dict, array, described, no_items, item, count, kind_of, element_kind, AreOfKind}
 use Rattle.amqp_data.specs.View.{view, items_view}
 use Rattle.amqp_value.specs.declared.code.SizeWidth.{SizeWidth}
 use Rattle.amqp_value.specs.declared.code.SizeWidth.TheVariants.{One, Four}
 use Rattle.amqp_value.specs.declared.code.ScalarCode.{ScalarCode}
-use Rattle.amqp_value.specs.declared.code.ScalarCode.TheVariants as c
-use Rattle.amqp_value.specs.Code.{limit}
 use Rattle.amqp_value.specs.Grammar.{Lays, LaysAll, no_elements, more_elements, boolean_true, boolean_false, ubyte', ushort', uint', ulong', byte', short', int', long', char', timestamp', uuid', binary', string', symbol'}
-use Rattle.amqp_value.specs.Canonical.{narrow_if, laid, elements, is_short, are_short, element_code, IsScalarSized, IsSized, AreSized}
+use Rattle.amqp_value.specs.Canonical.{narrow_if, laid, elements, is_short, are_short, element_code, IsSized, AreSized}
 use Rattle.amqp_value.specs.Writing.{width_in, code_of_kind, code_for, IsBehind, AreBehind, HasRoom, HaveRoom, IsInRange, MeasuresElement, MeasuresElements, AreElementsLength, PutsElement, WroteElements}
 use Rattle.amqp_value.proofs.Rest.{rest_items, no_rest}
-
--- ---- short texts
-
-pub short_stops : (xs : List Value) (i : ℕ) (x : Value) → i < length xs → x ≡ get_or xs i x → are_short (items_view (drop i xs)) ≡ are_short (items_view xs) → is_short (view x) ≡ false → are_short (items_view xs) ≡ false
-short_stops xs i x lt e h f = sym h ∙ ap are_short (rest_items xs i x lt e) ∙ ap (λ (b : Bool). b && are_short (items_view (drop (i + 1) xs))) f
-
-pub short_goes : (xs : List Value) (i : ℕ) (x : Value) → i < length xs → x ≡ get_or xs i x → are_short (items_view (drop i xs)) ≡ are_short (items_view xs) → is_short (view x) ≡ true → are_short (items_view (drop (i + 1) xs)) ≡ are_short (items_view xs)
-short_goes xs i x lt e h f = sym (ap (λ (b : Bool). b && are_short (items_view (drop (i + 1) xs))) f) ∙ sym (ap are_short (rest_items xs i x lt e)) ∙ h
-
-pub short_ends : (xs : List Value) (i : ℕ) → length xs ≤ i → are_short (items_view (drop i xs)) ≡ are_short (items_view xs) → are_short (items_view xs) ≡ true
-short_ends xs i le h = sym h ∙ ap are_short (no_rest xs i le)
 
 -- ---- the constructor
 
@@ -90,13 +77,6 @@ all_behind w e (item v vs) h = (behind_kind w v e h.0, all_behind w e vs h.1)
 pub are_behind : (e : ElementKind) (vs : Items) → AreOfKind e vs → AreBehind (element_code e vs) vs
 are_behind e vs h = subst (λ (z : ScalarCode). AreBehind z vs) (sym (element_code-kind e vs)) (all_behind (narrow_if (are_short vs)) e vs h)
 
-pub behind_is : (e : ScalarCode) (v : Amqp) → IsBehind e v → IsSome (element_kind v)
-behind_is e (scalar s) h = h.1
-behind_is e (list vs) h = absurd h
-behind_is e (dict ps) h = absurd h
-behind_is e (array l vs) h = absurd h
-behind_is e (described d v) h = absurd h
-
 -- ---- room for texts
 
 short_room : (v : Amqp) → is_short v ≡ true → HasRoom One v
@@ -154,9 +134,6 @@ pub record SizingElements (e : ScalarCode) (total : ℕ) (rest all : Items) : Ty
   pub parts : AreSized all → AreSized rest
   pub below : 4 + total < 2 ^ 32
 
-pub sizing_elements : (e : ScalarCode) (all : Items) → AreBehind e all → SizingElements e 1 all all
-sizing_elements e all h = record { is = omega arith; few = omega arith; behind = h; sized = λ s. s; parts = λ s. s; below = omega arith }
-
 next_element_sized : (e : ScalarCode) (total n : ℕ) (v : Amqp) (rest all : Items) → SizingElements e total (item v rest) all → MeasuresElement (width_in e) (Some n) v → 4 + (total + n) < 2 ^ 32 → SizingElements e (total + n) rest all
 unfolding IsSized
 next_element_sized e total n (scalar s) rest all h g lt =
@@ -179,10 +156,6 @@ pub elements_go : (e : ScalarCode) (total n : ℕ) (xs : List Value) (i : ℕ) (
 elements_go e total n xs i x lt is h g below =
     next_element_sized e total n (view x) (items_view (drop (i + 1) xs)) (items_view xs) (subst (λ (z : Items). SizingElements e total z (items_view xs)) (rest_items xs i x lt is) h) g below
 
-pub element_is : (e : ScalarCode) (total : ℕ) (xs : List Value) (i : ℕ) (x : Value) → i < length xs → x ≡ get_or xs i x → SizingElements e total (items_view (drop i xs)) (items_view xs) → IsSome (element_kind (view x))
-element_is e total xs i x lt is h =
-    behind_is e (view x) (let b = subst (λ (z : Items). AreBehind e z) (rest_items xs i x lt is) h.behind in b.0)
-
 no_element_sized : (e : ScalarCode) (total : ℕ) (v : Amqp) (rest all : Items) → SizingElements e total (item v rest) all → MeasuresElement (width_in e) None v → MeasuresElements e None all
 unfolding IsSized
 no_element_sized e total (scalar s) rest all h g = λ z b. g (h.parts z).0
@@ -194,20 +167,6 @@ no_element_sized e total (described d v) rest all h g = absurd h.behind.0
 pub element_stops : (e : ScalarCode) (total : ℕ) (xs : List Value) (i : ℕ) (x : Value) → i < length xs → x ≡ get_or xs i x → SizingElements e total (items_view (drop i xs)) (items_view xs) → MeasuresElement (width_in e) None (view x) → MeasuresElements e None (items_view xs)
 element_stops e total xs i x lt is h g =
     no_element_sized e total (view x) (items_view (drop (i + 1) xs)) (items_view xs) (subst (λ (z : Items). SizingElements e total z (items_view xs)) (rest_items xs i x lt is) h) g
-
-element_too_long : (e : ScalarCode) (total n : ℕ) (v : Amqp) (rest all : Items) → SizingElements e total (item v rest) all → MeasuresElement (width_in e) (Some n) v → 2 ^ 32 ≤ 4 + (total + n) → MeasuresElements e None all
-element_too_long e total n (scalar s) rest all h g le =
-    let len : n ≡ length (laid e s) = g.0 ∙ ap (λ (z : ScalarCode). length (laid z s)) h.behind.0.0 in
-    λ z b. omega (arith, h.is, len, length-append (laid e s) (elements e rest), le, b)
-element_too_long e total n (list vs) rest all h g le = absurd h.behind.0
-element_too_long e total n (dict ps) rest all h g le = absurd h.behind.0
-element_too_long e total n (array l vs) rest all h g le = absurd h.behind.0
-element_too_long e total n (described d v) rest all h g le = absurd h.behind.0
-
-pub elements_too_long : (e : ScalarCode) (total n : ℕ) (xs : List Value) (i : ℕ) (x : Value) → i < length xs → x ≡ get_or xs i x → SizingElements e total (items_view (drop i xs)) (items_view xs) → MeasuresElement (width_in e) (Some n) (view x) → 2 ^ 32 ≤ 4 + (total + n)
-    → MeasuresElements e None (items_view xs)
-elements_too_long e total n xs i x lt is h g le =
-    element_too_long e total n (view x) (items_view (drop (i + 1) xs)) (items_view xs) (subst (λ (z : Items). SizingElements e total z (items_view xs)) (rest_items xs i x lt is) h) g le
 
 pub elements_end : (e : ScalarCode) (total : ℕ) (xs : List Value) (i : ℕ) → length xs ≤ i → SizingElements e total (items_view (drop i xs)) (items_view xs) → AreElementsLength e total (items_view xs)
 unfolding IsSized
@@ -244,9 +203,6 @@ pub record GoingElements (e : ScalarCode) (old out : List ℕ) (rest all : Items
   pub behind : AreBehind e rest
   pub room : HaveRoom (width_in e) rest
 
-pub going_elements : (e : ScalarCode) (old : List ℕ) (all : Items) → AreBehind e all → HaveRoom (width_in e) all → GoingElements e old old all all
-going_elements e old all h r = record { bytes = refl; spelled = λ z. z; behind = h; room = r }
-
 next_element_put : (e : ScalarCode) (old mid new : List ℕ) (v : Amqp) (rest all : Items) → GoingElements e old mid (item v rest) all → PutsElement (width_in e) mid new v → GoingElements e old new rest all
 next_element_put e old mid new (scalar s) rest all h g =
     let b : new ≡ mid ++ laid e s = g.0 ∙ ap (λ (z : ScalarCode). mid ++ laid z s) h.behind.0.0 in
@@ -266,9 +222,6 @@ pub element_put : (e : ScalarCode) (old mid new : List ℕ) (xs : List Value) (i
     → GoingElements e old new (items_view (drop (i + 1) xs)) (items_view xs)
 element_put e old mid new xs i x lt is h g =
     next_element_put e old mid new (view x) (items_view (drop (i + 1) xs)) (items_view xs) (subst (λ (z : Items). GoingElements e old mid z (items_view xs)) (rest_items xs i x lt is) h) g
-
-pub room_at : (e : ScalarCode) (old mid : List ℕ) (xs : List Value) (i : ℕ) (x : Value) → i < length xs → x ≡ get_or xs i x → GoingElements e old mid (items_view (drop i xs)) (items_view xs) → HasRoom (width_in e) (view x)
-room_at e old mid xs i x lt is h = let r = subst (λ (z : Items). HaveRoom (width_in e) z) (rest_items xs i x lt is) h.room in r.0
 
 pub elements_put : (e : ScalarCode) (old out : List ℕ) (xs : List Value) (i : ℕ) → length xs ≤ i → GoingElements e old out (items_view (drop i xs)) (items_view xs) → WroteElements e old out (items_view xs)
 elements_put e old out xs i le h =

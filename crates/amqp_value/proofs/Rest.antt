@@ -1,9 +1,9 @@
 -- What a loop over values has left.
-use Rattle.std.proofs.Common.{◌≡◌, ℕ, zero, suc, ◌+◌, ◌*◌, ◌<◌, ◌≤◌, List, [], ◌∷◌, length, get_or, drop, refl, sym, ap, ◌∙◌, arith}
+use Rattle.std.proofs.Common.{◌≡◌, ℕ, zero, suc, ◌+◌, ◌<◌, ◌≤◌, List, [], ◌∷◌, length, get_or, drop, refl, sym, ap, ◌∙◌, arith}
 use Rattle.std.proofs.lemmas.List.{drop_more, drop_all}
 use Rattle.amqp_data.specs.declared.value.Value.{Value}
 use Rattle.amqp_data.specs.declared.value.Entry.{Entry}
-use Rattle.amqp_data.specs.Data.{Amqp, Items, Pairs, no_items, item, no_pairs, pair, count, pair_count}
+use Rattle.amqp_data.specs.Data.{no_items, item, no_pairs, pair, count, pair_count}
 use Rattle.amqp_data.specs.Trees.{weight, items_weight, pairs_weight}
 use Rattle.amqp_data.specs.View.{view, items_view, pairs_view}
 

@@ -1,13 +1,12 @@
 -- A scalar behind its first constructor.
-use Rattle.std.proofs.Common.{◌≡◌, ℕ, ℤ, pos, negsuc, suc, ◌+◌, ◌<◌, ◌≤◌, ◌^◌, Bool, true, false, cond, eqb, ltb, leb, List, [], ◌∷◌, ◌++◌, length, Result, Ok, Err, refl, sym, ap, subst, ◌∙◌, arith, rules}
-use Rattle.std.specs.Prelude.{OnOk, int_le, FitsSigned, ◌&&◌}
+use Rattle.std.proofs.Common.{◌≡◌, ℕ, ℤ, pos, negsuc, ◌<◌, ◌^◌, Bool, true, false, cond, eqb, ltb, leb, List, [], length, Result, Ok, Err, refl, sym, subst, arith}
+use Rattle.std.specs.Prelude.{OnOk, FitsSigned}
 use Rattle.std.specs.declared.alloc.AllocError.{AllocError}
 use Rattle.std.specs.Int.{w8, w32, w64}
-use Rattle.std.proofs.lemmas.Bool.{eqb-true, ltb-true, and_parts, false≢true}
-use Rattle.amqp_data.specs.Data.{Scalar, null, boolean, ubyte, ushort, uint, ulong, byte, short, int, long, char, timestamp, uuid, binary, string, symbol, Amqp, scalar}
-use Rattle.amqp_value.specs.declared.code.ScalarCode.{ScalarCode}
+use Rattle.std.proofs.lemmas.Bool.{eqb-true, ltb-true, and_parts}
+use Rattle.amqp_data.specs.Data.{Scalar, null, boolean, ubyte, ushort, uint, ulong, byte, short, int, long, char, timestamp, uuid, binary, string, symbol, scalar}
 use Rattle.amqp_value.specs.declared.code.ScalarCode.TheVariants as c
-use Rattle.amqp_value.specs.Grammar.{Lays, null', true', false', ubyte', ushort', uint0, small_uint, uint', ulong0, small_ulong, ulong', byte', short', small_int, int', small_long, long', char', timestamp', uuid', binary', string', symbol', Spells, scalar'}
+use Rattle.amqp_value.specs.Grammar.{Lays, null', true', false', ubyte', ushort', uint0, small_uint, uint', ulong0, small_ulong, ulong', byte', short', small_int, int', small_long, long', char', timestamp', uuid', binary', string', symbol', scalar'}
 use Rattle.amqp_value.specs.Canonical.{width_of, is_small, shortest, laid, canonical_scalar, canonical, IsScalarSized, IsSized}
 use Rattle.amqp_value.specs.Writing.{IsInRange, Puts, Wrote, IsWritable}
 use Rattle.amqp_value.proofs.Lengths.{width_fits}

@@ -1,5 +1,5 @@
 -- The length of a value from those of its parts.
-use Rattle.std.proofs.Common.{◌≡◌, ℕ, zero, suc, ◌+◌, ◌*◌, ◌<◌, ◌≤◌, ◌^◌, max, List, [], ◌∷◌, ◌++◌, length, get_or, drop, Bool, true, false, Option, Some, None, inl, inr, refl, sym, ap, subst, ◌∙◌, arith}
+use Rattle.std.proofs.Common.{◌≡◌, ℕ, suc, ◌+◌, ◌*◌, ◌<◌, ◌≤◌, ◌^◌, max, List, [], ◌∷◌, ◌++◌, length, get_or, drop, Bool, true, false, Option, Some, None, inl, inr, refl, sym, ap, subst, ◌∙◌, arith}
 use Rattle.std.specs.Prelude.{SomeIff}
 use Rattle.std.proofs.Math.Nat.{pow-le-pow_right}
 use Rattle.std.proofs.lemmas.Bool.{cases_lt}
@@ -8,11 +8,11 @@ use Rattle.std.proofs.lemmas.List.{length-append}
 use Rattle.amqp_data.specs.declared.kind.ElementKind.{ElementKind}
 use Rattle.amqp_data.specs.declared.value.Value.{Value}
 use Rattle.amqp_data.specs.declared.value.Entry.{Entry}
-use Rattle.amqp_data.specs.Data.{Scalar, null, boolean, ubyte, ushort, uint, ulong, byte, short, int, long, char, timestamp, uuid, binary, string, symbol, Amqp, Items, Pairs, scalar, list, dict, array, described, no_items, item, no_pairs, pair, count, pair_count, depth, items_depth, pairs_depth}
+use Rattle.amqp_data.specs.Data.{Scalar, null, boolean, ubyte, ushort, byte, short, char, timestamp, uuid, binary, string, symbol, Amqp, Items, Pairs, scalar, list, dict, array, described, no_items, item, no_pairs, pair, count, pair_count, depth, items_depth, pairs_depth}
 use Rattle.amqp_data.specs.View.{view, items_view, pairs_view}
 use Rattle.amqp_value.specs.declared.code.SizeWidth.TheVariants.{Four}
-use Rattle.amqp_value.specs.Code.{block, content, list_number, map_number, array_number}
-use Rattle.amqp_value.specs.Canonical.{width_of, laid, canonical_scalar, compound, array_items, element_code, canonical, canonical_items, canonical_pairs, IsScalarSized, IsSized, AreSized, ArePairsSized}
+use Rattle.amqp_value.specs.Code.{list_number, map_number, array_number}
+use Rattle.amqp_value.specs.Canonical.{width_of, laid, canonical_scalar, array_items, element_code, canonical, canonical_items, canonical_pairs, IsScalarSized, IsSized, AreSized, ArePairsSized}
 use Rattle.amqp_value.specs.Writing.{octet_count, compound_length, MeasuresBlock, IsLength, Measures, AreLength, MeasuresAll, IsEntryLength, MeasuresEntry, ArePairsLength, MeasuresPairs, AreElementsLength, MeasuresElements}
 use Rattle.amqp_value.proofs.Rest.{rest_items, no_rest, rest_pairs, no_rest_pairs, count_view, count_entries}
 use Rattle.amqp_value.proofs.Lengths.{length-block, length-content, length-compound, octets_small, compound_near}
@@ -154,9 +154,6 @@ pub record SizingItems (total : ℕ) (rest all : Items) : Type 0 where
   pub shallow : items_depth rest ≤ items_depth all
   pub below : 4 + total < 2 ^ 32
 
-pub sizing_items : (all : Items) → SizingItems 0 all all
-sizing_items all = record { is = omega arith; sized = λ s. s; parts = λ s. s; shallow = omega arith; below = omega arith }
-
 next_item_sized : (total n : ℕ) (v : Amqp) (rest all : Items) → SizingItems total (item v rest) all → IsLength n v → 4 + (total + n) < 2 ^ 32 → SizingItems (total + n) rest all
 unfolding canonical IsSized
 next_item_sized total n v rest all h g lt = record {
@@ -211,18 +208,6 @@ pub map_unmeasured : (ps : Pairs) → MeasuresPairs None ps → Measures None (d
 unfolding IsSized
 map_unmeasured ps h = λ s. omega (arith, h s.0 (omega (arith, s.1, length-content Four (2 * pair_count ps) (canonical_pairs ps))))
 
-pub entry_is : (x y : Amqp) (a b n : ℕ) → IsLength a x → IsLength b y → n ≡ a + b → IsEntryLength n x y
-entry_is x y a b n h g e = record { is = omega (arith, h.is, g.is, e); key = h.sized; value = g.sized }
-
-pub key_unmeasured : (x y : Amqp) → Measures None x → MeasuresEntry None x y
-key_unmeasured x y h = λ s z b. omega (arith, h s)
-
-pub value_unmeasured : (x y : Amqp) → Measures None y → MeasuresEntry None x y
-value_unmeasured x y h = λ s z b. omega (arith, h z)
-
-pub entry_unmeasured : (x y : Amqp) (a b : ℕ) → IsLength a x → IsLength b y → 2 ^ 64 ≤ a + b → MeasuresEntry None x y
-entry_unmeasured x y a b h g le = λ s z lt. absurd (omega (arith, h.is, g.is, le, lt))
-
 -- total is the length of all keys and values but the rest
 pub record SizingPairs (total : ℕ) (rest all : Pairs) : Type 0 where
   pub is : total + length (canonical_pairs rest) ≡ length (canonical_pairs all)
@@ -230,9 +215,6 @@ pub record SizingPairs (total : ℕ) (rest all : Pairs) : Type 0 where
   pub parts : ArePairsSized all → ArePairsSized rest
   pub shallow : pairs_depth rest ≤ pairs_depth all
   pub below : 4 + total < 2 ^ 32
-
-pub sizing_pairs : (all : Pairs) → SizingPairs 0 all all
-sizing_pairs all = record { is = omega arith; sized = λ s. s; parts = λ s. s; shallow = omega arith; below = omega arith }
 
 next_pair_sized : (total n : ℕ) (x y : Amqp) (rest all : Pairs) → SizingPairs total (pair x y rest) all → IsEntryLength n x y → 4 + (total + n) < 2 ^ 32 → SizingPairs (total + n) rest all
 unfolding canonical IsSized

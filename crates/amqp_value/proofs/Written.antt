@@ -1,34 +1,24 @@
 -- What is written of a value from what is written of its parts.
-use Rattle.std.proofs.Common.{◌≡◌, ℕ, zero, suc, ◌+◌, ◌*◌, ◌<◌, ◌≤◌, ◌^◌, max, Bool, true, false, List, [], ◌∷◌, ◌++◌, length, get_or, drop, Option, Some, None, Result, Ok, Err, refl, sym, ap, subst, ◌∙◌, append_assoc, append-nil, arith}
-use Rattle.std.specs.Prelude.{OnOk}
-use Rattle.std.specs.declared.alloc.AllocError.{AllocError}
+use Rattle.std.proofs.Common.{◌≡◌, ℕ, suc, ◌+◌, ◌*◌, ◌<◌, ◌≤◌, ◌^◌, List, [], ◌∷◌, ◌++◌, length, get_or, drop, Some, None, refl, sym, ap, subst, ◌∙◌, append_assoc, append-nil, arith}
 use Rattle.std.proofs.lemmas.List.{length-append}
 use Rattle.amqp_data.specs.declared.kind.ElementKind.{ElementKind}
 use Rattle.amqp_data.specs.declared.kind.ElementKind.TheVariants as k
 use Rattle.amqp_data.specs.declared.value.Value.{Value}
 use Rattle.amqp_data.specs.declared.value.Entry.{Entry}
-use Rattle.amqp_data.specs.Data.{Scalar, Amqp, Items, Pairs, scalar, list, dict, array, described, no_items, item, no_pairs, pair, count, pair_count, depth, items_depth, pairs_depth, AreOfKind, HasDistinctKeys}
+use Rattle.amqp_data.specs.Data.{Amqp, Items, Pairs, scalar, list, dict, array, described, no_items, item, no_pairs, pair, count, pair_count, HasDistinctKeys}
 use Rattle.amqp_data.specs.View.{view, items_view, pairs_view}
 use Rattle.amqp_value.specs.declared.code.SizeWidth.{SizeWidth}
-use Rattle.amqp_value.specs.declared.code.SizeWidth.TheVariants.{One, Four}
+use Rattle.amqp_value.specs.declared.code.SizeWidth.TheVariants.{Four}
 use Rattle.amqp_value.specs.declared.code.ScalarCode.{ScalarCode}
 use Rattle.amqp_value.specs.Code.{octets, limit, block, content, scalar_number, list_number, map_number, array_number, code_kind}
-use Rattle.amqp_value.specs.Grammar.{LaysAll, Spells, empty_list, list', map', array', described', SpellAll, no_values, more_values, SpellPairs, no_keys, more_keys}
-use Rattle.amqp_value.specs.Canonical.{narrow_if, compound_width, compound, elements, are_short, element_code, array_items, canonical_scalar, canonical, canonical_items, canonical_pairs, IsSized, AreSized, ArePairsSized}
-use Rattle.amqp_value.specs.Writing.{octet_count, head, code_of_kind, AreBehind, HaveRoom, width_in, AreLength, MeasuresAll, ArePairsLength, MeasuresPairs, AreElementsLength, MeasuresElements, WroteElements, Wrote, WroteAll, WrotePairs, IsWritable, AreWritable, ArePairsWritable}
+use Rattle.amqp_value.specs.Grammar.{empty_list, list', map', array', described', SpellAll, no_values, more_values, SpellPairs, no_keys, more_keys}
+use Rattle.amqp_value.specs.Canonical.{narrow_if, compound_width, compound, elements, are_short, element_code, array_items, canonical_scalar, canonical, canonical_items, canonical_pairs, IsSized, AreSized}
+use Rattle.amqp_value.specs.Writing.{octet_count, head, code_of_kind, AreLength, MeasuresAll, ArePairsLength, MeasuresPairs, AreElementsLength, WroteElements, Wrote, WroteAll, WrotePairs, IsWritable, AreWritable, ArePairsWritable}
 use Rattle.amqp_value.proofs.Rest.{rest_items, no_rest, rest_pairs, no_rest_pairs, count_view, count_entries}
 use Rattle.amqp_value.proofs.Lengths.{length-content, HaveLimits, limits}
 use Rattle.amqp_value.proofs.ArrayItems.{element_code-kind}
 
 -- ---- what has room
-
-pub items_writable : (vs : Items) → IsWritable (list vs) → AreWritable vs
-unfolding IsSized
-items_writable vs w = record { sized = w.sized.0; nests = omega (arith, w.nests) }
-
-pub pairs_writable : (ps : Pairs) → IsWritable (dict ps) → ArePairsWritable ps
-unfolding IsSized
-pairs_writable ps w = record { sized = w.sized.0; nests = omega (arith, w.nests) }
 
 pub first_writable : (d v : Amqp) → IsWritable (described d v) → IsWritable d
 unfolding IsSized
@@ -151,9 +141,6 @@ pub record GoingItems (old out : List ℕ) (rest all : Items) : Type 0 where
   pub spelled : SpellAll (canonical_items rest) rest → SpellAll (canonical_items all) all
   pub writable : AreWritable rest
 
-pub going_items : (old : List ℕ) (all : Items) → AreWritable all → GoingItems old old all all
-going_items old all w = record { bytes = refl; spelled = λ z. z; writable = w }
-
 next_item_put : (old mid new : List ℕ) (v : Amqp) (rest all : Items) → GoingItems old mid (item v rest) all → Wrote mid new v → GoingItems old new rest all
 unfolding canonical IsSized
 next_item_put old mid new v rest all h g = record {
@@ -206,9 +193,6 @@ pub record GoingPairs (old out : List ℕ) (rest all : Pairs) : Type 0 where
   pub bytes : out ++ canonical_pairs rest ≡ old ++ canonical_pairs all
   pub spelled : SpellPairs (canonical_pairs rest) rest → SpellPairs (canonical_pairs all) all
   pub writable : ArePairsWritable rest
-
-pub going_pairs : (old : List ℕ) (all : Pairs) → ArePairsWritable all → GoingPairs old old all all
-going_pairs old all w = record { bytes = refl; spelled = λ z. z; writable = w }
 
 in_turn : (mid k v rest : List ℕ) → ((mid ++ k) ++ v) ++ rest ≡ mid ++ (k ++ (v ++ rest))
 in_turn mid k v rest = simp append_assoc

@@ -4,7 +4,7 @@ use Rattle.std.specs.Char.{IsScalar}
 use Rattle.std.specs.Int.{w8, w16, w32, w64}
 use Rattle.amqp_data.specs.declared.kind.ElementKind.{ElementKind}
 use Rattle.amqp_data.specs.declared.kind.ElementKind.TheVariants as k
-use Rattle.amqp_data.specs.Data.{Scalar, null, boolean, ubyte, ushort, uint, ulong, byte, short, int, long, char, timestamp, uuid, binary, string, symbol, Amqp, Items, Pairs, scalar, list, dict, array, described, no_items, item, no_pairs, pair, count, pair_count, kind_of, depth, items_depth, pairs_depth}
+use Rattle.amqp_data.specs.Data.{Scalar, null, boolean, ubyte, ushort, uint, ulong, byte, short, int, long, char, timestamp, uuid, binary, string, symbol, Amqp, Items, Pairs, scalar, no_items, item, count, kind_of, depth, items_depth, pairs_depth}
 use Rattle.amqp_value.specs.declared.error.ValueError.{ValueError}
 use Rattle.amqp_value.specs.declared.error.ValueError.TheVariants as errors
 use Rattle.amqp_value.specs.declared.code.SizeWidth.{SizeWidth}
@@ -12,7 +12,7 @@ use Rattle.amqp_value.specs.declared.code.SizeWidth.TheVariants.{One, Four}
 use Rattle.amqp_value.specs.declared.code.ScalarCode.{ScalarCode}
 use Rattle.amqp_value.specs.declared.code.ScalarCode.TheVariants as c
 use Rattle.amqp_value.specs.Code.{octets, limit}
-use Rattle.amqp_value.specs.Grammar.{IsAscii, Lays, LaysAll, Spells, SpellAll, SpellPairs}
+use Rattle.amqp_value.specs.Grammar.{IsAscii, LaysAll, Spells, SpellAll, SpellPairs}
 use Rattle.amqp_value.specs.Canonical.{width_of, compound_width, laid, canonical_scalar, elements, canonical, canonical_items, canonical_pairs, IsScalarSized, IsSized, AreSized, ArePairsSized}
 
 -- how many octets a width has

@@ -1,10 +1,10 @@
-use Rattle.std.proofs.Common.{◌≡◌, ℕ, ℤ, List, None, length, ap, subst, ◌∙◌, arith, rules}
+use Rattle.std.proofs.Common.{ℕ, ℤ, List, None, length, ap, subst, ◌∙◌, arith, rules}
 use mir.Val.{SFits}
 use Rattle.std.specs.Int.{w32, w64}
 use Rattle.std.proofs.lemmas.Int.{to_z-of_z}
 use Rattle.amqp_data.specs.Data.{Amqp, uint, ulong, int, long}
 use Rattle.amqp_value.specs.Canonical.{canonical_scalar}
-use Rattle.amqp_data.specs.View.{view, items_view, pairs_view}
+use Rattle.amqp_data.specs.View.{items_view, pairs_view}
 use Rattle.amqp_value.specs.Writing.{IsLength, Measures, MeasuresBlock}
 use Rattle.amqp_value.proofs.Rest.{lighter, lighter_entry}
 use Rattle.amqp_value.proofs.Sizes.{scalar_is, null_is, boolean_is, ubyte_is, byte_is, ushort_is, short_is, char_is, timestamp_is, uuid_is, binary_measured, string_measured, symbol_measured, first_unmeasured, second_unmeasured, described_sum, values_empty, values_are, list_unmeasured, items_go, item_stops, items_too_long, items_end, entries_are, map_unmeasured, pairs_go, pair_stops, pairs_too_long, pairs_end}

@@ -1,7 +1,7 @@
 use Rattle.std.proofs.Common.{None, Some, subst}
 use Rattle.amqp_data.specs.View.{items_view}
 use Rattle.amqp_value.specs.declared.code.ScalarCode.{ScalarCode}
-use Rattle.amqp_value.specs.Writing.{AreBehind, MeasuresElements}
+use Rattle.amqp_value.specs.Writing.{MeasuresElements}
 use Rattle.amqp_value.proofs.ArrayItems.{are_behind}
 use Rattle.amqp_value.proofs.Sizes.{array_unmeasured, elements_are}
 use Rattle.amqp_value.proofs.size.array_size.Goals as goal

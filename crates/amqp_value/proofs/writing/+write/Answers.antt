@@ -1,4 +1,4 @@
-use Rattle.std.proofs.Common.{◌≡◌, ℕ, ℤ, ◌*◌, ◌∷◌, ◌++◌, [], List, length, sym, ap, subst, ◌∙◌, arith, rules}
+use Rattle.std.proofs.Common.{◌≡◌, ℕ, ℤ, ◌*◌, ◌++◌, List, length, sym, ap, subst, ◌∙◌, arith, rules}
 use Rattle.std.specs.Prelude.{OnOk}
 use Rattle.std.specs.Int.{w8, w16, w32, w64}
 use mir.Val.{SFits}
@@ -6,7 +6,7 @@ use Rattle.std.proofs.lemmas.Int.{to_z-of_z}
 use Rattle.amqp_data.specs.declared.value.Value.{Value}
 use Rattle.amqp_data.specs.Data.{Amqp, null, boolean, ubyte, ushort, uint, ulong, byte, short, int, long, char, timestamp, uuid, binary, string, symbol}
 use Rattle.amqp_data.specs.Trees.{weight}
-use Rattle.amqp_data.specs.View.{view, items_view, pairs_view}
+use Rattle.amqp_data.specs.View.{view}
 use Rattle.amqp_value.specs.Code.{list_number, map_number}
 use Rattle.amqp_value.specs.Writing.{head, Puts, Wrote, IsWritable}
 use Rattle.amqp_value.proofs.Rest.{lighter, lighter_entry}

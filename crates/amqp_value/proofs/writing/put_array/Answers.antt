@@ -1,10 +1,7 @@
-use Rattle.std.proofs.Common.{◌≡◌, ℕ, ◌∷◌, ◌++◌, [], List, length, refl, subst, ap, ◌∙◌}
+use Rattle.std.proofs.Common.{◌≡◌, ℕ, ◌∷◌, ◌++◌, [], length, ap, ◌∙◌}
 use Rattle.amqp_data.specs.View.{items_view}
-use Rattle.amqp_value.specs.declared.code.SizeWidth.{SizeWidth}
-use Rattle.amqp_value.specs.declared.code.ScalarCode.{ScalarCode}
-use Rattle.amqp_value.specs.Code.{limit, scalar_number, array_number}
-use Rattle.amqp_value.specs.Canonical.{element_code}
-use Rattle.amqp_value.specs.Writing.{AreBehind, HaveRoom, width_in, head}
+use Rattle.amqp_value.specs.Code.{scalar_number, array_number}
+use Rattle.amqp_value.specs.Writing.{head}
 use Rattle.amqp_value.proofs.ArrayItems.{are_behind, have_room}
 use Rattle.amqp_value.proofs.Written.{elements_sized, elements_fit, array_limits, array_put}
 use Rattle.amqp_value.proofs.writing.put_array.Goals as goal
