@@ -1,0 +1,9 @@
+use Rattle.std.proofs.Common.{sym, ◌∙◌, arith}
+use Rattle.amqp_data.proofs.Placed.{empty_view, view_empty}
+use Rattle.amqp_data.proofs.value.OrderedMap.is_empty.Goals as goal
+
+pub returns : goal.returns
+returns c = (
+  λ h. sym c.self.view_is ∙ empty_view c.self.inside.entries.items (grind (arith, c.is_empty.ensures, h)),
+  λ e. grind (arith, c.is_empty.ensures, view_empty c.self.inside.entries.items (c.self.view_is ∙ e)),
+)

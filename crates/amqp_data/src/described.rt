@@ -1,0 +1,42 @@
+//! Described values (OASIS AMQP 1.0, part 1, section 1.1.2).
+ghost use Rattle.std.specs.Prelude.{◌≡◌, IfOk};
+ghost use Rattle.amqp_data.specs.View.{view};
+
+use crate::value::{Described, Value};
+use std::alloc::{AllocError, Global};
+
+impl Described {
+    /// A value behind its descriptor; the one error is want of memory.
+    pub fn new(alloc: Global, descriptor: Value, value: Value) -> Result<Self, AllocError>
+        ensures { IfOk result (λ d. d ≡ (view descriptor, view value)) }
+    {
+        let descriptor = Box::new(alloc, descriptor)?;
+        let value = Box::new(alloc, value)?;
+        Ok(Described { descriptor, value })
+    }
+
+    /// The descriptor, lent.
+    pub fn descriptor(&self) -> &Value
+        ensures { view result.now ≡ self.now.0 }
+    {
+        &self.descriptor
+    }
+
+    /// The value, lent.
+    pub fn value(&self) -> &Value
+        ensures { view result.now ≡ self.now.1 }
+    {
+        &self.value
+    }
+
+    /// The descriptor and the value.
+    pub fn into_parts(self) -> (Value, Value)
+        ensures descriptor { view result.0 ≡ self.0 }
+        ensures value { view result.1 ≡ self.1 }
+    {
+        (
+            Box::into_inner(self.descriptor),
+            Box::into_inner(self.value),
+        )
+    }
+}
