@@ -8,8 +8,6 @@ pub use reply::{NamedReply, Reply, ReplyList};
 
 pub mod authentication;
 pub mod call;
-#[cfg(test)]
-mod gate_tests;
 pub mod opening;
 pub mod peer;
 pub mod reply;
