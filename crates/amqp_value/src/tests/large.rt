@@ -8,9 +8,14 @@ use std::test::Fail;
 /// Sixteen MiB.
 const LARGE: usize = 0x0100_0000;
 
-/// A compound with four-byte size and count around those items.
-fn compound(alloc: Global, code: u8, count: u32, items: &[u8]) -> Result<Vec<u8>, AllocError> {
-    let size = (items.len() as u32).wrapping_add(4);
+/// A compound with that size and that count, of four bytes each, around those items.
+fn compound(
+    alloc: Global,
+    code: u8,
+    size: u32,
+    count: u32,
+    items: &[u8],
+) -> Result<Vec<u8>, AllocError> {
     let mut bytes = Vec::new(alloc);
     bytes.push(code)?;
     bytes.extend_from_slice(&size.to_be_bytes())?;
@@ -37,7 +42,7 @@ fn pairs(alloc: Global, count: u32, listed: bool) -> Result<Vec<u8>, AllocError>
 fn nulls(rt: HostRuntime) -> Result<(), Fail> {
     let mut items = Vec::new(rt.alloc());
     items.resize(LARGE - 9, 0x40)?;
-    let bytes = compound(rt.alloc(), 0xd0, 0x00ff_fff7, &items)?;
+    let bytes = compound(rt.alloc(), 0xd0, 0x00ff_fffb, 0x00ff_fff7, &items)?;
     let (value, used) = read_value(rt.alloc(), &bytes)?;
     assert_eq!(rt; used, LARGE);
     assert!(rt; matches!(&value, Value::List(list) if list.len() == LARGE - 9));
@@ -58,11 +63,11 @@ fn text(rt: HostRuntime) -> Result<(), Fail> {
 #[test]
 fn numbers_as_keys(rt: HostRuntime) -> Result<(), Fail> {
     let mut items = pairs(rt.alloc(), 100_000, false)?;
-    let bytes = compound(rt.alloc(), 0xd1, 200_000, &items)?;
+    let bytes = compound(rt.alloc(), 0xd1, 600_004, 200_000, &items)?;
     let (value, _) = read_value(rt.alloc(), &bytes)?;
     assert!(rt; matches!(&value, Value::Map(map) if map.len() == 100_000));
     items.extend_from_slice(&[0x43, 0x40])?;
-    let twice = compound(rt.alloc(), 0xd1, 200_002, &items)?;
+    let twice = compound(rt.alloc(), 0xd1, 600_006, 200_002, &items)?;
     assert!(rt; matches!(read_value(rt.alloc(), &twice), Err(ValueError::Decode)));
     Ok(())
 }
@@ -70,7 +75,7 @@ fn numbers_as_keys(rt: HostRuntime) -> Result<(), Fail> {
 #[test]
 fn lists_as_keys(rt: HostRuntime) -> Result<(), Fail> {
     let items = pairs(rt.alloc(), 30_000, true)?;
-    let bytes = compound(rt.alloc(), 0xd1, 60_000, &items)?;
+    let bytes = compound(rt.alloc(), 0xd1, 270_004, 60_000, &items)?;
     let (value, _) = read_value(rt.alloc(), &bytes)?;
     assert!(rt; matches!(&value, Value::Map(map) if map.len() == 30_000));
     Ok(())
