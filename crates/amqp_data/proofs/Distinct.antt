@@ -1,12 +1,12 @@
 -- A pass over the entries, with the keys that were seen.
-use Rattle.std.proofs.Common.{◌≡◌, ℕ, suc, ◌+◌, ◌<◌, ◌≤◌, Bool, true, false, cond, List, [], ◌∷◌, ◌++◌, length, get_or, drop, map, refl, sym, ap, ◌∙◌, add-one, drop-cons, arith}
+use Rattle.std.proofs.Common.{◌≡◌, ℕ, suc, ◌+◌, ◌<◌, ◌≤◌, Bool, true, false, cond, List, [], ◌∷◌, ◌++◌, length, get_or, drop, map, refl, sym, ap, ◌∙◌, add-one, drop-cons}
 use Rattle.std.specs.Borrow.{Bor}
 use Rattle.std.specs.Prelude.{not}
 use Rattle.std.proofs.lemmas.Bool.{true≢false}
 use Rattle.std.specs.List.{list_any}
 use Rattle.std.proofs.lemmas.List.{drop_all, map_push}
-use Rattle.amqp_data.specs.Data.{Amqp, Pairs}
-use Rattle.amqp_data.specs.Same.{same, distinct_after, distinct_keys}
+use Rattle.amqp_data.specs.Data.{Amqp}
+use Rattle.amqp_data.specs.Same.{same, distinct_after}
 use Rattle.amqp_data.specs.View.{view, pairs_view}
 use Rattle.amqp_data.specs.declared.value.Value.{Value}
 use Rattle.amqp_data.specs.declared.value.Entry.{Entry}

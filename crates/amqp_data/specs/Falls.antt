@@ -1,5 +1,5 @@
 -- Each part of a value is smaller than the value.
-use Rattle.std.specs.Prelude.{ℕ, suc, ◌+◌, ◌≤◌, max, List as Listed, [], ◌∷◌}
+use Rattle.std.specs.Prelude.{◌≤◌, List as Listed, [], ◌∷◌}
 use Rattle.std.proofs.Common.{arith}
 use denote.Param.Weighed.{most}
 use Rattle.amqp_data.specs.Trees.{weight, items_weight, pairs_weight}

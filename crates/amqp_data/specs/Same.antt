@@ -1,5 +1,5 @@
 -- When two values are the same (OASIS AMQP 1.0, part 1, section 1.6.23: keys of a map are), and what is hashed of one.
-use Rattle.std.specs.Prelude.{◌≡◌, ℕ, suc, Bool, true, false, ◌==◌, ◌&&◌, ◌++◌, if◌then◌else◌, IsTrue, List as Listed, [], ◌∷◌, refl}
+use Rattle.std.specs.Prelude.{ℕ, Bool, true, false, ◌==◌, ◌&&◌, ◌++◌, if◌then◌else◌, List as Listed, [], ◌∷◌}
 use Rattle.std.specs.Str.{bytes_eq}
 use Rattle.std.specs.Ordering.{int_eq}
 use Rattle.std.specs.List.{list_any}

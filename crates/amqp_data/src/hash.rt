@@ -1,6 +1,5 @@
 //! The hash of a value: of scalars what they hold, of compounds a mark and their parts.
-ghost use Rattle.std.specs.Prelude.{◌≡◌};
-ghost use Rattle.std.specs.Prelude.{◌++◌};
+ghost use Rattle.std.specs.Prelude.{◌≡◌, ◌++◌};
 ghost use Rattle.std.specs.List.{fold};
 ghost use Rattle.std.specs.Hash.{u8 as one_byte};
 ghost use Rattle.amqp_data.specs.View.{view, items_view, pairs_view};

@@ -31,101 +31,25 @@ fn same_values(a: &Value, b: &Value) -> bool
 {
     match a {
         Value::Null => matches!(b, Value::Null),
-        Value::Bool(m) => if let Value::Bool(n) = b {
-            *m == *n
-        } else {
-            false
-        },
-        Value::Ubyte(m) => if let Value::Ubyte(n) = b {
-            *m == *n
-        } else {
-            false
-        },
-        Value::Ushort(m) => if let Value::Ushort(n) = b {
-            *m == *n
-        } else {
-            false
-        },
-        Value::Uint(m) => if let Value::Uint(n) = b {
-            *m == *n
-        } else {
-            false
-        },
-        Value::Ulong(m) => if let Value::Ulong(n) = b {
-            *m == *n
-        } else {
-            false
-        },
-        Value::Byte(m) => if let Value::Byte(n) = b {
-            *m == *n
-        } else {
-            false
-        },
-        Value::Short(m) => if let Value::Short(n) = b {
-            *m == *n
-        } else {
-            false
-        },
-        Value::Int(m) => if let Value::Int(n) = b {
-            *m == *n
-        } else {
-            false
-        },
-        Value::Long(m) => if let Value::Long(n) = b {
-            *m == *n
-        } else {
-            false
-        },
-        Value::Char(m) => if let Value::Char(n) = b {
-            *m == *n
-        } else {
-            false
-        },
-        Value::Timestamp(m) => if let Value::Timestamp(n) = b {
-            m.milliseconds == n.milliseconds
-        } else {
-            false
-        },
-        Value::Uuid(m) => if let Value::Uuid(n) = b {
-            m.bytes.as_slice() == n.bytes.as_slice()
-        } else {
-            false
-        },
-        Value::Binary(s) => if let Value::Binary(t) = b {
-            s.as_slice() == t.as_slice()
-        } else {
-            false
-        },
-        Value::String(s) => if let Value::String(t) = b {
-            s.as_bytes() == t.as_bytes()
-        } else {
-            false
-        },
-        Value::Symbol(s) => if let Value::Symbol(t) = b {
-            s.as_slice() == t.as_slice()
-        } else {
-            false
-        },
-        Value::List(v) => if let Value::List(w) = b {
-            same_lists(v, w)
-        } else {
-            false
-        },
-        Value::Map(v) => if let Value::Map(w) = b {
-            same_maps(v, w)
-        } else {
-            false
-        },
-        Value::Array(v) => if let Value::Array(w) = b {
-            same_arrays(v, w)
-        } else {
-            false
-        },
-        Value::Described(v) => if let Value::Described(w) = b {
-            same_described(v, w)
-        } else {
-            false
-        },
+        Value::Bool(m) => matches!(b, Value::Bool(n) if *m == *n),
+        Value::Ubyte(m) => matches!(b, Value::Ubyte(n) if *m == *n),
+        Value::Ushort(m) => matches!(b, Value::Ushort(n) if *m == *n),
+        Value::Uint(m) => matches!(b, Value::Uint(n) if *m == *n),
+        Value::Ulong(m) => matches!(b, Value::Ulong(n) if *m == *n),
+        Value::Byte(m) => matches!(b, Value::Byte(n) if *m == *n),
+        Value::Short(m) => matches!(b, Value::Short(n) if *m == *n),
+        Value::Int(m) => matches!(b, Value::Int(n) if *m == *n),
+        Value::Long(m) => matches!(b, Value::Long(n) if *m == *n),
+        Value::Char(m) => matches!(b, Value::Char(n) if *m == *n),
+        Value::Timestamp(m) => matches!(b, Value::Timestamp(n) if m.milliseconds == n.milliseconds),
+        Value::Uuid(m) => matches!(b, Value::Uuid(n) if m.bytes.as_slice() == n.bytes.as_slice()),
+        Value::Binary(s) => matches!(b, Value::Binary(t) if s.as_slice() == t.as_slice()),
+        Value::String(s) => matches!(b, Value::String(t) if s.as_bytes() == t.as_bytes()),
+        Value::Symbol(s) => matches!(b, Value::Symbol(t) if s.as_slice() == t.as_slice()),
+        Value::List(v) => matches!(b, Value::List(w) if same_lists(v, w)),
+        Value::Map(v) => matches!(b, Value::Map(w) if same_maps(v, w)),
+        Value::Array(v) => matches!(b, Value::Array(w) if same_arrays(v, w)),
+        Value::Described(v) => matches!(b, Value::Described(w) if same_described(v, w)),
     }
 }
 

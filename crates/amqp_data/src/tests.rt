@@ -6,6 +6,7 @@ use crate::{
 };
 use std::alloc::{AllocError, Global};
 use std::hash::{DefaultHasher, Hash, Hasher};
+use std::process::Abort;
 use std::test::Fail;
 
 fn list_of(alloc: Global, numbers: &[u32]) -> Result<Value, AllocError> {
@@ -62,7 +63,7 @@ fn hash_of(value: &Value) -> u64 {
 
 /// Scalars of which no two are equal.
 fn scalars(alloc: Global) -> Result<Vec<Value>, Fail> {
-    let values = [
+    let numbers = [
         Value::Null,
         Value::from(false),
         Value::from(true),
@@ -79,43 +80,38 @@ fn scalars(alloc: Global) -> Result<Vec<Value>, Fail> {
         Value::from('\u{1}'),
         Value::from(Timestamp { milliseconds: 1 }),
         Value::from(Uuid { bytes: [1; 16] }),
-        Value::from(Binary::from_slice(alloc, b"a")?),
-        Value::from(Binary::from_slice(alloc, b"")?),
-        Value::from(Text::from_str(alloc, "a")?),
-        Value::from(Symbol::from_slice(alloc, b"a")?),
     ];
-    let values = Vec::from_array(alloc, values)?;
+    let mut values = Vec::from_array(alloc, numbers)?;
+    for text in ["", "a", "b"] {
+        values.push(Value::from(Binary::from_slice(alloc, text.as_bytes())?))?;
+        values.push(Value::from(Text::from_str(alloc, text)?))?;
+        values.push(Value::from(Symbol::from_slice(alloc, text.as_bytes())?))?;
+    }
     Ok(values)
 }
 
 /// Compound values of which no two are equal.
 fn compounds(alloc: Global) -> Result<Vec<Value>, Fail> {
-    let values = [
-        list_of(alloc, &[])?,
-        list_of(alloc, &[1])?,
-        list_of(alloc, &[1, 2])?,
-        list_of(alloc, &[2, 1])?,
-        map_of(alloc, &[])?,
-        map_of(alloc, &[(1, 2)])?,
-        map_of(alloc, &[(1, 2), (2, 1)])?,
-        map_of(alloc, &[(2, 1), (1, 2)])?,
-        array_of(alloc, &[])?,
-        array_of(alloc, &[1])?,
-        array_of(alloc, &[1, 2])?,
-        Value::from(ValueArray::new(alloc, ElementKind::Ulong)),
-        Value::from(Described::new(alloc, Value::from(1u32), Value::from(2u32))?),
-        Value::from(Described::new(alloc, Value::from(2u32), Value::from(1u32))?),
-        nested(alloc, 3)?,
-    ];
-    let values = Vec::from_array(alloc, values)?;
+    let mut values = Vec::new(alloc);
+    let rows: [&[u32]; 4] = [&[], &[1], &[1, 2], &[2, 1]];
+    for numbers in rows {
+        values.push(list_of(alloc, numbers)?)?;
+        values.push(array_of(alloc, numbers)?)?;
+    }
+    let rows: [&[(u32, u32)]; 4] = [&[], &[(1, 2)], &[(1, 2), (2, 1)], &[(2, 1), (1, 2)]];
+    for numbers in rows {
+        values.push(map_of(alloc, numbers)?)?;
+    }
+    for (descriptor, value) in [(1u32, 2u32), (2, 1)] {
+        let described = Described::new(alloc, Value::from(descriptor), Value::from(value))?;
+        values.push(Value::from(described))?;
+    }
+    values.push(Value::from(ValueArray::new(alloc, ElementKind::Ulong)))?;
+    values.push(nested(alloc, 3)?)?;
     Ok(values)
 }
 
-fn assert_all_differ(
-    rt: &impl std::process::Abort,
-    alloc: Global,
-    values: &[Value],
-) -> Result<(), Fail> {
+fn assert_all_differ(rt: &impl Abort, alloc: Global, values: &[Value]) -> Result<(), Fail> {
     for (i, value) in values.iter().enumerate() {
         let copy = value.try_clone(alloc)?;
         assert_eq!(rt; hash_of(&copy), hash_of(value), "hash of {i}");
@@ -133,7 +129,7 @@ fn values_are_equal_by_kind_and_content(rt: HostRuntime) -> Result<(), Fail> {
 }
 
 #[test]
-fn a_map_keeps_places_and_answers_what_was_there(rt: HostRuntime) -> Result<(), Fail> {
+fn an_insertion_keeps_places_and_answers_what_was_there(rt: HostRuntime) -> Result<(), Fail> {
     let mut map = OrderedMap::new(rt.alloc());
     assert!(rt; map.is_empty());
     for (key, value, had) in [
@@ -143,25 +139,37 @@ fn a_map_keeps_places_and_answers_what_was_there(rt: HostRuntime) -> Result<(), 
         (5, 4, Some(2)),
     ] {
         let before = map.insert(Value::from(key), Value::from(value))?;
-        assert!(rt; before == had.map(Value::from), "{key} {value}");
+        assert_eq!(rt;
+            before,
+            had.map(|value| Value::from(value)),
+            "{key} {value}"
+        );
     }
     assert_eq!(rt; map.len(), 2);
-    for (key, value) in [
-        (Value::from(7u32), Some(3u8)),
-        (Value::from(5u32), Some(4)),
-        (Value::from(7u64), None),
-    ] {
-        assert!(rt; map.get(&key).is_some() == value.is_some(), "{key:?}");
-        assert_eq!(rt; map.contains_key(&key), value.is_some(), "{key:?}");
-        if let (Some(found), Some(value)) = (map.get(&key), value) {
-            assert!(rt; *found == Value::from(value), "{key:?}");
-        }
-    }
     let mut keys = ValueList::new(rt.alloc());
     for entry in &map {
         keys.push(entry.key.try_clone(rt.alloc())?)?;
     }
-    assert!(rt; Value::from(keys) == list_of(rt.alloc(), &[7, 5])?);
+    assert_eq!(rt; Value::from(keys), list_of(rt.alloc(), &[7, 5])?);
+    Ok(())
+}
+
+#[test]
+fn a_key_gives_its_value(rt: HostRuntime) -> Result<(), Fail> {
+    let map = OrderedMap::from_entries(rt.alloc(), entries_of(rt.alloc(), &[(7, 3), (5, 4)])?)?;
+    for (key, value) in [(7u32, Some(3u32)), (5, Some(4)), (3, None)] {
+        let key = Value::from(key);
+        assert_eq!(rt; map.contains_key(&key), value.is_some(), "{key:?}");
+        match map.get(&key) {
+            Some(found) => assert_eq!(rt;
+                Some(found.try_clone(rt.alloc())?),
+                value.map(|value| Value::from(value)),
+                "{key:?}"
+            ),
+            None => assert_eq!(rt; value, None, "{key:?}"),
+        }
+    }
+    assert!(rt; !map.contains_key(&Value::from(7u64)));
     Ok(())
 }
 
@@ -180,7 +188,7 @@ fn entries_make_a_map_where_no_key_comes_twice(rt: HostRuntime) -> Result<(), Fa
             Ok(map) => {
                 assert!(rt; is_map);
                 assert_eq!(rt; map.entries().len(), numbers.len());
-                assert!(rt; Value::from(map) == map_of(rt.alloc(), numbers)?);
+                assert_eq!(rt; Value::from(map), map_of(rt.alloc(), numbers)?);
             }
             Err(error) => assert!(rt; !is_map && error == MapError::DuplicateKey),
         }
@@ -194,21 +202,26 @@ fn arrays_hold_one_kind(rt: HostRuntime) -> Result<(), Fail> {
     assert!(rt; array.is_empty());
     array.push(Value::from(1u32))?;
     assert_eq!(rt; array.push(Value::from(1u64)), Err(ArrayError::OtherKind));
-    assert_eq!(rt; array.push(Value::Null), Err(ArrayError::OtherKind));
     assert_eq!(rt; array.len(), 1);
     assert_eq!(rt; array.kind(), ElementKind::Uint);
     let values = array.into_vec();
     assert!(rt; ValueArray::from_vec(ElementKind::Ulong, values).is_none());
+    Ok(())
+}
+
+#[test]
+fn scalars_but_null_are_elements(rt: HostRuntime) -> Result<(), Fail> {
     for value in &scalars(rt.alloc())? {
-        let kind = value.element_kind();
-        assert_eq!(rt; kind.is_none(), *value == Value::Null);
-        if let Some(kind) = kind {
-            assert!(rt; value.is_of_kind(kind), "{value:?}");
-            assert_eq!(rt;
-                value.is_of_kind(ElementKind::Uint),
-                kind == ElementKind::Uint,
-                "{value:?}"
-            );
+        match value.element_kind() {
+            Some(kind) => {
+                assert!(rt; value.is_of_kind(kind), "{value:?}");
+                assert_eq!(rt;
+                    value.is_of_kind(ElementKind::Uint),
+                    kind == ElementKind::Uint,
+                    "{value:?}"
+                );
+            }
+            None => assert!(rt; *value == Value::Null),
         }
     }
     for value in &compounds(rt.alloc())? {
@@ -235,14 +248,9 @@ fn nesting_is_counted_from_one(rt: HostRuntime) -> Result<(), Fail> {
             "{levels} in {limit}"
         );
     }
-    for (value, limit, is_within) in [
-        (map_of(rt.alloc(), &[])?, 1, true),
-        (map_of(rt.alloc(), &[(1, 1)])?, 1, false),
-        (map_of(rt.alloc(), &[(1, 1)])?, 2, true),
-        (array_of(rt.alloc(), &[1])?, 1, false),
-        (array_of(rt.alloc(), &[1])?, 2, true),
-    ] {
-        assert_eq!(rt; nests_within(&value, limit), is_within, "{value:?}");
+    for value in &compounds(rt.alloc())? {
+        assert!(rt; !nests_within(value, 0), "{value:?}");
+        assert!(rt; nests_within(value, 3), "{value:?}");
     }
     Ok(())
 }
@@ -253,7 +261,7 @@ fn a_described_value_gives_its_parts(rt: HostRuntime) -> Result<(), Fail> {
     assert!(rt; *described.descriptor() == Value::from(1u32));
     assert!(rt; *described.value() == Value::from(2u32));
     let (descriptor, value) = described.into_parts();
-    assert!(rt; descriptor == Value::from(1u32));
-    assert!(rt; value == Value::from(2u32));
+    assert_eq!(rt; descriptor, Value::from(1u32));
+    assert_eq!(rt; value, Value::from(2u32));
     Ok(())
 }

@@ -2,3 +2,7 @@ pub mod Code
 pub mod Grammar
 pub mod Reading
 pub mod Canonical
+pub mod Pieces
+pub mod Span
+pub mod ReadErrors
+pub mod Writing

@@ -1,4 +1,4 @@
-//! The codec of AMQP values (OASIS AMQP 1.0, part 1): one grammar for reading and writing.
+//! The codec of AMQP values (OASIS AMQP 1.0, part 1): one grammar for reading and writing; payloads in pieces.
 #![tactic(auto)]
 
 pub use amqp_data::{
@@ -6,6 +6,23 @@ pub use amqp_data::{
     Value, ValueArray, ValueList,
 };
 pub use error::ValueError;
+pub use payload::{PayloadBytes, PayloadError, PayloadList, PayloadReader};
+pub use reading::read_value;
+pub use size::serialized_size;
+pub use writing::{to_vec, write_value};
 
 mod code;
+mod elements;
 pub mod error;
+pub mod laws;
+mod octets;
+pub mod payload;
+#[cfg(test)]
+mod payload_tests;
+pub mod reading;
+mod scalars;
+pub mod size;
+#[cfg(test)]
+mod tests;
+mod width;
+pub mod writing;

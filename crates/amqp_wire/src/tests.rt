@@ -4,6 +4,7 @@ use crate::frame::{Front, front_of};
 use crate::link::{Held, Link, LinkRead, LinkWrite, Stop};
 use crate::memory::{MemorySink, MemorySource};
 use crate::pipe::Pipe;
+use crate::reading::{Wait, read_all, read_front, read_header, read_once};
 use crate::source::{Sink, SinkWrite, Source, SourceRead};
 use crate::status::Status;
 use std::test::Fail;
@@ -132,6 +133,44 @@ fn codec_over_a_faulty_pipe(rt: HostRuntime) -> Result<(), Fail> {
     assert_eq!(rt; codec.flush(), Some(Held::Failed));
     assert_eq!(rt; codec.flush(), None);
     assert_eq!(rt; codec.link().output(), b"ab".as_slice());
+    Ok(())
+}
+
+// A header of part 2, section 2.2, in two pieces, and a frame with no body (section 2.3) and what is behind it.
+#[test]
+fn waits_for_input(rt: HostRuntime) -> Result<(), Fail> {
+    let mut reads_left = 4;
+    let mut codec = FramedCodec::new(rt.alloc(), Pipe::new(rt.alloc()));
+    codec.link().give(b"AMQP")?;
+    assert_eq!(rt;
+        read_header(&mut codec, &mut reads_left)?,
+        Wait::Stopped(Stop::Empty)
+    );
+    codec.link().give(b"\x00\x01\x00\x00")?;
+    assert_eq!(rt; read_header(&mut codec, &mut reads_left)?, Wait::Over);
+    assert_eq!(rt; codec.input(), b"AMQP\x00\x01\x00\x00".as_slice());
+    codec.take_front(codec.input().len());
+    codec.link().give(b"\x00\x00\x00\x08\x02\x00\x00\x01r")?;
+    let arrival = read_front(&mut codec, 0, 512, &mut reads_left)?;
+    let whole = Front::Whole {
+        size: 8,
+        start: 8,
+        channel: 1,
+    };
+    assert_eq!(rt; arrival.front, whole);
+    assert_eq!(rt; arrival.wait, Wait::Over);
+    assert_eq!(rt; reads_left, 1);
+    codec.link().give(b"est")?;
+    assert_eq!(rt; read_once(&mut codec, &mut reads_left)?, Wait::Over);
+    assert_eq!(rt; read_once(&mut codec, &mut reads_left)?, Wait::Spent);
+    reads_left = 9;
+    codec.link().give(b"!")?;
+    assert_eq!(rt;
+        read_all(&mut codec, &mut reads_left)?,
+        Wait::Stopped(Stop::Empty)
+    );
+    assert_eq!(rt; reads_left, 8);
+    assert!(rt; codec.input().ends_with(b"rest!"));
     Ok(())
 }
 

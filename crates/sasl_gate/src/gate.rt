@@ -6,3 +6,5 @@ pub mod error;
 pub mod exchange;
 pub mod negotiation;
 pub mod server;
+#[cfg(test)]
+mod tests;

@@ -1,4 +1,4 @@
-use Rattle.std.proofs.Common.{◌≡◌, arith, ◌++◌, ◌∷◌, [], refl, sym}
+use Rattle.std.proofs.Common.{refl}
 use Rattle.amqp_data.specs.Same.{distinct_keys}
 use Rattle.amqp_data.specs.View.{pairs_view}
 use Rattle.amqp_data.proofs.Distinct.{seen_view, is_there, is_not_there, all_passed, was_there, was_not_there, put_last}

@@ -1,5 +1,5 @@
-use Rattle.std.proofs.Common.{◌≡◌, drop, map}
-use Rattle.amqp_data.specs.View.{view, pairs_view}
+use Rattle.std.proofs.Common.{◌≡◌, drop}
+use Rattle.amqp_data.specs.View.{pairs_view}
 use Rattle.amqp_data.specs.Same.{distinct_after, distinct_keys}
 use Rattle.amqp_data.proofs.Distinct.{seen_view}
 use Rattle.amqp_data.proofs.map.has_distinct_keys.Given as goal

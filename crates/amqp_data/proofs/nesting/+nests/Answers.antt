@@ -1,6 +1,4 @@
-use Rattle.std.proofs.Common.{◌≡◌, ◌≤◌, ◌<◌, arith, true, false}
-use Rattle.amqp_data.specs.Data.{depth, items_depth}
-use Rattle.amqp_data.specs.View.{view, items_view}
+use Rattle.std.proofs.Common.{arith}
 use Rattle.amqp_data.proofs.Nests.{item_within, items_more, entry_within, entries_more}
 use Rattle.amqp_data.proofs.nesting.+nests.Goals as goal
 

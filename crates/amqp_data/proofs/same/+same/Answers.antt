@@ -1,7 +1,4 @@
-use Rattle.std.proofs.Common.{◌≡◌, ◌<◌, ◌≤◌, length, sym, ap, ◌∙◌, arith, true, false, drop}
-use Rattle.std.specs.Prelude.{◌&&◌}
-use Rattle.amqp_data.specs.View.{view, items_view, pairs_view}
-use Rattle.amqp_data.specs.Same.{same, same_items, same_pairs}
+use Rattle.std.proofs.Common.{sym, ◌∙◌, arith}
 use Rattle.amqp_data.proofs.Sames.{items_other, items_step, items_done, pairs_other, pairs_step, pairs_done, goes_wrong, goes_on}
 use Rattle.amqp_data.proofs.same.+same.Goals as goal
 

@@ -1,6 +1,6 @@
 use Rattle.std.proofs.Common.{◌≡◌, drop}
-use Rattle.amqp_data.specs.View.{view, items_view, pairs_view}
-use Rattle.amqp_data.specs.Same.{same, same_items, same_pairs}
+use Rattle.amqp_data.specs.View.{items_view, pairs_view}
+use Rattle.amqp_data.specs.Same.{same_items, same_pairs}
 use Rattle.amqp_data.proofs.same.+same.Given as goal
 
 abbrev pub invariant-same_slices-loop-i : goal.invariant-same_slices-loop-i

@@ -1,6 +1,5 @@
-use Rattle.std.proofs.Common.{◌≡◌, true, ap, sym, ◌∙◌}
+use Rattle.std.proofs.Common.{ap, sym, ◌∙◌}
 use Rattle.std.proofs.lemmas.Bool.{true≢false}
-use Rattle.amqp_data.specs.Data.{HasDistinctKeys}
 use Rattle.amqp_data.specs.SameLaws.{HasDistinctKeys-from, distinct_keys-from}
 use Rattle.amqp_data.specs.Same.{distinct_keys}
 use Rattle.amqp_data.specs.View.{pairs_view}

@@ -1,4 +1,4 @@
-use Rattle.std.proofs.Common.{◌≡◌, Some, refl, sym, ap, ◌∙◌}
+use Rattle.std.proofs.Common.{Some, refl, sym, ap, ◌∙◌}
 use Rattle.amqp_data.specs.Maps.{lookup}
 use Rattle.amqp_data.specs.View.{view}
 use Rattle.amqp_data.specs.declared.value.Value.{Value}

@@ -1,4 +1,4 @@
-use Rattle.std.proofs.Common.{◌≡◌, Some, sym, ap, ap₂, ◌∙◌, arith}
+use Rattle.std.proofs.Common.{◌≡◌, Some, ap, ◌∙◌, arith}
 use Rattle.amqp_data.specs.Data.{pushed, element_kind}
 use Rattle.amqp_data.specs.View.{view, items_view}
 use Rattle.amqp_data.proofs.Lists.{view_push, pushed_of_kind}

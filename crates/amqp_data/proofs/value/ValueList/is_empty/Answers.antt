@@ -1,4 +1,4 @@
-use Rattle.std.proofs.Common.{◌≡◌, sym, ap, ◌∙◌, arith}
+use Rattle.std.proofs.Common.{sym, ◌∙◌, arith}
 use Rattle.amqp_data.proofs.Lists.{empty_view, view_empty}
 use Rattle.amqp_data.proofs.value.ValueList.is_empty.Goals as goal
 

@@ -1,4 +1,4 @@
-use Rattle.std.proofs.Common.{sym, ap, ◌∙◌, arith}
+use Rattle.std.proofs.Common.{ap, arith}
 use Rattle.amqp_data.specs.Data.{count}
 use Rattle.amqp_data.proofs.Lists.{count_view}
 use Rattle.amqp_data.proofs.value.ValueList.len.Goals as goal

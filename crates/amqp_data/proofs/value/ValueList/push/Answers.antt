@@ -1,7 +1,7 @@
-use Rattle.std.proofs.Common.{◌≡◌, sym, ap, ◌∙◌}
+use Rattle.std.proofs.Common.{ap, ◌∙◌}
 use Rattle.amqp_data.specs.Data.{pushed}
 use Rattle.amqp_data.specs.View.{view, items_view}
-use Rattle.amqp_data.proofs.Lists.{view_push, pushed_of_kind}
+use Rattle.amqp_data.proofs.Lists.{view_push}
 use Rattle.amqp_data.proofs.value.ValueList.push.Goals as goal
 
 pub returns-clause-ok : goal.returns-clause-ok
