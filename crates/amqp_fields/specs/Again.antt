@@ -6,7 +6,7 @@ use Rattle.std.proofs.lemmas.Bool.{eqb-true}
 use Rattle.std.proofs.lemmas.Slice.Eq.{bytes_eq-Decides}
 use Rattle.amqp_data.specs.Data.{Amqp, Items, Pairs, Scalar, null, scalar, list, dict, array, described, no_items, item, boolean, ubyte, ushort, uint, ulong, byte, short, int, long, char, timestamp, uuid, binary, string, symbol}
 use Rattle.amqp_fields.specs.Maps.{map_again}
-use Rattle.amqp_fields.specs.Fields.{◌>>=◌, bool_in, ubyte_in, ushort_in, uint_in, ulong_in, timestamp_in, binary_in, string_in, symbol_in, of_bool, of_ubyte, of_ushort, of_uint, of_ulong, of_timestamp, of_binary, of_string, of_symbol, all_keys, map_with, of_map, first, others, field_at, ends, ends_at, optional, or_default, maybe, unless, kept_before, trimmed, IsThere, IsValid, same_bool, before, all_symbols, symbols_in, symbol_items, of_symbols}
+use Rattle.amqp_fields.specs.Fields.{◌>>=◌, bool_in, ubyte_in, ushort_in, uint_in, ulong_in, timestamp_in, binary_in, string_in, symbol_in, of_bool, of_ubyte, of_ushort, of_uint, of_ulong, of_timestamp, of_binary, of_string, of_symbol, all_keys, map_with, of_map, first, field_at, ends_at, optional, or_default, maybe, unless, kept_before, trimmed, IsThere, IsValid, same_bool, before, all_symbols, symbols_in, symbol_items, of_symbols}
 
 all_again : (ss : List (List ℕ)) → all_symbols (symbol_items ss) ≡ Some ss
 all_again [] = refl

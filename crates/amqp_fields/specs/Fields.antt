@@ -1,7 +1,7 @@
 -- The fields of described lists (OASIS AMQP 1.0, part 1, section 1.4).
 use Rattle.std.specs.Prelude.{◌≡◌, ℕ, zero, suc, Bool, true, false, List, [], ◌∷◌, Option, Some, None, Result, Ok, Err, if◌then◌else◌, ◌&&◌}
 use Rattle.amqp_data.specs.declared.kind.ElementKind.TheVariants as k
-use Rattle.amqp_data.specs.Data.{Scalar, null, boolean, ubyte, ushort, uint, ulong, byte, short, int, long, char, timestamp, uuid, binary, string, symbol, Amqp, Items, Pairs, scalar, list, dict, array, described, no_items, item, no_pairs, pair}
+use Rattle.amqp_data.specs.Data.{null, boolean, ubyte, ushort, uint, ulong, timestamp, binary, string, symbol, Amqp, Items, Pairs, scalar, dict, array, no_items, item, no_pairs, pair}
 use Rattle.amqp_data.specs.declared.value.Timestamp.{Timestamp}
 use Rattle.amqp_fields.specs.declared.map.KeyKind.{KeyKind}
 use Rattle.amqp_fields.specs.declared.map.KeyKind.TheVariants as keys

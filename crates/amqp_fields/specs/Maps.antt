@@ -1,5 +1,5 @@
 -- Maps are read again.
-use Rattle.std.specs.Prelude.{◌≡◌, Bool, true, Some, IsTrue, refl}
+use Rattle.std.specs.Prelude.{◌≡◌, Bool, Some, IsTrue, refl}
 use Rattle.amqp_data.specs.Data.{Amqp, Pairs}
 use Rattle.amqp_fields.specs.Fields.{all_keys, map_with, of_map}
 

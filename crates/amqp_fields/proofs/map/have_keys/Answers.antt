@@ -1,4 +1,4 @@
-use Rattle.std.proofs.Common.{◌≡◌, true, false, sym, ◌∙◌}
+use Rattle.std.proofs.Common.{sym, ◌∙◌}
 use Rattle.amqp_fields.specs.Fields.{key_test}
 use Rattle.amqp_fields.proofs.Keys.{goes_wrong, goes_on, is_done}
 use Rattle.amqp_fields.proofs.map.have_keys.Goals as goal
