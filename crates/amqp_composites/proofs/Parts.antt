@@ -3,7 +3,7 @@ use Rattle.std.proofs.Common.{◌≡◌, Option, Some, None, Err, refl, ap, ◌�
 use Rattle.amqp_data.specs.Data.{Items}
 use Rattle.amqp_fields.specs.declared.error.BaseError.{BaseError}
 use Rattle.amqp_fields.specs.declared.error.BaseError.TheVariants as errors
-use Rattle.amqp_fields.specs.Fields.{◌>>=◌, Gives, behind, ends_at}
+use Rattle.amqp_fields.specs.Fields.{Gives, behind, ends_at}
 use Rattle.amqp_composites.specs.declared.attach.Attach.{Attach}
 use Rattle.amqp_composites.specs.declared.attach.LinkPart.{LinkPart}
 use Rattle.amqp_composites.specs.declared.attach.EndsPart.{EndsPart}

@@ -1,8 +1,8 @@
 -- The bodies of SASL frames (OASIS AMQP 1.0, part 5, section 5.3.3).
-use Rattle.std.specs.Prelude.{◌≡◌, Option, Some, None, refl}
+use Rattle.std.specs.Prelude.{◌≡◌, Option, Some, None}
 use Rattle.std.proofs.Common.{ap}
 use Rattle.amqp_data.specs.Data.{Amqp, Items}
-use Rattle.amqp_fields.specs.Fields.{◌>>=◌, trimmed}
+use Rattle.amqp_fields.specs.Fields.{◌>>=◌}
 use Rattle.amqp_composites.specs.declared.sasl_body.SaslBody.{SaslBody}
 use Rattle.amqp_composites.specs.declared.sasl_body.SaslBody.TheVariants as v
 use Rattle.amqp_composites.specs.declared.sasl.SaslMechanisms.{SaslMechanisms}

@@ -1,8 +1,8 @@
 -- The states of deliveries (OASIS AMQP 1.0, part 3, section 3.4).
-use Rattle.std.specs.Prelude.{◌≡◌, Option, Some, None, refl}
+use Rattle.std.specs.Prelude.{◌≡◌, Option, Some, None}
 use Rattle.std.proofs.Common.{ap}
 use Rattle.amqp_data.specs.Data.{Amqp, Items}
-use Rattle.amqp_fields.specs.Fields.{◌>>=◌, trimmed}
+use Rattle.amqp_fields.specs.Fields.{◌>>=◌}
 use Rattle.amqp_fields.specs.Again.{IsField}
 use Rattle.amqp_composites.specs.declared.state.DeliveryState.{DeliveryState}
 use Rattle.amqp_composites.specs.declared.state.DeliveryState.TheVariants as v

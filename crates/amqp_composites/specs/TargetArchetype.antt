@@ -1,8 +1,8 @@
 -- The targets of links (OASIS AMQP 1.0, part 2, section 2.7.3).
-use Rattle.std.specs.Prelude.{◌≡◌, Option, Some, None, refl}
+use Rattle.std.specs.Prelude.{◌≡◌, Option, Some, None}
 use Rattle.std.proofs.Common.{ap}
 use Rattle.amqp_data.specs.Data.{Amqp, Items}
-use Rattle.amqp_fields.specs.Fields.{◌>>=◌, trimmed}
+use Rattle.amqp_fields.specs.Fields.{◌>>=◌}
 use Rattle.amqp_fields.specs.Again.{IsField}
 use Rattle.amqp_composites.specs.declared.target_archetype.TargetArchetype.{TargetArchetype}
 use Rattle.amqp_composites.specs.declared.target_archetype.TargetArchetype.TheVariants as v

@@ -1,6 +1,6 @@
 -- Deliveries that are not settled (OASIS AMQP 1.0, part 2, section 2.7.3).
 use Rattle.std.specs.Prelude.{◌≡◌, Bool, true, false, ◌&&◌, IsTrue, Option, Some, None, is_some, Result, Ok, Err, refl, if◌then◌else◌}
-use Rattle.amqp_data.specs.Data.{Amqp, Pairs, scalar, null, binary, dict, no_pairs, pair}
+use Rattle.amqp_data.specs.Data.{Amqp, Pairs, scalar, binary, dict, no_pairs, pair}
 use Rattle.amqp_fields.specs.Again.{IsField}
 use Rattle.amqp_fields.specs.Fields.{optional, of_map}
 use Rattle.amqp_fields.specs.declared.error.BaseError.{BaseError}

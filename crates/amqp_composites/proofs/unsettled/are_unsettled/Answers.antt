@@ -1,4 +1,4 @@
-use Rattle.std.proofs.Common.{◌≡◌, true, false, sym, ◌∙◌}
+use Rattle.std.proofs.Common.{sym, ◌∙◌}
 use Rattle.amqp_composites.proofs.Tags.{goes_wrong, goes_on, is_done}
 use Rattle.amqp_composites.proofs.unsettled.are_unsettled.Goals as goal
 
