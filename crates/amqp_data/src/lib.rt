@@ -7,7 +7,7 @@ pub use amqp_text::{Binary, Symbol, SymbolList, Text};
 pub use array::ArrayError;
 pub use kind::ElementKind;
 pub use map::MapError;
-pub use nesting::nests_within;
+pub use nesting::{entries_nest_within, nests_within, values_nest_within};
 pub use value::{Described, Entry, OrderedMap, Timestamp, Uuid, Value, ValueArray, ValueList};
 
 pub mod array;

@@ -48,18 +48,19 @@ fn described_within(described: &Described, levels: u8) -> bool
 fn list_within(list: &ValueList, levels: u8) -> bool
     ensures { IsTrue result ↔ items_depth list.now ≤ levels }
 {
-    values_within(&list.values, levels)
+    values_nest_within(&list.values, levels)
 }
 
 #[cycle(nests)]
 fn array_within(array: &ValueArray, levels: u8) -> bool
     ensures { IsTrue result ↔ items_depth array.now.1 ≤ levels }
 {
-    values_within(&array.values, levels)
+    values_nest_within(&array.values, levels)
 }
 
+/// Whether each of the values is nested at most so many levels deep by itself.
 #[cycle(nests)]
-fn values_within(values: &[Value], levels: u8) -> bool
+pub fn values_nest_within(values: &[Value], levels: u8) -> bool
     ensures { IsTrue result ↔ items_depth (items_view values.now) ≤ levels }
 {
     for value in values {
@@ -74,7 +75,7 @@ fn values_within(values: &[Value], levels: u8) -> bool
 fn map_within(map: &OrderedMap, levels: u8) -> bool
     ensures { IsTrue result ↔ pairs_depth map.now ≤ levels }
 {
-    entries_within(&map.entries, levels)
+    entries_nest_within(&map.entries, levels)
 }
 
 #[cycle(nests)]
@@ -84,8 +85,9 @@ fn entry_within(entry: &Entry, levels: u8) -> bool
     nests_within(&entry.key, levels) && nests_within(&entry.value, levels)
 }
 
+/// Whether each key and each value is nested at most so many levels deep by itself.
 #[cycle(nests)]
-fn entries_within(entries: &[Entry], levels: u8) -> bool
+pub fn entries_nest_within(entries: &[Entry], levels: u8) -> bool
     ensures { IsTrue result ↔ pairs_depth (pairs_view entries.now) ≤ levels }
 {
     for entry in entries {

@@ -2,7 +2,7 @@ use crate::array::ArrayError;
 use crate::map::MapError;
 use crate::{
     Binary, Described, ElementKind, Entry, OrderedMap, Symbol, Text, Timestamp, Uuid, Value,
-    ValueArray, ValueList, nests_within,
+    ValueArray, ValueList, entries_nest_within, nests_within, values_nest_within,
 };
 use std::alloc::{AllocError, Global};
 use std::hash::{DefaultHasher, Hash, Hasher};
@@ -251,6 +251,45 @@ fn nesting_is_counted_from_one(rt: HostRuntime) -> Result<(), Fail> {
     for value in &compounds(rt.alloc())? {
         assert!(rt; !nests_within(value, 0), "{value:?}");
         assert!(rt; nests_within(value, 3), "{value:?}");
+    }
+    Ok(())
+}
+
+fn nests_beside_one(alloc: Global, levels: u8, limit: u8) -> Result<bool, Fail> {
+    let mut values = Vec::new(alloc);
+    values.push(Value::Null)?;
+    values.push(nested(alloc, levels)?)?;
+    Ok(values_nest_within(&values, limit))
+}
+
+fn nests_as_a_key(alloc: Global, levels: u8, limit: u8) -> Result<bool, Fail> {
+    let mut entries = Vec::new(alloc);
+    let key = nested(alloc, levels)?;
+    entries.push(Entry {
+        key,
+        value: Value::Null,
+    })?;
+    Ok(entries_nest_within(&entries, limit))
+}
+
+#[test]
+fn parts_nest_by_themselves(rt: HostRuntime) -> Result<(), Fail> {
+    for (levels, limit, is_within) in [
+        (1, 1, true),
+        (2, 1, false),
+        (32, 32, true),
+        (33, 32, false),
+    ] {
+        assert_eq!(rt;
+            nests_beside_one(rt.alloc(), levels, limit)?,
+            is_within,
+            "{levels} in {limit}"
+        );
+        assert_eq!(rt;
+            nests_as_a_key(rt.alloc(), levels, limit)?,
+            is_within,
+            "{levels} in {limit}"
+        );
     }
     Ok(())
 }
