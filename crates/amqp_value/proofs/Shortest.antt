@@ -61,7 +61,7 @@ shortest_lays (binary s) h r = binary' (width_of s) s (width_fits s r)
 shortest_lays (string s) h r = string' (width_of s) s h (width_fits s r)
 shortest_lays (symbol s) h r = symbol' (width_of s) s h (width_fits s r)
 
-wrote_scalar : (old new : List ℕ) (s : Scalar) → IsWritable (scalar s) → Puts old new s → Wrote old new (scalar s)
+pub wrote_scalar : (old new : List ℕ) (s : Scalar) → IsWritable (scalar s) → Puts old new s → Wrote old new (scalar s)
 unfolding canonical canonical_scalar IsSized
 wrote_scalar old new s w h = record { bytes = h.0; spelled = scalar' (shortest s) (laid (shortest s) s) s (shortest_lays s h.1 w.sized) }
 
@@ -81,3 +81,11 @@ string_room s w = w.sized
 pub symbol_room : (s : List ℕ) → IsWritable (scalar (symbol s)) → length s < 2 ^ 32
 unfolding IsSized
 symbol_room s w = w.sized
+
+pub binary_sized : (s : List ℕ) → length s < 2 ^ 32 → IsSized (scalar (binary s))
+unfolding IsSized
+binary_sized s lt = lt
+
+pub no_binary : (s : List ℕ) → (length s < 2 ^ 32 → ⊥) → IsSized (scalar (binary s)) → ⊥
+unfolding IsSized
+no_binary s h lt = h lt

@@ -5,7 +5,7 @@ use Rattle.amqp_data.specs.declared.kind.ElementKind.{ElementKind}
 use Rattle.amqp_data.specs.declared.kind.ElementKind.TheVariants as k
 use Rattle.amqp_data.specs.declared.value.Value.{Value}
 use Rattle.amqp_data.specs.declared.value.Entry.{Entry}
-use Rattle.amqp_data.specs.Data.{Amqp, Items, Pairs, scalar, list, dict, array, described, no_items, item, no_pairs, pair, count, pair_count, HasDistinctKeys}
+use Rattle.amqp_data.specs.Data.{Amqp, Items, Pairs, scalar, list, dict, array, described, no_items, item, no_pairs, pair, count, pair_count, items_depth, pairs_depth, HasDistinctKeys}
 use Rattle.amqp_data.specs.View.{view, items_view, pairs_view}
 use Rattle.amqp_value.specs.declared.code.SizeWidth.{SizeWidth}
 use Rattle.amqp_value.specs.declared.code.SizeWidth.TheVariants.{Four}
@@ -13,7 +13,7 @@ use Rattle.amqp_value.specs.declared.code.ScalarCode.{ScalarCode}
 use Rattle.amqp_value.specs.Code.{octets, limit, block, content, scalar_number, list_number, map_number, array_number, code_kind}
 use Rattle.amqp_value.specs.Grammar.{empty_list, list', map', array', described', SpellAll, no_values, more_values, SpellPairs, no_keys, more_keys}
 use Rattle.amqp_value.specs.Canonical.{narrow_if, compound_width, compound, elements, are_short, element_code, array_items, canonical_scalar, canonical, canonical_items, canonical_pairs, IsSized, AreSized}
-use Rattle.amqp_value.specs.Writing.{octet_count, head, code_of_kind, AreLength, MeasuresAll, ArePairsLength, MeasuresPairs, AreElementsLength, WroteElements, Wrote, WroteAll, WrotePairs, IsWritable, AreWritable, ArePairsWritable}
+use Rattle.amqp_value.specs.Writing.{octet_count, head, code_of_kind, AreLength, MeasuresAll, ArePairsLength, MeasuresPairs, AreElementsLength, WroteElements, Wrote, WroteAll, WrotePairs, IsWritable, AreWritable, IsListWritable, ArePairsWritable}
 use Rattle.amqp_value.proofs.Rest.{rest_items, no_rest, rest_pairs, no_rest_pairs, count_view, count_entries}
 use Rattle.amqp_value.proofs.Lengths.{length-content, HaveLimits, limits}
 use Rattle.amqp_value.proofs.ArrayItems.{element_code-kind}
@@ -28,9 +28,32 @@ pub second_writable : (d v : Amqp) → IsWritable (described d v) → IsWritable
 unfolding IsSized
 second_writable d v w = record { sized = w.sized.1; nests = omega (arith, w.nests) }
 
-pub items_known : (vs : Items) → IsWritable (list vs) → MeasuresAll None vs → ⊥
+pub items_known : (vs : Items) → IsListWritable vs → MeasuresAll None vs → ⊥
 unfolding IsSized
-items_known vs w h = absurd (omega (arith, w.nests, h w.sized.0 (omega (arith, w.sized.1, length-content Four (count vs) (canonical_items vs)))))
+items_known vs w h = absurd (omega (arith, w.items.nests, h w.items.sized (omega (arith, w.sized.1, length-content Four (count vs) (canonical_items vs)))))
+
+pub list_writable : (vs : Items) → IsWritable (list vs) → IsListWritable vs
+unfolding IsSized
+list_writable vs w = record { items = record { sized = w.sized.0; nests = omega (arith, w.nests) }; sized = w.sized }
+
+pub sized_list : (n : ℕ) (vs : Items) → AreLength n vs → IsSized (list vs)
+unfolding IsSized
+sized_list n vs h = (h.sized, omega (arith, h.is, h.below, length-content Four (count vs) (canonical_items vs)))
+
+pub items_writable : (n : ℕ) (vs : Items) → AreLength n vs → items_depth vs ≤ 32 → IsListWritable vs
+items_writable n vs h le = record { items = record { sized = h.sized; nests = le }; sized = sized_list n vs h }
+
+pub no_list : (vs : Items) → MeasuresAll None vs → items_depth vs ≤ 32 → IsSized (list vs) → ⊥
+unfolding IsSized
+no_list vs h le s = absurd (omega (arith, le, h s.0 (omega (arith, s.1, length-content Four (count vs) (canonical_items vs)))))
+
+pub pairs_writable : (n : ℕ) (ps : Pairs) → ArePairsLength n ps → pairs_depth ps ≤ 31 → IsWritable (dict ps)
+unfolding IsSized
+pairs_writable n ps h le = record { sized = (h.sized, omega (arith, h.is, h.below, length-content Four (2 * pair_count ps) (canonical_pairs ps))); nests = omega (arith, le) }
+
+pub no_map : (ps : Pairs) → MeasuresPairs None ps → pairs_depth ps ≤ 31 → IsSized (dict ps) → ⊥
+unfolding IsSized
+no_map ps h le s = absurd (omega (arith, le, h s.0 (omega (arith, s.1, length-content Four (2 * pair_count ps) (canonical_pairs ps)))))
 
 pub pairs_known : (ps : Pairs) → IsWritable (dict ps) → MeasuresPairs None ps → ⊥
 unfolding IsSized

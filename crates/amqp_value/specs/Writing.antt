@@ -1,10 +1,10 @@
 -- What is known of the sizes of values, and of what is written of them.
-use Rattle.std.specs.Prelude.{◌≡◌, ℕ, suc, ◌+◌, ◌*◌, ◌<◌, ◌≤◌, ◌^◌, max, List, ◌∷◌, ◌++◌, length, Option, Some, None, IsSome, IsUtf8, FitsSigned}
+use Rattle.std.specs.Prelude.{◌≡◌, ℕ, suc, ◌+◌, ◌*◌, ◌<◌, ◌≤◌, ◌^◌, max, List, ◌∷◌, ◌++◌, length, Option, Some, None, Result, Ok, Err, IsSome, IsUtf8, FitsSigned}
 use Rattle.std.specs.Char.{IsScalar}
 use Rattle.std.specs.Int.{w8, w16, w32, w64}
 use Rattle.amqp_data.specs.declared.kind.ElementKind.{ElementKind}
 use Rattle.amqp_data.specs.declared.kind.ElementKind.TheVariants as k
-use Rattle.amqp_data.specs.Data.{Scalar, null, boolean, ubyte, ushort, uint, ulong, byte, short, int, long, char, timestamp, uuid, binary, string, symbol, Amqp, Items, Pairs, scalar, no_items, item, count, kind_of, depth, items_depth, pairs_depth}
+use Rattle.amqp_data.specs.Data.{Scalar, null, boolean, ubyte, ushort, uint, ulong, byte, short, int, long, char, timestamp, uuid, binary, string, symbol, Amqp, Items, Pairs, scalar, list, no_items, item, count, kind_of, depth, items_depth, pairs_depth}
 use Rattle.amqp_value.specs.declared.error.ValueError.{ValueError}
 use Rattle.amqp_value.specs.declared.error.ValueError.TheVariants as errors
 use Rattle.amqp_value.specs.declared.code.SizeWidth.{SizeWidth}
@@ -210,6 +210,11 @@ pub record AreWritable (vs : Items) : Type 0 where
   pub sized : AreSized vs
   pub nests : items_depth vs ≤ 32
 
+-- each item is so, and the list of them has room
+pub record IsListWritable (vs : Items) : Type 0 where
+  pub items : AreWritable vs
+  pub sized : IsSized (list vs)
+
 pub record ArePairsWritable (ps : Pairs) : Type 0 where
   pub sized : ArePairsSized ps
   pub nests : pairs_depth ps ≤ 32
@@ -233,3 +238,13 @@ IsOfWriting errors.Depth = Unit {0}
 IsOfWriting errors.Size = Unit {0}
 IsOfWriting errors.Decode = ⊥
 IsOfWriting errors.Short = ⊥
+
+-- The one spelling of the value stands at the end; else the value is nested too deep, or a length has no room, and nothing was
+-- added, unless memory ran out.
+abbrev pub Writes : Result (Unit {0}) ValueError → List ℕ → List ℕ → Amqp → ℕ → Type 0
+Writes (Ok x) old new v levels = Wrote old new v × IsSized v × (depth v ≤ levels)
+Writes (Err (errors.Memory a)) old new v levels = Unit {0}
+Writes (Err errors.Depth) old new v levels = (new ≡ old) × (levels < depth v)
+Writes (Err errors.Size) old new v levels = (new ≡ old) × (depth v ≤ levels) × (IsSized v → ⊥)
+Writes (Err errors.Decode) old new v levels = ⊥
+Writes (Err errors.Short) old new v levels = ⊥

@@ -7,9 +7,9 @@ pub use amqp_data::{
 };
 pub use error::ValueError;
 pub use payload::{PayloadBytes, PayloadError, PayloadList, PayloadReader};
-pub use reading::read_value;
+pub use reading::{read_value, read_value_within, read_values};
 pub use size::serialized_size;
-pub use writing::{to_vec, write_value};
+pub use writing::{to_vec, write_binary, write_fields, write_list, write_map, write_value};
 
 mod code;
 mod elements;

@@ -14,7 +14,8 @@ use amqp_data::{Described, ElementKind, Entry, Uuid, Value, nests_within};
 
 pub(crate) const SIZE_LIMIT: u64 = 0x1_0000_0000;
 
-const MAX_DEPTH: u8 = 32;
+/// How deep a value may be nested.
+pub(crate) const MAX_DEPTH: u8 = 32;
 
 /// The length of a text and of its length, unless that has no room.
 pub(crate) fn text_size(width: SizeWidth, bytes: &[u8]) -> Option<u64>
@@ -38,7 +39,7 @@ pub(crate) fn uuid_size(uuid: &Uuid) -> u64
 }
 
 /// The same behind a constructor, at the least width.
-fn block_size(bytes: &[u8]) -> Option<u64>
+pub(crate) fn block_size(bytes: &[u8]) -> Option<u64>
     ensures { MeasuresBlock result bytes.now }
 {
     let size = text_size(text_width(bytes), bytes)?;

@@ -1,11 +1,11 @@
 //! Values, canonically spelled.
 ghost use Rattle.std.specs.Prelude.{◌≡◌, ◌≤◌, ◌<◌, ◌+◌, ◌*◌, ◌^◌, ◌++◌, ◌∷◌, [], ℕ, suc, List, length, OnOk, IfOk, IfErr, Err};
-ghost use Rattle.amqp_data.specs.Data.{list, dict, array, described as described_of, depth, AreOfKind, HasDistinctKeys};
+ghost use Rattle.amqp_data.specs.Data.{scalar, binary, list, dict, array, described as described_of, depth, AreOfKind, HasDistinctKeys};
 ghost use Rattle.amqp_data.specs.View.{view, items_view, pairs_view};
 ghost use Rattle.amqp_value.specs.Code.{limit, list_number, map_number, array_number};
 ghost use Rattle.amqp_value.specs.Grammar.{Spells};
 ghost use Rattle.amqp_value.specs.Canonical.{canonical, elements, IsSized, AreSized};
-ghost use Rattle.amqp_value.specs.Writing.{octet_count, head, AreBehind, AreLength, ArePairsLength, AreElementsLength, IsWritable, AreWritable, ArePairsWritable, Wrote, WroteAll, WrotePairs, Leaves, IsOfWriting};
+ghost use Rattle.amqp_value.specs.Writing.{octet_count, head, AreBehind, AreLength, ArePairsLength, AreElementsLength, IsWritable, AreWritable, IsListWritable, ArePairsWritable, Wrote, Writes, WroteAll, WrotePairs, Leaves, IsOfWriting};
 
 use crate::code::{ScalarCode, SizeWidth};
 use crate::elements::{element_code, elements_size, put_elements};
@@ -15,9 +15,12 @@ use crate::scalars::{
     put_binary, put_bool, put_byte, put_character, put_identifier, put_int, put_long, put_null,
     put_short, put_string, put_symbol, put_timestamp, put_ubyte, put_uint, put_ulong, put_ushort,
 };
-use crate::size::{items_size, pairs_size, serialized_size};
+use crate::size::{MAX_DEPTH, block_size, items_size, pairs_size, serialized_size};
 use crate::width::compound_width;
-use amqp_data::{Binary, Described, ElementKind, Entry, Value};
+use amqp_data::{
+    Binary, Described, ElementKind, Entry, OrderedMap, Value, entries_nest_within,
+    values_nest_within,
+};
 use std::alloc::{AllocError, Global};
 
 fn list_byte(width: SizeWidth) -> u8
@@ -67,7 +70,7 @@ fn put_head(
 
 /// The length of values one after another, where it has room.
 fn items_length(values: &[Value]) -> u64
-    requires { IsWritable (list (items_view values.now)) }
+    requires { IsListWritable (items_view values.now) }
     ensures { AreLength result (items_view values.now) }
 {
     match items_size(values) {
@@ -157,7 +160,7 @@ fn put_described(out: &mut Binary, described: &Described) -> Result<(), AllocErr
 
 #[cycle(write)]
 fn put_list(out: &mut Binary, values: &[Value]) -> Result<(), AllocError>
-    requires { IsWritable (list (items_view values.now)) }
+    requires { IsListWritable (items_view values.now) }
     ensures { OnOk result (Wrote out.old out.new (list (items_view values.now))) }
 {
     if values.is_empty() {
@@ -224,6 +227,65 @@ pub fn write_value(out: &mut Binary, value: &Value) -> Result<(), ValueError>
 {
     serialized_size(value)?;
     put_value(out, value)?;
+    Ok(())
+}
+
+/// Adds the one spelling of the list of those values: `Depth` exactly where one is nested deeper than so many levels,
+/// else `Size` exactly where a length needs more than 32 bits.
+fn write_items(out: &mut Binary, values: &[Value], levels: u8) -> Result<(), ValueError>
+    requires { levels ≤ 32 }
+    ensures { Writes result out.old out.new (list (items_view values.now)) (levels + 1) }
+{
+    if !values_nest_within(values, levels) {
+        return Err(ValueError::Depth);
+    }
+    let Some(_) = items_size(values) else {
+        return Err(ValueError::Size);
+    };
+    put_list(out, values)?;
+    Ok(())
+}
+
+/// Adds the one spelling of the fields of a described list, each counted by itself: `Depth` exactly where one is nested more
+/// than 32 deep, else `Size` exactly where a length needs more than 32 bits.
+pub fn write_fields(out: &mut Binary, fields: &[Value]) -> Result<(), ValueError>
+    ensures { Writes result out.old out.new (list (items_view fields.now)) 33 }
+{
+    write_items(out, fields, MAX_DEPTH)
+}
+
+/// Adds the one spelling of the list of those values: `Depth` exactly where it is nested more than 32 deep, else `Size`
+/// exactly where a length needs more than 32 bits.
+pub fn write_list(out: &mut Binary, values: &[Value]) -> Result<(), ValueError>
+    ensures { Writes result out.old out.new (list (items_view values.now)) 32 }
+{
+    write_items(out, values, MAX_DEPTH - 1)
+}
+
+/// Adds the one spelling of the map: `Depth` exactly where it is nested more than 32 deep, else `Size` exactly where a length
+/// needs more than 32 bits.
+pub fn write_map(out: &mut Binary, map: &OrderedMap) -> Result<(), ValueError>
+    ensures { Writes result out.old out.new (dict map.now) 32 }
+{
+    let entries = map.entries();
+    if !entries_nest_within(entries, MAX_DEPTH - 1) {
+        return Err(ValueError::Depth);
+    }
+    let Some(_) = pairs_size(entries) else {
+        return Err(ValueError::Size);
+    };
+    put_map(out, entries)?;
+    Ok(())
+}
+
+/// Adds the one spelling of the binary: `Size` exactly where its length needs more than 32 bits.
+pub fn write_binary(out: &mut Binary, bytes: &[u8]) -> Result<(), ValueError>
+    ensures { Writes result out.old out.new (scalar (binary bytes.now)) 32 }
+{
+    let Some(_) = block_size(bytes) else {
+        return Err(ValueError::Size);
+    };
+    put_binary(out, bytes)?;
     Ok(())
 }
 

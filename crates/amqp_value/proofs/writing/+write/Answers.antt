@@ -5,13 +5,13 @@ use mir.Val.{SFits}
 use Rattle.std.proofs.lemmas.Int.{to_z-of_z}
 use Rattle.amqp_data.specs.declared.value.Value.{Value}
 use Rattle.amqp_data.specs.Data.{Amqp, null, boolean, ubyte, ushort, uint, ulong, byte, short, int, long, char, timestamp, uuid, binary, string, symbol}
-use Rattle.amqp_data.specs.Trees.{weight}
+use Rattle.amqp_data.specs.Trees.{weight, items_weight}
 use Rattle.amqp_data.specs.View.{view}
 use Rattle.amqp_value.specs.Code.{list_number, map_number}
 use Rattle.amqp_value.specs.Writing.{head, Puts, Wrote, IsWritable}
 use Rattle.amqp_value.proofs.Rest.{lighter, lighter_entry}
 use Rattle.amqp_value.proofs.Shortest.{scalar_put, binary_room, string_room, symbol_room}
-use Rattle.amqp_value.proofs.Written.{first_writable, second_writable, described_put, list_limits, no_values_put, values_put, item_put, item_writable, items_put, map_limits, entries_put, pair_put, key_writable, value_writable, pairs_put}
+use Rattle.amqp_value.proofs.Written.{first_writable, second_writable, described_put, list_writable, list_limits, no_values_put, values_put, item_put, item_writable, items_put, map_limits, entries_put, pair_put, key_writable, value_writable, pairs_put}
 use Rattle.amqp_value.proofs.writing.+write.Goals as goal
 
 pub put_described-put_value-requires : goal.put_described-put_value-requires
@@ -87,6 +87,12 @@ pub put_pairs-returns : goal.put_pairs-returns
 put_pairs-returns t c = pairs_put c.args.out.now c.loop-entry.out c.args.entries.now c.loop-entry.entry-index (omega arith) c.loop-entry.invariant
 
 -- ---- scalars
+
+pub put_value-put_list-requires : goal.put_value-put_list-requires
+put_value-put_list-requires t c = (
+  omega (arith, c.decreases, ap (λ (z : Value). weight (view z)) c.in-List.is, ap items_weight c.as_slice-in-List.ensures),
+  rw c.as_slice-in-List.ensures (list_writable c.in-List.list (subst (λ (z : Value). IsWritable (view z)) c.in-List.is c.requires)),
+)
 
 pub put_value-put_binary-requires : goal.put_value-put_binary-requires
 put_value-put_binary-requires t c = rw c.as_slice.ensures (binary_room c.in-Binary.bytes (subst (λ (z : Value). IsWritable (view z)) c.in-Binary.is c.requires))
