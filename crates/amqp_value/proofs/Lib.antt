@@ -10,6 +10,7 @@ pub mod ElementsRead
 pub mod Sound
 pub mod Complete
 pub mod Whole
+pub mod Filled
 pub mod Rest
 pub mod Lengths
 pub mod ArrayItems

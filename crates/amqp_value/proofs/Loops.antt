@@ -12,11 +12,11 @@ abbrev pub before : List Value → Items → Items
 before [] rest = rest
 before (v ∷ vs) rest = item (view v) (before vs rest)
 
-before_none : (vs : List Value) → before vs no_items ≡ items_view vs
+pub before_none : (vs : List Value) → before vs no_items ≡ items_view vs
 before_none [] = refl
 before_none (v ∷ vs) = ap (item (view v)) (before_none vs)
 
-before_push : (vs : List Value) (v : Value) (rest : Items) → before (vs ++ v ∷ []) rest ≡ before vs (item (view v) rest)
+pub before_push : (vs : List Value) (v : Value) (rest : Items) → before (vs ++ v ∷ []) rest ≡ before vs (item (view v) rest)
 before_push [] v rest = refl
 before_push (w ∷ vs) v rest = ap (item (view w)) (before_push vs v rest)
 

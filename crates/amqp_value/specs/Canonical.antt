@@ -1,5 +1,5 @@
 -- The one spelling that is written (OASIS AMQP 1.0, part 1, sections 1.2 and 1.6), and what has one.
-use Rattle.std.specs.Prelude.{◌≡◌, ℕ, ℤ, suc, negsuc, pos, ◌+◌, ◌*◌, ◌<◌, ◌^◌, List, [], ◌∷◌, ◌++◌, length, Bool, true, false, nat_lt, int_le, ◌==◌, ◌&&◌, if◌then◌else◌}
+use Rattle.std.specs.Prelude.{ℕ, ℤ, suc, negsuc, pos, ◌+◌, ◌*◌, ◌<◌, ◌^◌, List, [], ◌∷◌, ◌++◌, length, Bool, true, nat_lt, int_le, ◌==◌, ◌&&◌, if◌then◌else◌}
 use Rattle.std.specs.Int.{w8, w16, w32, w64, to_be_bytes, cast_unsigned}
 use Rattle.amqp_data.specs.declared.kind.ElementKind.{ElementKind}
 use Rattle.amqp_data.specs.declared.kind.ElementKind.TheVariants as k

@@ -1,5 +1,5 @@
 use crate::error::ValueError;
-use crate::reading::read_value;
+use crate::reading::{read_value, read_value_within, read_values};
 use amqp_data::{
     Binary, Described, ElementKind, Entry, OrderedMap, Symbol, Text, Timestamp, Uuid, Value,
     ValueArray, ValueList,
@@ -248,5 +248,43 @@ fn what_follows_is_left(rt: HostRuntime) -> Result<(), Fail> {
     let a = rt.alloc();
     assert!(rt; matches!(read_value(a, b"\x52\x07\x52"), Ok((Value::Uint(7), 2))));
     assert!(rt; matches!(read_value(a, b"\x45\x45\x45"), Ok((Value::List(_), 1))));
+    Ok(())
+}
+
+fn used_within(alloc: Global, bytes: &[u8], levels: u8) -> Option<usize> {
+    let (_, used) = read_value_within(alloc, bytes, levels).ok()?;
+    Some(used)
+}
+
+#[test]
+fn levels_are_those_of_the_caller(rt: HostRuntime) -> Result<(), Fail> {
+    for (levels, used) in [(32, None), (33, Some(99)), (34, Some(99))] {
+        assert_eq!(rt; used_within(rt.alloc(), &LISTS, levels), used, "{levels}");
+    }
+    Ok(())
+}
+
+fn count_of(alloc: Global, bytes: &[u8], levels: u8) -> Option<usize> {
+    let values = read_values(alloc, bytes, levels).ok()?;
+    Some(values.len())
+}
+
+#[test]
+fn values_fill_the_input(rt: HostRuntime) -> Result<(), Fail> {
+    let rows: [(&[u8], u8, Option<usize>); 6] = [
+        (b"", 1, Some(0)),
+        (b"\x40\x52\x07\x45", 1, Some(3)),
+        (b"\x40\x52", 1, None),
+        (b"\x40\xff", 1, None),
+        (b"\x40\xc0\x02\x01\x40", 1, None),
+        (b"\x40\xc0\x02\x01\x40", 2, Some(2)),
+    ];
+    for (bytes, levels, count) in rows {
+        assert_eq!(rt;
+            count_of(rt.alloc(), bytes, levels),
+            count,
+            "{bytes:?} in {levels}"
+        );
+    }
     Ok(())
 }

@@ -1,6 +1,6 @@
 use crate::error::ValueError;
 use crate::size::serialized_size;
-use crate::writing::{to_vec, write_value};
+use crate::writing::{to_vec, write_binary, write_fields, write_list, write_map, write_value};
 use amqp_data::{
     Binary, Described, ElementKind, Entry, OrderedMap, Symbol, Text, Timestamp, Uuid, Value,
     ValueArray, ValueList,
@@ -155,5 +155,57 @@ fn nested(rt: HostRuntime) -> Result<(), Fail> {
     assert!(rt; matches!(to_vec(alloc, &deep), Err(ValueError::Depth)));
     assert!(rt; matches!(write_value(&mut out, &deep), Err(ValueError::Depth)));
     assert_eq!(rt; out.len(), 64);
+    Ok(())
+}
+
+/// A list in a list, and so on, as the one item of another.
+fn nest_of(alloc: Global, levels: u8) -> Result<Vec<Value>, Fail> {
+    let mut values = Vec::new(alloc);
+    values.push(Value::Null)?;
+    for _ in 1..levels {
+        let list = Value::List(ValueList::from_vec(values));
+        values = Vec::new(alloc);
+        values.push(list)?;
+    }
+    Ok(values)
+}
+
+fn list_bytes(alloc: Global, values: &[Value]) -> Result<usize, ValueError> {
+    let mut out = Binary::new(alloc);
+    write_list(&mut out, values)?;
+    Ok(out.len())
+}
+
+fn field_bytes(alloc: Global, values: &[Value]) -> Result<usize, ValueError> {
+    let mut out = Binary::new(alloc);
+    write_fields(&mut out, values)?;
+    Ok(out.len())
+}
+
+#[test]
+fn fields_are_counted_by_themselves(rt: HostRuntime) -> Result<(), Fail> {
+    let alloc = rt.alloc();
+    assert_eq!(rt; list_bytes(alloc, &nest_of(alloc, 31)?), Ok(94));
+    assert_eq!(rt;
+        list_bytes(alloc, &nest_of(alloc, 32)?),
+        Err(ValueError::Depth)
+    );
+    assert_eq!(rt; field_bytes(alloc, &nest_of(alloc, 32)?), Ok(97));
+    assert_eq!(rt;
+        field_bytes(alloc, &nest_of(alloc, 33)?),
+        Err(ValueError::Depth)
+    );
+    Ok(())
+}
+
+#[test]
+fn maps_and_binaries_by_reference(rt: HostRuntime) -> Result<(), Fail> {
+    let alloc = rt.alloc();
+    let mut out = Binary::new(alloc);
+    let mut map = OrderedMap::new(alloc);
+    map.insert(Value::Uint(1), Value::Null)?;
+    write_map(&mut out, &map)?;
+    write_binary(&mut out, b"ab")?;
+    assert!(rt; out.as_slice() == b"\xc1\x04\x02\x52\x01\x40\xa0\x02ab".as_slice());
     Ok(())
 }
