@@ -51,3 +51,13 @@ outcome_again (v.Declared x) h = ap (λ (r : Option Declared). r >>= λ y. Some 
 
 pub outcome_field : IsField outcome_in of_outcome IsOutcomeValid
 outcome_field = record { again = outcome_again; there = elim [ v.Accepted x ↦ tt | v.Rejected x ↦ tt | v.Released x ↦ tt | v.Modified x ↦ tt | v.Declared x ↦ tt ] }
+
+-- it is another outcome than an acceptance
+abbrev pub IsNotAccepted : Outcome → Type 0
+IsNotAccepted (v.Accepted x) = ⊥
+IsNotAccepted x = Unit {0}
+
+-- P of an acceptance, Q of any other outcome
+abbrev pub MatchAccepted : Outcome → (Accepted → Type 0) → (Outcome → Type 0) → Type 0
+MatchAccepted (v.Accepted x) P Q = P x
+MatchAccepted x P Q = Q x

@@ -1,5 +1,5 @@
 -- The performatives (OASIS AMQP 1.0, part 2, section 2.7).
-use Rattle.std.specs.Prelude.{◌≡◌, Option, Some, None}
+use Rattle.std.specs.Prelude.{◌≡◌, List, Option, Some, None}
 use Rattle.std.proofs.Common.{ap}
 use Rattle.amqp_data.specs.Data.{Amqp, Items}
 use Rattle.amqp_fields.specs.Fields.{◌>>=◌}
@@ -43,16 +43,33 @@ performative_with k fields = None
 abbrev pub performative_in : Amqp → Option Performative
 performative_in w = list_in w >>= λ x. performative_with x.0 x.1
 
+-- which described list it is
+abbrev pub kind_of_performative : Performative → CompositeKind
+kind_of_performative (v.Open x) = kind.Open
+kind_of_performative (v.Begin x) = kind.Begin
+kind_of_performative (v.Attach x) = kind.Attach
+kind_of_performative (v.Flow x) = kind.Flow
+kind_of_performative (v.Transfer x) = kind.Transfer
+kind_of_performative (v.Disposition x) = kind.Disposition
+kind_of_performative (v.Detach x) = kind.Detach
+kind_of_performative (v.End x) = kind.End
+kind_of_performative (v.Close x) = kind.Close
+
+-- its fields, as they are written
+abbrev pub performative_fields : Performative → List Amqp
+performative_fields (v.Open x) = open_fields x
+performative_fields (v.Begin x) = begin_fields x
+performative_fields (v.Attach x) = attach_fields x
+performative_fields (v.Flow x) = flow_fields x
+performative_fields (v.Transfer x) = transfer_fields x
+performative_fields (v.Disposition x) = disposition_fields x
+performative_fields (v.Detach x) = detach_fields x
+performative_fields (v.End x) = end_fields x
+performative_fields (v.Close x) = close_fields x
+
+-- the value that says it
 abbrev pub of_performative : Performative → Amqp
-of_performative (v.Open x) = composite kind.Open (open_fields x)
-of_performative (v.Begin x) = composite kind.Begin (begin_fields x)
-of_performative (v.Attach x) = composite kind.Attach (attach_fields x)
-of_performative (v.Flow x) = composite kind.Flow (flow_fields x)
-of_performative (v.Transfer x) = composite kind.Transfer (transfer_fields x)
-of_performative (v.Disposition x) = composite kind.Disposition (disposition_fields x)
-of_performative (v.Detach x) = composite kind.Detach (detach_fields x)
-of_performative (v.End x) = composite kind.End (end_fields x)
-of_performative (v.Close x) = composite kind.Close (close_fields x)
+of_performative x = composite (kind_of_performative x) (performative_fields x)
 
 abbrev pub IsPerformativeValid : Performative → Type 0
 IsPerformativeValid (v.Open x) = IsOpenValid x

@@ -1,5 +1,5 @@
 -- The bodies of SASL frames (OASIS AMQP 1.0, part 5, section 5.3.3).
-use Rattle.std.specs.Prelude.{◌≡◌, Option, Some, None}
+use Rattle.std.specs.Prelude.{◌≡◌, List, Option, Some, None}
 use Rattle.std.proofs.Common.{ap}
 use Rattle.amqp_data.specs.Data.{Amqp, Items}
 use Rattle.amqp_fields.specs.Fields.{◌>>=◌}
@@ -27,12 +27,25 @@ sasl_body_with k fields = None
 abbrev pub sasl_body_in : Amqp → Option SaslBody
 sasl_body_in w = list_in w >>= λ x. sasl_body_with x.0 x.1
 
+-- which described list it is
+abbrev pub kind_of_sasl_body : SaslBody → CompositeKind
+kind_of_sasl_body (v.Mechanisms x) = kind.SaslMechanisms
+kind_of_sasl_body (v.Init x) = kind.SaslInit
+kind_of_sasl_body (v.Challenge x) = kind.SaslChallenge
+kind_of_sasl_body (v.Response x) = kind.SaslResponse
+kind_of_sasl_body (v.Outcome x) = kind.SaslOutcome
+
+-- its fields, as they are written
+abbrev pub sasl_body_fields : SaslBody → List Amqp
+sasl_body_fields (v.Mechanisms x) = sasl_mechanisms_fields x
+sasl_body_fields (v.Init x) = sasl_init_fields x
+sasl_body_fields (v.Challenge x) = sasl_challenge_fields x
+sasl_body_fields (v.Response x) = sasl_response_fields x
+sasl_body_fields (v.Outcome x) = sasl_outcome_fields x
+
+-- the value that says it
 abbrev pub of_sasl_body : SaslBody → Amqp
-of_sasl_body (v.Mechanisms x) = composite kind.SaslMechanisms (sasl_mechanisms_fields x)
-of_sasl_body (v.Init x) = composite kind.SaslInit (sasl_init_fields x)
-of_sasl_body (v.Challenge x) = composite kind.SaslChallenge (sasl_challenge_fields x)
-of_sasl_body (v.Response x) = composite kind.SaslResponse (sasl_response_fields x)
-of_sasl_body (v.Outcome x) = composite kind.SaslOutcome (sasl_outcome_fields x)
+of_sasl_body x = composite (kind_of_sasl_body x) (sasl_body_fields x)
 
 abbrev pub IsSaslBodyValid : SaslBody → Type 0
 IsSaslBodyValid (v.Mechanisms x) = IsSaslMechanismsValid x
@@ -47,3 +60,10 @@ sasl_body_again (v.Init x) h = ap (λ (r : Option SaslInit). r >>= λ y. Some (v
 sasl_body_again (v.Challenge x) h = ap (λ (r : Option SaslChallenge). r >>= λ y. Some (v.Challenge y)) (sasl_challenge_again x h)
 sasl_body_again (v.Response x) h = ap (λ (r : Option SaslResponse). r >>= λ y. Some (v.Response y)) (sasl_response_again x h)
 sasl_body_again (v.Outcome x) h = ap (λ (r : Option SaslOutcome). r >>= λ y. Some (v.Outcome y)) (sasl_outcome_again x h)
+
+pub sasl_body_valid : (x : SaslBody) → IsSaslBodyValid x
+sasl_body_valid (v.Mechanisms x) = tt
+sasl_body_valid (v.Init x) = tt
+sasl_body_valid (v.Challenge x) = tt
+sasl_body_valid (v.Response x) = tt
+sasl_body_valid (v.Outcome x) = tt

@@ -2,7 +2,7 @@
 ghost use Rattle.std.specs.Prelude.{◌≡◌, OnOk};
 ghost use Rattle.amqp_fields.specs.Left.{left};
 ghost use Rattle.amqp_fields.specs.Fields.{Gives, MakesItems, trimmed, behind};
-ghost use Rattle.amqp_composites.specs.Attach.{link_of, ends_of, limits_of, attach_of, attach_fields};
+ghost use Rattle.amqp_composites.specs.Attach.{link_of, ends_of, limits_of, attach_of, attach_fields, IsAttachValid};
 
 use crate::modes::{ReceiverSettleMode, Role, SenderSettleMode, nonzero};
 use crate::source::Source;
@@ -156,7 +156,8 @@ pub(crate) fn read_attach(alloc: Global, mut fields: Fields) -> Result<Attach, B
 }
 
 pub(crate) fn attach_list(alloc: Global, body: &Attach) -> Result<ValueList, BaseError>
-    ensures { MakesItems (λ l. l) result (trimmed (attach_fields body.now)) }
+    ensures list { MakesItems (λ l. l) result (trimmed (attach_fields body.now)) }
+    ensures valid { OnOk result (IsAttachValid body.now) }
 {
     let mut fields = FieldWriter::new(alloc);
     fields.required(&body.name)?;

@@ -1,8 +1,8 @@
 //! Begin (OASIS AMQP 1.0, part 2, section 2.7.2).
-ghost use Rattle.std.specs.Prelude.{◌≡◌};
+ghost use Rattle.std.specs.Prelude.{◌≡◌, OnOk};
 ghost use Rattle.amqp_fields.specs.Left.{left};
 ghost use Rattle.amqp_fields.specs.Fields.{Gives, MakesItems, trimmed};
-ghost use Rattle.amqp_composites.specs.Begin.{begin_of, begin_fields};
+ghost use Rattle.amqp_composites.specs.Begin.{begin_of, begin_fields, IsBeginValid};
 
 use amqp_data::{SymbolList, ValueList};
 use amqp_fields::{BaseError, FieldMap, FieldWriter, Fields};
@@ -55,7 +55,8 @@ pub(crate) fn read_begin(alloc: Global, mut fields: Fields) -> Result<Begin, Bas
 }
 
 pub(crate) fn begin_list(alloc: Global, body: &Begin) -> Result<ValueList, BaseError>
-    ensures { MakesItems (λ l. l) result (trimmed (begin_fields body.now)) }
+    ensures list { MakesItems (λ l. l) result (trimmed (begin_fields body.now)) }
+    ensures valid { OnOk result (IsBeginValid body.now) }
 {
     let mut fields = FieldWriter::new(alloc);
     fields.optional(&body.remote_channel)?;

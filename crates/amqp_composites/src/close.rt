@@ -1,8 +1,8 @@
 //! Close (OASIS AMQP 1.0, part 2, section 2.7.9).
-ghost use Rattle.std.specs.Prelude.{◌≡◌};
+ghost use Rattle.std.specs.Prelude.{◌≡◌, OnOk};
 ghost use Rattle.amqp_fields.specs.Left.{left};
 ghost use Rattle.amqp_fields.specs.Fields.{Gives, MakesItems, trimmed};
-ghost use Rattle.amqp_composites.specs.Close.{close_of, close_fields};
+ghost use Rattle.amqp_composites.specs.Close.{close_of, close_fields, IsCloseValid};
 
 use crate::error::Error;
 use amqp_data::ValueList;
@@ -26,7 +26,8 @@ pub(crate) fn read_close(alloc: Global, mut fields: Fields) -> Result<Close, Bas
 }
 
 pub(crate) fn close_list(alloc: Global, body: &Close) -> Result<ValueList, BaseError>
-    ensures { MakesItems (λ l. l) result (trimmed (close_fields body.now)) }
+    ensures list { MakesItems (λ l. l) result (trimmed (close_fields body.now)) }
+    ensures valid { OnOk result (IsCloseValid body.now) }
 {
     let mut fields = FieldWriter::new(alloc);
     fields.optional(&body.error)?;

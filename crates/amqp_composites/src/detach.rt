@@ -1,8 +1,8 @@
 //! Detach (OASIS AMQP 1.0, part 2, section 2.7.7).
-ghost use Rattle.std.specs.Prelude.{◌≡◌};
+ghost use Rattle.std.specs.Prelude.{◌≡◌, OnOk};
 ghost use Rattle.amqp_fields.specs.Left.{left};
 ghost use Rattle.amqp_fields.specs.Fields.{Gives, MakesItems, trimmed};
-ghost use Rattle.amqp_composites.specs.Detach.{detach_of, detach_fields};
+ghost use Rattle.amqp_composites.specs.Detach.{detach_of, detach_fields, IsDetachValid};
 
 use crate::error::Error;
 use amqp_data::ValueList;
@@ -36,7 +36,8 @@ pub(crate) fn read_detach(alloc: Global, mut fields: Fields) -> Result<Detach, B
 }
 
 pub(crate) fn detach_list(alloc: Global, body: &Detach) -> Result<ValueList, BaseError>
-    ensures { MakesItems (λ l. l) result (trimmed (detach_fields body.now)) }
+    ensures list { MakesItems (λ l. l) result (trimmed (detach_fields body.now)) }
+    ensures valid { OnOk result (IsDetachValid body.now) }
 {
     let mut fields = FieldWriter::new(alloc);
     fields.required(&body.handle)?;

@@ -1,8 +1,8 @@
 //! Disposition (OASIS AMQP 1.0, part 2, section 2.7.6).
-ghost use Rattle.std.specs.Prelude.{◌≡◌};
+ghost use Rattle.std.specs.Prelude.{◌≡◌, OnOk};
 ghost use Rattle.amqp_fields.specs.Left.{left};
 ghost use Rattle.amqp_fields.specs.Fields.{Gives, MakesItems, trimmed};
-ghost use Rattle.amqp_composites.specs.Disposition.{disposition_of, disposition_fields};
+ghost use Rattle.amqp_composites.specs.Disposition.{disposition_of, disposition_fields, IsDispositionValid};
 
 use crate::modes::Role;
 use crate::state::DeliveryState;
@@ -49,7 +49,8 @@ pub(crate) fn read_disposition(alloc: Global, mut fields: Fields) -> Result<Disp
 }
 
 pub(crate) fn disposition_list(alloc: Global, body: &Disposition) -> Result<ValueList, BaseError>
-    ensures { MakesItems (λ l. l) result (trimmed (disposition_fields body.now)) }
+    ensures list { MakesItems (λ l. l) result (trimmed (disposition_fields body.now)) }
+    ensures valid { OnOk result (IsDispositionValid body.now) }
 {
     let mut fields = FieldWriter::new(alloc);
     fields.required(&body.role)?;

@@ -1,8 +1,8 @@
 //! End (OASIS AMQP 1.0, part 2, section 2.7.8).
-ghost use Rattle.std.specs.Prelude.{◌≡◌};
+ghost use Rattle.std.specs.Prelude.{◌≡◌, OnOk};
 ghost use Rattle.amqp_fields.specs.Left.{left};
 ghost use Rattle.amqp_fields.specs.Fields.{Gives, MakesItems, trimmed};
-ghost use Rattle.amqp_composites.specs.End.{end_of, end_fields};
+ghost use Rattle.amqp_composites.specs.End.{end_of, end_fields, IsEndValid};
 
 use crate::error::Error;
 use amqp_data::ValueList;
@@ -26,7 +26,8 @@ pub(crate) fn read_end(alloc: Global, mut fields: Fields) -> Result<End, BaseErr
 }
 
 pub(crate) fn end_list(alloc: Global, body: &End) -> Result<ValueList, BaseError>
-    ensures { MakesItems (λ l. l) result (trimmed (end_fields body.now)) }
+    ensures list { MakesItems (λ l. l) result (trimmed (end_fields body.now)) }
+    ensures valid { OnOk result (IsEndValid body.now) }
 {
     let mut fields = FieldWriter::new(alloc);
     fields.optional(&body.error)?;

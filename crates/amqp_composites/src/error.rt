@@ -1,5 +1,5 @@
 //! Errors (OASIS AMQP 1.0, part 2, section 2.8.14).
-ghost use Rattle.std.specs.Prelude.{◌≡◌};
+ghost use Rattle.std.specs.Prelude.{◌≡◌, OnOk};
 ghost use Rattle.amqp_fields.specs.Left.{left};
 ghost use Rattle.amqp_fields.specs.Fields.{Gives, MakesItems, trimmed};
 ghost use Rattle.amqp_composites.specs.Error.{error_of, error_fields, error_in, of_error, IsErrorValid, error_again};
@@ -37,7 +37,8 @@ pub(crate) fn read_error(alloc: Global, mut fields: Fields) -> Result<Error, Bas
 }
 
 pub(crate) fn error_list(alloc: Global, body: &Error) -> Result<ValueList, BaseError>
-    ensures { MakesItems (λ l. l) result (trimmed (error_fields body.now)) }
+    ensures list { MakesItems (λ l. l) result (trimmed (error_fields body.now)) }
+    ensures valid { OnOk result (IsErrorValid body.now) }
 {
     let mut fields = FieldWriter::new(alloc);
     fields.required(&body.condition)?;

@@ -1,8 +1,8 @@
 //! Flow (OASIS AMQP 1.0, part 2, section 2.7.4).
-ghost use Rattle.std.specs.Prelude.{◌≡◌};
+ghost use Rattle.std.specs.Prelude.{◌≡◌, OnOk};
 ghost use Rattle.amqp_fields.specs.Left.{left};
 ghost use Rattle.amqp_fields.specs.Fields.{Gives, MakesItems, trimmed};
-ghost use Rattle.amqp_composites.specs.Flow.{flow_of, flow_fields};
+ghost use Rattle.amqp_composites.specs.Flow.{flow_of, flow_fields, IsFlowValid};
 
 use amqp_data::ValueList;
 use amqp_fields::{BaseError, FieldMap, FieldWriter, Fields};
@@ -67,7 +67,8 @@ pub(crate) fn read_flow(alloc: Global, mut fields: Fields) -> Result<Flow, BaseE
 }
 
 pub(crate) fn flow_list(alloc: Global, body: &Flow) -> Result<ValueList, BaseError>
-    ensures { MakesItems (λ l. l) result (trimmed (flow_fields body.now)) }
+    ensures list { MakesItems (λ l. l) result (trimmed (flow_fields body.now)) }
+    ensures valid { OnOk result (IsFlowValid body.now) }
 {
     let mut fields = FieldWriter::new(alloc);
     fields.optional(&body.next_incoming_id)?;

@@ -23,33 +23,37 @@ pub struct Header {
     pub delivery_count: u32,
 }
 
-#[tactic(auto, unfolding(crate::specs::Header::header_of))]
-pub(crate) fn read_header(alloc: Global, mut fields: Fields) -> Result<Header, BaseError>
-    ensures { Gives result (header_of (left fields)) }
-{
-    let durable = fields.or_default(alloc, false)?;
-    let priority = fields.or_default(alloc, 4)?;
-    let ttl = fields.optional(alloc)?;
-    let first_acquirer = fields.or_default(alloc, false)?;
-    let delivery_count = fields.or_default(alloc, 0)?;
-    fields.end()?;
-    Ok(Header {
-        durable,
-        priority,
-        ttl,
-        first_acquirer,
-        delivery_count,
-    })
-}
+impl Header {
+    /// The header that the fields say: `Decode` exactly where they say none.
+    #[tactic(auto, unfolding(crate::specs::Header::header_of))]
+    pub fn from_fields(alloc: Global, mut fields: Fields) -> Result<Self, BaseError>
+        ensures { Gives result (header_of (left fields)) }
+    {
+        let durable = fields.or_default(alloc, false)?;
+        let priority = fields.or_default(alloc, 4)?;
+        let ttl = fields.optional(alloc)?;
+        let first_acquirer = fields.or_default(alloc, false)?;
+        let delivery_count = fields.or_default(alloc, 0)?;
+        fields.end()?;
+        Ok(Header {
+            durable,
+            priority,
+            ttl,
+            first_acquirer,
+            delivery_count,
+        })
+    }
 
-pub(crate) fn header_list(alloc: Global, body: &Header) -> Result<ValueList, BaseError>
-    ensures { MakesItems (λ l. l) result (trimmed (header_fields body.now)) }
-{
-    let mut fields = FieldWriter::new(alloc);
-    fields.unless_default(&body.durable, &false)?;
-    fields.unless_default(&body.priority, &4)?;
-    fields.optional(&body.ttl)?;
-    fields.unless_default(&body.first_acquirer, &false)?;
-    fields.unless_default(&body.delivery_count, &0)?;
-    Ok(fields.finish())
+    /// Its fields without the nulls at the end; the one error is want of memory.
+    pub fn to_list(&self, alloc: Global) -> Result<ValueList, BaseError>
+        ensures { MakesItems (λ l. l) result (trimmed (header_fields self.now)) }
+    {
+        let mut fields = FieldWriter::new(alloc);
+        fields.unless_default(&self.durable, &false)?;
+        fields.unless_default(&self.priority, &4)?;
+        fields.optional(&self.ttl)?;
+        fields.unless_default(&self.first_acquirer, &false)?;
+        fields.unless_default(&self.delivery_count, &0)?;
+        Ok(fields.finish())
+    }
 }

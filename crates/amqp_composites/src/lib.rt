@@ -14,6 +14,7 @@ pub mod error;
 pub mod flow;
 pub mod header;
 pub mod kind;
+pub mod laws;
 pub mod message_id;
 pub mod modes;
 pub mod open;
@@ -29,6 +30,7 @@ pub mod state;
 pub mod states;
 pub mod target;
 pub mod target_archetype;
+pub mod terminal_state;
 #[cfg(test)]
 mod tests;
 pub mod transactional;

@@ -1,8 +1,8 @@
 //! Open (OASIS AMQP 1.0, part 2, section 2.7.1).
-ghost use Rattle.std.specs.Prelude.{◌≡◌};
+ghost use Rattle.std.specs.Prelude.{◌≡◌, OnOk};
 ghost use Rattle.amqp_fields.specs.Left.{left};
 ghost use Rattle.amqp_fields.specs.Fields.{Gives, MakesItems, trimmed};
-ghost use Rattle.amqp_composites.specs.Open.{open_of, open_fields};
+ghost use Rattle.amqp_composites.specs.Open.{open_of, open_fields, IsOpenValid};
 
 use amqp_data::{SymbolList, Text, ValueList};
 use amqp_fields::{BaseError, FieldMap, FieldWriter, Fields};
@@ -63,7 +63,8 @@ pub(crate) fn read_open(alloc: Global, mut fields: Fields) -> Result<Open, BaseE
 }
 
 pub(crate) fn open_list(alloc: Global, body: &Open) -> Result<ValueList, BaseError>
-    ensures { MakesItems (λ l. l) result (trimmed (open_fields body.now)) }
+    ensures list { MakesItems (λ l. l) result (trimmed (open_fields body.now)) }
+    ensures valid { OnOk result (IsOpenValid body.now) }
 {
     let mut fields = FieldWriter::new(alloc);
     fields.required(&body.container_id)?;

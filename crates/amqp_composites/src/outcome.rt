@@ -1,9 +1,9 @@
 //! The outcomes of deliveries (OASIS AMQP 1.0, part 3, section 3.4).
-ghost use Rattle.std.specs.Prelude.{◌≡◌};
+ghost use Rattle.std.specs.Prelude.{◌≡◌, IsErrAnd};
 ghost use Rattle.amqp_data.specs.View.{view};
 ghost use Rattle.amqp_fields.specs.Fields.{Gives, Makes};
 ghost use Rattle.amqp_composites.specs.declared.outcome.Outcome.TheVariants as v;
-ghost use Rattle.amqp_composites.specs.Outcome.{outcome_in, of_outcome, IsOutcomeValid, outcome_again};
+ghost use Rattle.amqp_composites.specs.Outcome.{outcome_in, of_outcome, IsOutcomeValid, outcome_again, IsNotAccepted, MatchAccepted};
 
 use crate::described::{list_value, read_list};
 use crate::kind::CompositeKind;
@@ -29,6 +29,19 @@ pub enum Outcome {
     Modified(Modified),
     /// A transaction is declared.
     Declared(Declared),
+}
+
+impl Outcome {
+    /// The acceptance, or the error that `op` makes of any other outcome.
+    pub fn accepted_or_else<F: FnOnce(Outcome) -> E, E>(self, op: F) -> Result<Accepted, E>
+        requires { IsNotAccepted self → F.pre op self }
+        ensures { MatchAccepted self (λ x. result ≡ Ok x) (λ other. IsErrAnd result (F.post op other)) }
+    {
+        match self {
+            Outcome::Accepted(body) => Ok(body),
+            other => Err(op(other)),
+        }
+    }
 }
 
 impl Field for Outcome {

@@ -1,9 +1,8 @@
 //! The performatives (OASIS AMQP 1.0, part 2, section 2.7).
-ghost use Rattle.std.specs.Prelude.{◌≡◌};
+ghost use Rattle.std.specs.Prelude.{◌≡◌, OnOk};
 ghost use Rattle.amqp_data.specs.View.{view};
-ghost use Rattle.amqp_fields.specs.Fields.{Gives, Makes};
-ghost use Rattle.amqp_composites.specs.declared.performative.Performative.TheVariants as v;
-ghost use Rattle.amqp_composites.specs.Performative.{performative_in, of_performative, IsPerformativeValid, performative_again};
+ghost use Rattle.amqp_fields.specs.Fields.{Gives, Makes, MakesItems, trimmed};
+ghost use Rattle.amqp_composites.specs.Performative.{performative_in, kind_of_performative, performative_fields, of_performative, IsPerformativeValid};
 
 use crate::attach::{Attach, attach_list, read_attach};
 use crate::begin::{Begin, begin_list, read_begin};
@@ -16,7 +15,7 @@ use crate::flow::{Flow, flow_list, read_flow};
 use crate::kind::CompositeKind;
 use crate::open::{Open, open_list, read_open};
 use crate::transfer::{Transfer, read_transfer, transfer_list};
-use amqp_data::Value;
+use amqp_data::{Value, ValueList};
 use amqp_fields::BaseError;
 use std::alloc::Global;
 
@@ -65,47 +64,47 @@ impl Performative {
         }
     }
 
-    /// The value that holds the body; the one error is want of memory.
-    pub fn to_value(&self, alloc: Global) -> Result<Value, BaseError>
-        ensures { Makes view result (of_performative self.now) }
+    /// Which described list the body is.
+    pub fn kind(&self) -> CompositeKind
+        ensures { result ≡ kind_of_performative self.now }
     {
         match self {
-            Performative::Open(body) => {
-                let fields = open_list(alloc, body)?;
-                list_value(alloc, CompositeKind::Open, fields)
-            }
-            Performative::Begin(body) => {
-                let fields = begin_list(alloc, body)?;
-                list_value(alloc, CompositeKind::Begin, fields)
-            }
-            Performative::Attach(body) => {
-                let fields = attach_list(alloc, body)?;
-                list_value(alloc, CompositeKind::Attach, fields)
-            }
-            Performative::Flow(body) => {
-                let fields = flow_list(alloc, body)?;
-                list_value(alloc, CompositeKind::Flow, fields)
-            }
-            Performative::Transfer(body) => {
-                let fields = transfer_list(alloc, body)?;
-                list_value(alloc, CompositeKind::Transfer, fields)
-            }
-            Performative::Disposition(body) => {
-                let fields = disposition_list(alloc, body)?;
-                list_value(alloc, CompositeKind::Disposition, fields)
-            }
-            Performative::Detach(body) => {
-                let fields = detach_list(alloc, body)?;
-                list_value(alloc, CompositeKind::Detach, fields)
-            }
-            Performative::End(body) => {
-                let fields = end_list(alloc, body)?;
-                list_value(alloc, CompositeKind::End, fields)
-            }
-            Performative::Close(body) => {
-                let fields = close_list(alloc, body)?;
-                list_value(alloc, CompositeKind::Close, fields)
-            }
+            Performative::Open(_) => CompositeKind::Open,
+            Performative::Begin(_) => CompositeKind::Begin,
+            Performative::Attach(_) => CompositeKind::Attach,
+            Performative::Flow(_) => CompositeKind::Flow,
+            Performative::Transfer(_) => CompositeKind::Transfer,
+            Performative::Disposition(_) => CompositeKind::Disposition,
+            Performative::Detach(_) => CompositeKind::Detach,
+            Performative::End(_) => CompositeKind::End,
+            Performative::Close(_) => CompositeKind::Close,
         }
+    }
+
+    /// The fields of the body without the nulls at the end; the one error is want of memory.
+    pub fn to_list(&self, alloc: Global) -> Result<ValueList, BaseError>
+        ensures list { MakesItems (λ l. l) result (trimmed (performative_fields self.now)) }
+        ensures valid { OnOk result (IsPerformativeValid self.now) }
+    {
+        match self {
+            Performative::Open(body) => open_list(alloc, body),
+            Performative::Begin(body) => begin_list(alloc, body),
+            Performative::Attach(body) => attach_list(alloc, body),
+            Performative::Flow(body) => flow_list(alloc, body),
+            Performative::Transfer(body) => transfer_list(alloc, body),
+            Performative::Disposition(body) => disposition_list(alloc, body),
+            Performative::Detach(body) => detach_list(alloc, body),
+            Performative::End(body) => end_list(alloc, body),
+            Performative::Close(body) => close_list(alloc, body),
+        }
+    }
+
+    /// The value that holds the body; the one error is want of memory.
+    pub fn to_value(&self, alloc: Global) -> Result<Value, BaseError>
+        ensures value { Makes view result (of_performative self.now) }
+        ensures valid { OnOk result (IsPerformativeValid self.now) }
+    {
+        let fields = self.to_list(alloc)?;
+        list_value(alloc, self.kind(), fields)
     }
 }

@@ -107,46 +107,50 @@ fn read_content(alloc: Global, fields: &mut Fields) -> Result<ContentPart, BaseE
     })
 }
 
-#[tactic(auto, unfolding(crate::specs::Properties::properties_of))]
-pub(crate) fn read_properties(alloc: Global, mut fields: Fields) -> Result<Properties, BaseError>
-    ensures { Gives result (properties_of (left fields)) }
-{
-    let address = read_address(alloc, &mut fields)?;
-    let content = read_content(alloc, &mut fields)?;
-    fields.end()?;
-    Ok(Properties {
-        message_id: address.message_id,
-        user_id: address.user_id,
-        to: address.to,
-        subject: address.subject,
-        reply_to: address.reply_to,
-        correlation_id: address.correlation_id,
-        content_type: content.content_type,
-        content_encoding: content.content_encoding,
-        absolute_expiry_time: content.absolute_expiry_time,
-        creation_time: content.creation_time,
-        group_id: content.group_id,
-        group_sequence: content.group_sequence,
-        reply_to_group_id: content.reply_to_group_id,
-    })
-}
+impl Properties {
+    /// The properties that the fields say: `Decode` exactly where they say none.
+    #[tactic(auto, unfolding(crate::specs::Properties::properties_of))]
+    pub fn from_fields(alloc: Global, mut fields: Fields) -> Result<Self, BaseError>
+        ensures { Gives result (properties_of (left fields)) }
+    {
+        let address = read_address(alloc, &mut fields)?;
+        let content = read_content(alloc, &mut fields)?;
+        fields.end()?;
+        Ok(Properties {
+            message_id: address.message_id,
+            user_id: address.user_id,
+            to: address.to,
+            subject: address.subject,
+            reply_to: address.reply_to,
+            correlation_id: address.correlation_id,
+            content_type: content.content_type,
+            content_encoding: content.content_encoding,
+            absolute_expiry_time: content.absolute_expiry_time,
+            creation_time: content.creation_time,
+            group_id: content.group_id,
+            group_sequence: content.group_sequence,
+            reply_to_group_id: content.reply_to_group_id,
+        })
+    }
 
-pub(crate) fn properties_list(alloc: Global, body: &Properties) -> Result<ValueList, BaseError>
-    ensures { MakesItems (λ l. l) result (trimmed (properties_fields body.now)) }
-{
-    let mut fields = FieldWriter::new(alloc);
-    fields.optional(&body.message_id)?;
-    fields.optional(&body.user_id)?;
-    fields.optional(&body.to)?;
-    fields.optional(&body.subject)?;
-    fields.optional(&body.reply_to)?;
-    fields.optional(&body.correlation_id)?;
-    fields.optional(&body.content_type)?;
-    fields.optional(&body.content_encoding)?;
-    fields.optional(&body.absolute_expiry_time)?;
-    fields.optional(&body.creation_time)?;
-    fields.optional(&body.group_id)?;
-    fields.optional(&body.group_sequence)?;
-    fields.optional(&body.reply_to_group_id)?;
-    Ok(fields.finish())
+    /// Their fields without the nulls at the end; the one error is want of memory.
+    pub fn to_list(&self, alloc: Global) -> Result<ValueList, BaseError>
+        ensures { MakesItems (λ l. l) result (trimmed (properties_fields self.now)) }
+    {
+        let mut fields = FieldWriter::new(alloc);
+        fields.optional(&self.message_id)?;
+        fields.optional(&self.user_id)?;
+        fields.optional(&self.to)?;
+        fields.optional(&self.subject)?;
+        fields.optional(&self.reply_to)?;
+        fields.optional(&self.correlation_id)?;
+        fields.optional(&self.content_type)?;
+        fields.optional(&self.content_encoding)?;
+        fields.optional(&self.absolute_expiry_time)?;
+        fields.optional(&self.creation_time)?;
+        fields.optional(&self.group_id)?;
+        fields.optional(&self.group_sequence)?;
+        fields.optional(&self.reply_to_group_id)?;
+        Ok(fields.finish())
+    }
 }

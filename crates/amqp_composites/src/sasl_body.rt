@@ -1,9 +1,8 @@
 //! The bodies of SASL frames (OASIS AMQP 1.0, part 5, section 5.3.3).
-ghost use Rattle.std.specs.Prelude.{◌≡◌};
+ghost use Rattle.std.specs.Prelude.{◌≡◌, OnOk};
 ghost use Rattle.amqp_data.specs.View.{view};
-ghost use Rattle.amqp_fields.specs.Fields.{Gives, Makes};
-ghost use Rattle.amqp_composites.specs.declared.sasl_body.SaslBody.TheVariants as v;
-ghost use Rattle.amqp_composites.specs.SaslBody.{sasl_body_in, of_sasl_body, IsSaslBodyValid, sasl_body_again};
+ghost use Rattle.amqp_fields.specs.Fields.{Gives, Makes, MakesItems, trimmed};
+ghost use Rattle.amqp_composites.specs.SaslBody.{sasl_body_in, kind_of_sasl_body, sasl_body_fields, of_sasl_body, IsSaslBodyValid};
 
 use crate::described::{list_value, read_list};
 use crate::kind::CompositeKind;
@@ -13,7 +12,7 @@ use crate::sasl::{
     sasl_challenge_list, sasl_init_list, sasl_mechanisms_list, sasl_outcome_list,
     sasl_response_list,
 };
-use amqp_data::Value;
+use amqp_data::{Value, ValueList};
 use amqp_fields::BaseError;
 use std::alloc::Global;
 
@@ -54,31 +53,39 @@ impl SaslBody {
         }
     }
 
-    /// The value that holds the body; the one error is want of memory.
-    pub fn to_value(&self, alloc: Global) -> Result<Value, BaseError>
-        ensures { Makes view result (of_sasl_body self.now) }
+    /// Which described list the body is.
+    pub fn kind(&self) -> CompositeKind
+        ensures { result ≡ kind_of_sasl_body self.now }
     {
         match self {
-            SaslBody::Mechanisms(body) => {
-                let fields = sasl_mechanisms_list(alloc, body)?;
-                list_value(alloc, CompositeKind::SaslMechanisms, fields)
-            }
-            SaslBody::Init(body) => {
-                let fields = sasl_init_list(alloc, body)?;
-                list_value(alloc, CompositeKind::SaslInit, fields)
-            }
-            SaslBody::Challenge(body) => {
-                let fields = sasl_challenge_list(alloc, body)?;
-                list_value(alloc, CompositeKind::SaslChallenge, fields)
-            }
-            SaslBody::Response(body) => {
-                let fields = sasl_response_list(alloc, body)?;
-                list_value(alloc, CompositeKind::SaslResponse, fields)
-            }
-            SaslBody::Outcome(body) => {
-                let fields = sasl_outcome_list(alloc, body)?;
-                list_value(alloc, CompositeKind::SaslOutcome, fields)
-            }
+            SaslBody::Mechanisms(_) => CompositeKind::SaslMechanisms,
+            SaslBody::Init(_) => CompositeKind::SaslInit,
+            SaslBody::Challenge(_) => CompositeKind::SaslChallenge,
+            SaslBody::Response(_) => CompositeKind::SaslResponse,
+            SaslBody::Outcome(_) => CompositeKind::SaslOutcome,
         }
+    }
+
+    /// The fields of the body without the nulls at the end; the one error is want of memory.
+    pub fn to_list(&self, alloc: Global) -> Result<ValueList, BaseError>
+        ensures list { MakesItems (λ l. l) result (trimmed (sasl_body_fields self.now)) }
+        ensures valid { OnOk result (IsSaslBodyValid self.now) }
+    {
+        match self {
+            SaslBody::Mechanisms(body) => sasl_mechanisms_list(alloc, body),
+            SaslBody::Init(body) => sasl_init_list(alloc, body),
+            SaslBody::Challenge(body) => sasl_challenge_list(alloc, body),
+            SaslBody::Response(body) => sasl_response_list(alloc, body),
+            SaslBody::Outcome(body) => sasl_outcome_list(alloc, body),
+        }
+    }
+
+    /// The value that holds the body; the one error is want of memory.
+    pub fn to_value(&self, alloc: Global) -> Result<Value, BaseError>
+        ensures value { Makes view result (of_sasl_body self.now) }
+        ensures valid { OnOk result (IsSaslBodyValid self.now) }
+    {
+        let fields = self.to_list(alloc)?;
+        list_value(alloc, self.kind(), fields)
     }
 }

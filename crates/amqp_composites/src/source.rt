@@ -1,5 +1,5 @@
 //! Sources (OASIS AMQP 1.0, part 3, section 3.5.3).
-ghost use Rattle.std.specs.Prelude.{◌≡◌};
+ghost use Rattle.std.specs.Prelude.{◌≡◌, OnOk};
 ghost use Rattle.amqp_fields.specs.Left.{left};
 ghost use Rattle.amqp_fields.specs.Fields.{Gives, MakesItems, trimmed};
 ghost use Rattle.amqp_composites.specs.Source.{source_of, source_fields, source_in, of_source, IsSourceValid, source_again};
@@ -72,7 +72,8 @@ pub(crate) fn read_source(alloc: Global, mut fields: Fields) -> Result<Source, B
 }
 
 pub(crate) fn source_list(alloc: Global, body: &Source) -> Result<ValueList, BaseError>
-    ensures { MakesItems (λ l. l) result (trimmed (source_fields body.now)) }
+    ensures list { MakesItems (λ l. l) result (trimmed (source_fields body.now)) }
+    ensures valid { OnOk result (IsSourceValid body.now) }
 {
     let mut fields = FieldWriter::new(alloc);
     fields.optional(&body.address)?;

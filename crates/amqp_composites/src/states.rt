@@ -1,8 +1,8 @@
 //! The states of deliveries (OASIS AMQP 1.0, part 3, section 3.4.1 and following).
-ghost use Rattle.std.specs.Prelude.{◌≡◌};
+ghost use Rattle.std.specs.Prelude.{◌≡◌, OnOk};
 ghost use Rattle.amqp_fields.specs.Left.{left};
 ghost use Rattle.amqp_fields.specs.Fields.{Gives, MakesItems, trimmed};
-ghost use Rattle.amqp_composites.specs.States.{received_of, received_fields, accepted_of, accepted_fields, rejected_of, rejected_fields, released_of, released_fields, modified_of, modified_fields, declared_of, declared_fields};
+ghost use Rattle.amqp_composites.specs.States.{received_of, received_fields, accepted_of, accepted_fields, rejected_of, rejected_fields, IsRejectedValid, released_of, released_fields, modified_of, modified_fields, IsModifiedValid, declared_of, declared_fields};
 
 use crate::error::Error;
 use amqp_data::{Binary, ValueList};
@@ -76,7 +76,8 @@ pub(crate) fn read_rejected(alloc: Global, mut fields: Fields) -> Result<Rejecte
 }
 
 pub(crate) fn rejected_list(alloc: Global, body: &Rejected) -> Result<ValueList, BaseError>
-    ensures { MakesItems (λ l. l) result (trimmed (rejected_fields body.now)) }
+    ensures list { MakesItems (λ l. l) result (trimmed (rejected_fields body.now)) }
+    ensures valid { OnOk result (IsRejectedValid body.now) }
 {
     let mut fields = FieldWriter::new(alloc);
     fields.optional(&body.error)?;
@@ -129,7 +130,8 @@ pub(crate) fn read_modified(alloc: Global, mut fields: Fields) -> Result<Modifie
 }
 
 pub(crate) fn modified_list(alloc: Global, body: &Modified) -> Result<ValueList, BaseError>
-    ensures { MakesItems (λ l. l) result (trimmed (modified_fields body.now)) }
+    ensures list { MakesItems (λ l. l) result (trimmed (modified_fields body.now)) }
+    ensures valid { OnOk result (IsModifiedValid body.now) }
 {
     let mut fields = FieldWriter::new(alloc);
     fields.optional(&body.delivery_failed)?;

@@ -1,8 +1,8 @@
 //! Targets (OASIS AMQP 1.0, part 3, section 3.5.4 and following).
-ghost use Rattle.std.specs.Prelude.{◌≡◌};
+ghost use Rattle.std.specs.Prelude.{◌≡◌, OnOk};
 ghost use Rattle.amqp_fields.specs.Left.{left};
 ghost use Rattle.amqp_fields.specs.Fields.{Gives, MakesItems, trimmed};
-ghost use Rattle.amqp_composites.specs.Target.{target_of, target_fields, coordinator_of, coordinator_fields};
+ghost use Rattle.amqp_composites.specs.Target.{target_of, target_fields, IsTargetValid, coordinator_of, coordinator_fields};
 
 use crate::session_end::session_end;
 use amqp_data::{Symbol, SymbolList, Text, ValueList};
@@ -53,7 +53,8 @@ pub(crate) fn read_target(alloc: Global, mut fields: Fields) -> Result<Target, B
 }
 
 pub(crate) fn target_list(alloc: Global, body: &Target) -> Result<ValueList, BaseError>
-    ensures { MakesItems (λ l. l) result (trimmed (target_fields body.now)) }
+    ensures list { MakesItems (λ l. l) result (trimmed (target_fields body.now)) }
+    ensures valid { OnOk result (IsTargetValid body.now) }
 {
     let mut fields = FieldWriter::new(alloc);
     fields.optional(&body.address)?;

@@ -1,8 +1,12 @@
-use crate::header::read_header;
+use crate::header::Header;
+use crate::outcome::Outcome;
 use crate::performative::Performative;
+use crate::properties::Properties;
 use crate::sasl_body::SaslBody;
 use crate::sasl_code::SaslCode;
 use crate::state::DeliveryState;
+use crate::states::{Accepted, Received, Rejected, Released};
+use crate::terminal_state::TerminalDeliveryState;
 use amqp_data::{Described, Symbol, Text, Value, ValueList};
 use amqp_fields::{BaseError, Field, Fields};
 use std::alloc::{AllocError, Global};
@@ -83,6 +87,19 @@ fn outcomes(rt: HostRuntime) -> Result<(), Fail> {
     Ok(())
 }
 
+fn sasl_again(alloc: Global, value: Value) -> Result<Value, BaseError> {
+    let body = SaslBody::from_value(alloc, value)?;
+    body.to_value(alloc)
+}
+
+#[test]
+fn an_outcome_again(rt: HostRuntime) -> Result<(), Fail> {
+    let a = rt.alloc();
+    let again = sasl_again(a, described(a, 0x44, one(a, Value::Ubyte(0))?)?)?;
+    assert!(rt; again == described(a, 0x44, one(a, Value::Ubyte(0))?)?);
+    Ok(())
+}
+
 #[test]
 fn by_name(rt: HostRuntime) -> Result<(), Fail> {
     let a = rt.alloc();
@@ -111,11 +128,86 @@ fn states(rt: HostRuntime) -> Result<(), Fail> {
 #[test]
 fn defaults(rt: HostRuntime) -> Result<(), Fail> {
     let a = rt.alloc();
-    let header = read_header(a, Fields::new(ValueList::new(a)))?;
+    let header = Header::from_fields(a, Fields::new(ValueList::new(a)))?;
     assert!(rt; !header.durable);
     assert_eq!(rt; header.priority, 4);
     assert!(rt; header.ttl.is_none());
     assert!(rt; !header.first_acquirer);
     assert_eq!(rt; header.delivery_count, 0);
     Ok(())
+}
+
+/// How many fields are written of a header of that priority.
+fn header_len(alloc: Global, priority: u8) -> Result<usize, BaseError> {
+    let header = Header {
+        durable: false,
+        priority,
+        ttl: None,
+        first_acquirer: false,
+        delivery_count: 0,
+    };
+    let fields = header.to_list(alloc)?;
+    Ok(fields.len())
+}
+
+#[test]
+fn a_default_is_not_written(rt: HostRuntime) -> Result<(), Fail> {
+    let a = rt.alloc();
+    assert_eq!(rt; header_len(a, 4)?, 0);
+    assert_eq!(rt; header_len(a, 9)?, 2);
+    Ok(())
+}
+
+/// How many fields are written of properties that are all absent.
+fn properties_len(alloc: Global) -> Result<usize, BaseError> {
+    let properties = Properties::from_fields(alloc, Fields::new(ValueList::new(alloc)))?;
+    let fields = properties.to_list(alloc)?;
+    Ok(fields.len())
+}
+
+#[test]
+fn absent_properties(rt: HostRuntime) -> Result<(), Fail> {
+    let a = rt.alloc();
+    assert_eq!(rt; properties_len(a)?, 0);
+    Ok(())
+}
+
+/// 0 of an acceptance, 1 of a release, 2 of any other outcome.
+fn outcome_number(outcome: Outcome) -> u8 {
+    let taken = outcome.accepted_or_else(|other| {
+        if matches!(other, Outcome::Released(_)) {
+            1
+        } else {
+            2
+        }
+    });
+    match taken {
+        Ok(_) => 0,
+        Err(number) => number,
+    }
+}
+
+#[test]
+fn accepted_or_else(rt: HostRuntime) {
+    assert_eq!(rt; outcome_number(Outcome::Accepted(Accepted {})), 0);
+    assert_eq!(rt; outcome_number(Outcome::Released(Released {})), 1);
+    assert_eq!(rt;
+        outcome_number(Outcome::Rejected(Rejected { error: None })),
+        2
+    );
+}
+
+fn ends_delivery(state: DeliveryState) -> bool {
+    TerminalDeliveryState::try_from(state).is_ok()
+}
+
+#[test]
+fn states_that_end_deliveries(rt: HostRuntime) {
+    assert!(rt; ends_delivery(DeliveryState::Accepted(Accepted {})));
+    assert!(rt; ends_delivery(DeliveryState::from(TerminalDeliveryState::from(Released {}))));
+    let received = Received {
+        section_number: 0,
+        section_offset: 0,
+    };
+    assert!(rt; !ends_delivery(DeliveryState::Received(received)));
 }

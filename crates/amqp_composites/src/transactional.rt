@@ -1,8 +1,8 @@
 //! States of deliveries within transactions (OASIS AMQP 1.0, part 4, section 4.5.8).
-ghost use Rattle.std.specs.Prelude.{◌≡◌};
+ghost use Rattle.std.specs.Prelude.{◌≡◌, OnOk};
 ghost use Rattle.amqp_fields.specs.Left.{left};
 ghost use Rattle.amqp_fields.specs.Fields.{Gives, MakesItems, trimmed};
-ghost use Rattle.amqp_composites.specs.Transactional.{transactional_state_of, transactional_state_fields};
+ghost use Rattle.amqp_composites.specs.Transactional.{transactional_state_of, transactional_state_fields, IsTransactionalStateValid};
 
 use crate::outcome::Outcome;
 use amqp_data::{Binary, ValueList};
@@ -35,7 +35,8 @@ pub(crate) fn transactional_state_list(
     alloc: Global,
     body: &TransactionalState,
 ) -> Result<ValueList, BaseError>
-    ensures { MakesItems (λ l. l) result (trimmed (transactional_state_fields body.now)) }
+    ensures list { MakesItems (λ l. l) result (trimmed (transactional_state_fields body.now)) }
+    ensures valid { OnOk result (IsTransactionalStateValid body.now) }
 {
     let mut fields = FieldWriter::new(alloc);
     fields.required(&body.txn_id)?;

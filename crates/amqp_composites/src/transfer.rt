@@ -1,8 +1,8 @@
 //! Transfer (OASIS AMQP 1.0, part 2, section 2.7.5).
-ghost use Rattle.std.specs.Prelude.{◌≡◌};
+ghost use Rattle.std.specs.Prelude.{◌≡◌, OnOk};
 ghost use Rattle.amqp_fields.specs.Left.{left};
 ghost use Rattle.amqp_fields.specs.Fields.{Gives, MakesItems, trimmed};
-ghost use Rattle.amqp_composites.specs.Transfer.{transfer_of, transfer_fields};
+ghost use Rattle.amqp_composites.specs.Transfer.{transfer_of, transfer_fields, IsTransferValid};
 
 use crate::modes::ReceiverSettleMode;
 use crate::state::DeliveryState;
@@ -69,7 +69,8 @@ pub(crate) fn read_transfer(alloc: Global, mut fields: Fields) -> Result<Transfe
 }
 
 pub(crate) fn transfer_list(alloc: Global, body: &Transfer) -> Result<ValueList, BaseError>
-    ensures { MakesItems (λ l. l) result (trimmed (transfer_fields body.now)) }
+    ensures list { MakesItems (λ l. l) result (trimmed (transfer_fields body.now)) }
+    ensures valid { OnOk result (IsTransferValid body.now) }
 {
     let mut fields = FieldWriter::new(alloc);
     fields.required(&body.handle)?;

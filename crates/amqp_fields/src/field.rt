@@ -1,5 +1,5 @@
 //! What a field of a described list may hold.
-ghost use Rattle.std.specs.Prelude.{◌≡◌, Option, Some, refl};
+ghost use Rattle.std.specs.Prelude.{◌≡◌, Option, Some, OnOk, refl};
 ghost use Rattle.amqp_data.specs.Data.{Amqp, array};
 ghost use Rattle.std.specs.Vec.Iter.{into_iter_items};
 ghost use Rattle.amqp_data.specs.View.{view, items_view};
@@ -27,7 +27,8 @@ pub trait Field: Sized {
 
     /// The value that holds it; the one error is want of memory.
     fn to_value(&self, alloc: Global) -> Result<Value, BaseError>
-        ensures { Makes view result (writes self.now) };
+        ensures value { Makes view result (writes self.now) }
+        ensures valid { OnOk result (valid self.now) };
 
     ghost again: { (x : Self) → valid x → reads (writes x) ≡ Some x };
 

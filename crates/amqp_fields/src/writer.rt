@@ -1,8 +1,8 @@
 //! The fields of a described list that is to be written.
-ghost use Rattle.std.specs.Prelude.{◌≡◌, ◌≤◌, ◌↔◌, [], length, map, take, IsTrue};
+ghost use Rattle.std.specs.Prelude.{◌≡◌, ◌≤◌, ◌↔◌, [], length, map, take, IsTrue, OnOk};
 ghost use Rattle.amqp_data.specs.Data.{scalar, null};
 ghost use Rattle.amqp_data.specs.View.{view, items_view};
-ghost use Rattle.amqp_fields.specs.Fields.{maybe, unless, trimmed};
+ghost use Rattle.amqp_fields.specs.Fields.{maybe, unless, trimmed, IsValid};
 ghost use Rattle.amqp_fields.specs.Writer.{written, Adds};
 
 use crate::defaulted::Defaulted;
@@ -52,7 +52,8 @@ impl FieldWriter {
 
     /// A field that is always there.
     pub fn required<T: Field>(&mut self, field: &T) -> Result<(), BaseError>
-        ensures { Adds result (written self.old) (written self.new) (T.writes field.now) }
+        ensures value { Adds result (written self.old) (written self.new) (T.writes field.now) }
+        ensures valid { OnOk result (T.valid field.now) }
     {
         let value = field.to_value(self.alloc)?;
         self.values.push(value)?;
@@ -61,7 +62,8 @@ impl FieldWriter {
 
     /// A field that may be absent, as null.
     pub fn optional<T: Field>(&mut self, field: &Option<T>) -> Result<(), BaseError>
-        ensures { Adds result (written self.old) (written self.new) (maybe T.writes field.now) }
+        ensures value { Adds result (written self.old) (written self.new) (maybe T.writes field.now) }
+        ensures valid { OnOk result (IsValid T.valid field.now) }
     {
         match field {
             None => {

@@ -1,7 +1,7 @@
 use Rattle.std.proofs.lemmas.Result.{err_from_is_err_and}
 use Rattle.amqp_fields.specs.Left.{left}
 use Rattle.amqp_composites.proofs.Parts.{properties_stop}
-use Rattle.amqp_composites.proofs.properties.read_properties.Goals as goal
+use Rattle.amqp_composites.proofs.properties.Properties.from_fields.Goals as goal
 
 pub returns-in_err-end : goal.returns-in_err-end
 returns-in_err-end c =
