@@ -155,7 +155,8 @@ pub(crate) fn read_attach(alloc: Global, mut fields: Fields) -> Result<Attach, B
     })
 }
 
-pub(crate) fn attach_list(alloc: Global, body: &Attach) -> Result<ValueList, BaseError>
+/// The fields of an Attach without the nulls at the end; the one error is want of memory.
+pub fn attach_list(alloc: Global, body: &Attach) -> Result<ValueList, BaseError>
     ensures list { MakesItems (λ l. l) result (trimmed (attach_fields body.now)) }
     ensures valid { OnOk result (IsAttachValid body.now) }
 {

@@ -54,7 +54,8 @@ pub(crate) fn read_begin(alloc: Global, mut fields: Fields) -> Result<Begin, Bas
     })
 }
 
-pub(crate) fn begin_list(alloc: Global, body: &Begin) -> Result<ValueList, BaseError>
+/// The fields of a Begin without the nulls at the end; the one error is want of memory.
+pub fn begin_list(alloc: Global, body: &Begin) -> Result<ValueList, BaseError>
     ensures list { MakesItems (λ l. l) result (trimmed (begin_fields body.now)) }
     ensures valid { OnOk result (IsBeginValid body.now) }
 {

@@ -25,7 +25,8 @@ pub(crate) fn read_close(alloc: Global, mut fields: Fields) -> Result<Close, Bas
     Ok(Close { error })
 }
 
-pub(crate) fn close_list(alloc: Global, body: &Close) -> Result<ValueList, BaseError>
+/// The fields of a Close without the nulls at the end; the one error is want of memory.
+pub fn close_list(alloc: Global, body: &Close) -> Result<ValueList, BaseError>
     ensures list { MakesItems (λ l. l) result (trimmed (close_fields body.now)) }
     ensures valid { OnOk result (IsCloseValid body.now) }
 {

@@ -35,7 +35,8 @@ pub(crate) fn read_detach(alloc: Global, mut fields: Fields) -> Result<Detach, B
     })
 }
 
-pub(crate) fn detach_list(alloc: Global, body: &Detach) -> Result<ValueList, BaseError>
+/// The fields of a Detach without the nulls at the end; the one error is want of memory.
+pub fn detach_list(alloc: Global, body: &Detach) -> Result<ValueList, BaseError>
     ensures list { MakesItems (λ l. l) result (trimmed (detach_fields body.now)) }
     ensures valid { OnOk result (IsDetachValid body.now) }
 {

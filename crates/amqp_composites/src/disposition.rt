@@ -48,7 +48,8 @@ pub(crate) fn read_disposition(alloc: Global, mut fields: Fields) -> Result<Disp
     })
 }
 
-pub(crate) fn disposition_list(alloc: Global, body: &Disposition) -> Result<ValueList, BaseError>
+/// The fields of a Disposition without the nulls at the end; the one error is want of memory.
+pub fn disposition_list(alloc: Global, body: &Disposition) -> Result<ValueList, BaseError>
     ensures list { MakesItems (λ l. l) result (trimmed (disposition_fields body.now)) }
     ensures valid { OnOk result (IsDispositionValid body.now) }
 {

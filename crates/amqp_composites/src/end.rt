@@ -25,7 +25,8 @@ pub(crate) fn read_end(alloc: Global, mut fields: Fields) -> Result<End, BaseErr
     Ok(End { error })
 }
 
-pub(crate) fn end_list(alloc: Global, body: &End) -> Result<ValueList, BaseError>
+/// The fields of an End without the nulls at the end; the one error is want of memory.
+pub fn end_list(alloc: Global, body: &End) -> Result<ValueList, BaseError>
     ensures list { MakesItems (λ l. l) result (trimmed (end_fields body.now)) }
     ensures valid { OnOk result (IsEndValid body.now) }
 {

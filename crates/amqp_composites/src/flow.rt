@@ -66,7 +66,8 @@ pub(crate) fn read_flow(alloc: Global, mut fields: Fields) -> Result<Flow, BaseE
     })
 }
 
-pub(crate) fn flow_list(alloc: Global, body: &Flow) -> Result<ValueList, BaseError>
+/// The fields of a Flow without the nulls at the end; the one error is want of memory.
+pub fn flow_list(alloc: Global, body: &Flow) -> Result<ValueList, BaseError>
     ensures list { MakesItems (λ l. l) result (trimmed (flow_fields body.now)) }
     ensures valid { OnOk result (IsFlowValid body.now) }
 {

@@ -62,7 +62,8 @@ pub(crate) fn read_open(alloc: Global, mut fields: Fields) -> Result<Open, BaseE
     })
 }
 
-pub(crate) fn open_list(alloc: Global, body: &Open) -> Result<ValueList, BaseError>
+/// The fields of an Open without the nulls at the end; the one error is want of memory.
+pub fn open_list(alloc: Global, body: &Open) -> Result<ValueList, BaseError>
     ensures list { MakesItems (λ l. l) result (trimmed (open_fields body.now)) }
     ensures valid { OnOk result (IsOpenValid body.now) }
 {

@@ -68,7 +68,8 @@ pub(crate) fn read_transfer(alloc: Global, mut fields: Fields) -> Result<Transfe
     })
 }
 
-pub(crate) fn transfer_list(alloc: Global, body: &Transfer) -> Result<ValueList, BaseError>
+/// The fields of a Transfer without the nulls at the end; the one error is want of memory.
+pub fn transfer_list(alloc: Global, body: &Transfer) -> Result<ValueList, BaseError>
     ensures list { MakesItems (λ l. l) result (trimmed (transfer_fields body.now)) }
     ensures valid { OnOk result (IsTransferValid body.now) }
 {
