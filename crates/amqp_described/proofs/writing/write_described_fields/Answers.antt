@@ -1,0 +1,9 @@
+use Rattle.std.proofs.Common.{arith}
+use Rattle.amqp_data.specs.Data.{list}
+use Rattle.amqp_data.specs.View.{items_view}
+use Rattle.amqp_described.proofs.Numbered.{behind_number}
+use Rattle.amqp_described.proofs.writing.write_described_fields.Goals as goal
+
+pub returns : goal.returns
+returns c =
+    behind_number c.write_fields.result c.based.result c.args.out.now c.put_number.new.out c.write_fields.new.out c.args.number (list (items_view c.args.fields.now)) 33 (omega arith) c.based.ensures c.in_ok-put_number.ensures c.write_fields.ensures

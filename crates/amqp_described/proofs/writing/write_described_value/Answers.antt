@@ -1,0 +1,8 @@
+use Rattle.std.proofs.Common.{arith}
+use Rattle.amqp_data.specs.View.{view}
+use Rattle.amqp_described.proofs.Numbered.{behind_number}
+use Rattle.amqp_described.proofs.writing.write_described_value.Goals as goal
+
+pub returns : goal.returns
+returns c =
+    behind_number c.put_value.result c.based.result c.args.out.now c.put_number.new.out c.put_value.new.out c.args.number (view c.args.value.now) 32 (omega arith) c.based.ensures c.in_ok-put_number.ensures c.put_value.ensures
