@@ -1,0 +1,33 @@
+-- What a section holds (OASIS AMQP 1.0, part 3, section 3.2).
+use Rattle.std.specs.Prelude.{◌≡◌, Option, Some, None, refl}
+use Rattle.amqp_data.specs.Data.{Amqp, Items, list}
+use Rattle.amqp_fields.specs.Fields.{trimmed}
+use Rattle.amqp_composites.specs.declared.header.Header.{Header}
+use Rattle.amqp_composites.specs.declared.properties.Properties.{Properties}
+use Rattle.amqp_composites.specs.Header.{header_of, header_fields, header_again}
+use Rattle.amqp_composites.specs.Properties.{properties_of, properties_fields, properties_again}
+
+abbrev pub header_in : Amqp → Option Header
+header_in (list fields) = header_of fields
+header_in v = None
+
+abbrev pub of_header : Header → Amqp
+of_header x = list (trimmed (header_fields x))
+
+abbrev pub properties_in : Amqp → Option Properties
+properties_in (list fields) = properties_of fields
+properties_in v = None
+
+abbrev pub of_properties : Properties → Amqp
+of_properties x = list (trimmed (properties_fields x))
+
+abbrev pub list_in : Amqp → Option Items
+list_in (list vs) = Some vs
+list_in v = None
+
+abbrev pub of_list : Items → Amqp
+of_list vs = list vs
+
+-- any value
+abbrev pub value_in : Amqp → Option Amqp
+value_in v = Some v

@@ -1,0 +1,5 @@
+pub mod Kind
+pub mod Content
+pub mod Message
+pub mod Sections
+pub mod Reading

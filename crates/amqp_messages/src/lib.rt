@@ -1,0 +1,11 @@
+//! Messages (OASIS AMQP 1.0, part 3, section 3.2): their sections, read from bytes and written as bytes.
+#![tactic(auto)]
+
+pub use kind::SectionKind;
+pub use message::{Body, Message, OneOrMore};
+
+pub mod content;
+pub mod kind;
+pub mod message;
+pub mod reading;
+mod sections;
