@@ -1,2 +1,2 @@
 pub mod Taken
-pub mod Whole
+pub mod Added

@@ -3,3 +3,4 @@ pub mod Content
 pub mod Message
 pub mod Sections
 pub mod Reading
+pub mod Writing

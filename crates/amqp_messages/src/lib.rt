@@ -3,9 +3,12 @@
 
 pub use kind::SectionKind;
 pub use message::{Body, Message, OneOrMore};
+pub use reading::decode_message;
+pub use writing::encode_message;
 
 pub mod content;
 pub mod kind;
 pub mod message;
 pub mod reading;
 mod sections;
+pub mod writing;
