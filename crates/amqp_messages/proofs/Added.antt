@@ -1,6 +1,6 @@
 -- Sections added one after another.
 use Rattle.std.proofs.Common.{◌≡◌, ℕ, zero, suc, ◌+◌, ◌<◌, ◌≤◌, List, ◌++◌, ◌∷◌, [], length, get_or, drop, refl, sym, ap, subst, ◌∙◌, append_assoc, append-nil, arith}
-use Rattle.std.specs.Prelude.{Result, Ok, Err}
+use Rattle.std.specs.Prelude.{Option, Some, None, Result, Ok, Err}
 use Rattle.std.proofs.Math.Seq.{drop-cons}
 use Rattle.amqp_data.specs.Data.{Amqp, Items, no_items, item, depth, items_depth}
 use Rattle.amqp_value.specs.Grammar.{SpellAll, no_values, more_values}
@@ -9,8 +9,11 @@ use Rattle.amqp_fields.specs.declared.error.BaseError.{BaseError}
 use Rattle.amqp_fields.specs.declared.error.BaseError.TheVariants as errors
 use Rattle.amqp_described.specs.Writing.{numbered, Fits, Added, Adds}
 use Rattle.amqp_messages.specs.declared.kind.SectionKind.{SectionKind}
+use Rattle.amqp_messages.specs.declared.message.Message.{Message}
 use Rattle.amqp_messages.specs.Kind.{number_of}
-use Rattle.amqp_messages.specs.Writing.{◌&◌, each, AllFit, AllAdded, AddsAll, Encodes}
+use Rattle.amqp_messages.specs.Message.{Said}
+use Rattle.amqp_messages.specs.Reading.{message_in, SpellsMessage}
+use Rattle.amqp_messages.specs.Writing.{◌&◌, present, each, message_items, AllFit, AllAdded, AddsAll, Encodes}
 
 -- ---- one value
 
@@ -142,3 +145,29 @@ none_left (x ∷ xs) (suc i) le = none_left xs i (omega (arith, le))
 
 pub each_done : {A : Type 0} (k : SectionKind) (writes : A → Amqp) (old out : List ℕ) (xs : List A) (i : ℕ) → length xs ≤ i → Going old out (each k writes (drop i xs)) (each k writes xs) → AllAdded old out (each k writes xs) × AllFit (each k writes xs)
 each_done k writes old out xs i le g = g.goes out (subst (λ (z : Items). AllAdded out out z × AllFit z) (sym (ap (each k writes) (none_left xs i le))) (none out))
+
+-- ---- a section at a place
+
+pub one_section : {A : Type 0} (k : SectionKind) (writes : A → Amqp) (x : A) (n : ℕ) (r : Result (Unit {0}) BaseError) (old new : List ℕ) → n ≡ number_of k → Adds r old new (numbered n (writes x)) 33 → AddsAll r old new (item (numbered (number_of k) (writes x)) no_items)
+one_section k writes x n r old new is h = subst (λ (m : ℕ). AddsAll r old new (item (numbered m (writes x)) no_items)) is (one r old new (numbered n (writes x)) h)
+
+pub present_none : {A : Type 0} (k : SectionKind) (writes : A → Amqp) (o : Option A) (old : List ℕ) → o ≡ None → AddsAll (Ok tt) old old (present k writes o)
+present_none k writes o old is = subst (λ (z : Option _). AddsAll (Ok tt) old old (present k writes z)) (sym is) (none old)
+
+pub present_some : {A : Type 0} (k : SectionKind) (writes : A → Amqp) (o : Option A) (x : A) (n : ℕ) (r : Result (Unit {0}) BaseError) (old new : List ℕ) → o ≡ Some x → n ≡ number_of k → Adds r old new (numbered n (writes x)) 33 → AddsAll r old new (present k writes o)
+present_some k writes o x n r old new is is_number h = subst (λ (z : Option _). AddsAll r old new (present k writes z)) (sym is) (one_section k writes x n r old new is_number h)
+
+-- ---- the whole
+
+pub encoded : (old new : List ℕ) (vs : Items) → old ≡ [] → AllAdded old new vs × AllFit vs → Encodes (Ok new) vs
+encoded old new vs e h = (h.0.bytes ∙ ap (λ (z : List ℕ). z ++ canonical_items vs) e, h.1)
+
+pub not_encoded : (e : BaseError) (old new : List ℕ) (vs : Items) → AddsAll (Err e) old new vs → Encodes (Err e) vs
+not_encoded (errors.Memory a) old new vs h = tt
+not_encoded errors.Size old new vs h = h
+not_encoded errors.Decode old new vs h = h
+
+pub whole_spelled : (old new : List ℕ) (m : Message Said) → old ≡ [] → AllAdded old new (message_items m) × AllFit (message_items m) → message_in (message_items m) ≡ Some m → SpellsMessage new m
+whole_spelled old new m e h again =
+    let e' = encoded old new (message_items m) e h in
+    record { values = message_items m; fill = record { spelled = subst (λ (z : List ℕ). SpellAll z (message_items m)) (sym e'.0) h.0.spelled; nests = h.1.nests }; says = again }

@@ -1,2 +1,3 @@
 pub mod Taken
 pub mod Added
+pub mod Again

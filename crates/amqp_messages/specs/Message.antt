@@ -1,26 +1,22 @@
 -- What a message says (OASIS AMQP 1.0, part 3, section 3.2).
-use Rattle.std.specs.Prelude.{ℕ, List, [], ◌∷◌, None}
+use Rattle.std.specs.Prelude.{ℕ, List, None}
 use Rattle.amqp_data.specs.Data.{Amqp, Items}
 use Rattle.amqp_data.specs.View.{view}
 use Rattle.amqp_messages.specs.declared.message.Message.{Message}
 use Rattle.amqp_messages.specs.declared.message.Body.{Body}
 use Rattle.amqp_messages.specs.declared.message.Body.TheVariants as b
-use Rattle.amqp_messages.specs.declared.message.OneOrMore.{OneOrMore}
 
 -- what the body of a message says (sections 3.2.6 to 3.2.8)
 pub data Said : Type 0 where
   one_value : Amqp → Said
-  all_data : List (List ℕ) → Said
-  all_sequences : List Items → Said
+  all_data : List ℕ → List (List ℕ) → Said
+  all_sequences : Items → List Items → Said
   nothing : Said
-
-abbrev pub listed : {A : Type 0} → OneOrMore A → List A
-listed x = x.first ∷ x.rest.items
 
 abbrev pub said : Body → Said
 said (b.Value v) = one_value (view v)
-said (b.Data sections) = all_data (listed sections)
-said (b.Sequence sections) = all_sequences (listed sections)
+said (b.Data sections) = all_data sections.first sections.rest.items
+said (b.Sequence sections) = all_sequences sections.first sections.rest.items
 said b.Empty = nothing
 
 -- the message with another body

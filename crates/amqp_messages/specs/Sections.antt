@@ -64,7 +64,7 @@ abbrev pub one_or_nothing : Items → Option (Said × Items)
 one_or_nothing vs = value_or (taken kind.Value vs)
 
 abbrev pub sequences_or : Option Items × Items → Option (Said × Items)
-sequences_or (Some first, vs) = sections kind.Sequence list_in vs >>= λ x. Some (all_sequences (first ∷ x.0), x.1)
+sequences_or (Some first, vs) = sections kind.Sequence list_in vs >>= λ x. Some (all_sequences first x.0, x.1)
 sequences_or (None, vs) = one_or_nothing vs
 
 -- sequences, or one value, or nothing
@@ -72,7 +72,7 @@ abbrev pub sequences_in : Items → Option (Said × Items)
 sequences_in vs = section kind.Sequence list_in vs >>= sequences_or
 
 abbrev pub data_or : Option (List ℕ) × Items → Option (Said × Items)
-data_or (Some first, vs) = sections kind.Data binary_in vs >>= λ x. Some (all_data (first ∷ x.0), x.1)
+data_or (Some first, vs) = sections kind.Data binary_in vs >>= λ x. Some (all_data first x.0, x.1)
 data_or (None, vs) = sequences_in vs
 
 -- one value, or data, or sequences, or nothing (sections 3.2.6 to 3.2.8)

@@ -42,8 +42,8 @@ about_items m = present kind.Properties of_properties m.properties & present kin
 -- sections 3.2.6 to 3.2.8
 abbrev pub body_items : Said → Items
 body_items (one_value v) = item (numbered (number_of kind.Value) v) no_items
-body_items (all_data sections) = each kind.Data of_binary sections
-body_items (all_sequences sections) = each kind.Sequence of_list sections
+body_items (all_data first rest) = each kind.Data of_binary (first ∷ rest)
+body_items (all_sequences first rest) = each kind.Sequence of_list (first ∷ rest)
 body_items nothing = no_items
 
 -- the body and the footer (section 3.2.9)

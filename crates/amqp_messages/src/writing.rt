@@ -1,8 +1,8 @@
 //! Writing a message as its bytes (OASIS AMQP 1.0, part 3, section 3.2).
-ghost use Rattle.std.specs.Prelude.{◌≡◌, OnOk, IfOk};
+ghost use Rattle.std.specs.Prelude.{◌≡◌, ◌∷◌, OnOk, IfOk};
 ghost use Rattle.amqp_fields.specs.Fields.{IsValid, is_annotation, is_string};
 ghost use Rattle.amqp_fields.specs.Again.{HasKeys};
-ghost use Rattle.amqp_messages.specs.Message.{said, seen, listed};
+ghost use Rattle.amqp_messages.specs.Message.{said, seen};
 ghost use Rattle.amqp_messages.specs.Reading.{SpellsMessage};
 ghost use Rattle.amqp_messages.specs.Writing.{present, each, head_items, about_items, body_items, rest_items, message_items, AddsAll, Encodes, IsMessageValid};
 
@@ -49,17 +49,13 @@ fn put_sections<T: Content>(
     kind: SectionKind,
     sections: &OneOrMore<T>,
 ) -> Result<(), BaseError>
-    ensures { AddsAll result out.old out.new (each kind T.writes (listed sections.now)) }
+    ensures { AddsAll result out.old out.new (each kind T.writes (sections.now.first ∷ sections.now.rest.items)) }
 {
     sections.first.write(alloc, out, kind.number())?;
     put_each(alloc, out, kind, &sections.rest)
 }
 
-fn put_head(
-    alloc: Global,
-    out: &mut Binary,
-    message: &Message<Body>,
-) -> Result<(), BaseError>
+fn put_head(alloc: Global, out: &mut Binary, message: &Message<Body>) -> Result<(), BaseError>
     ensures adds { AddsAll result out.old out.new (head_items message.now) }
     ensures delivery { OnOk result (IsValid (HasKeys is_annotation) message.now.delivery_annotations) }
     ensures message { OnOk result (IsValid (HasKeys is_annotation) message.now.message_annotations) }
@@ -79,11 +75,7 @@ fn put_head(
     )
 }
 
-fn put_about(
-    alloc: Global,
-    out: &mut Binary,
-    message: &Message<Body>,
-) -> Result<(), BaseError>
+fn put_about(alloc: Global, out: &mut Binary, message: &Message<Body>) -> Result<(), BaseError>
     ensures adds { AddsAll result out.old out.new (about_items message.now) }
     ensures application { OnOk result (IsValid (HasKeys is_string) message.now.application_properties) }
 {
@@ -107,16 +99,22 @@ fn put_body(alloc: Global, out: &mut Binary, body: &Body) -> Result<(), BaseErro
     }
 }
 
-fn put_rest(
-    alloc: Global,
-    out: &mut Binary,
-    message: &Message<Body>,
-) -> Result<(), BaseError>
+fn put_rest(alloc: Global, out: &mut Binary, message: &Message<Body>) -> Result<(), BaseError>
     ensures adds { AddsAll result out.old out.new (rest_items (seen message.now)) }
     ensures footer { OnOk result (IsValid (HasKeys is_annotation) message.now.footer) }
 {
     put_body(alloc, out, &message.body)?;
     put_optional(alloc, out, SectionKind::Footer, &message.footer)
+}
+
+fn put_message(alloc: Global, out: &mut Binary, message: &Message<Body>) -> Result<(), BaseError>
+    ensures adds { AddsAll result out.old out.new (message_items (seen message.now)) }
+    ensures valid { OnOk result (IsMessageValid (seen message.now)) }
+{
+    put_head(alloc, out, message)?;
+    put_about(alloc, out, message)?;
+    put_rest(alloc, out, message)?;
+    Ok(())
 }
 
 /// The one spelling of the message that is written, each section that it has in its place: `Size` exactly where what a section
@@ -126,8 +124,6 @@ pub fn encode_message(alloc: Global, message: &Message<Body>) -> Result<Binary, 
     ensures spelled { IfOk result (λ bytes. SpellsMessage bytes (seen message.now)) }
 {
     let mut out = Binary::new(alloc);
-    put_head(alloc, &mut out, message)?;
-    put_about(alloc, &mut out, message)?;
-    put_rest(alloc, &mut out, message)?;
+    put_message(alloc, &mut out, message)?;
     Ok(out)
 }
