@@ -1,4 +1,5 @@
 //! The fields of a list behind the number of its kind, and the bytes behind them.
+ghost use Rattle.std.specs.Prelude.{[]};
 ghost use Rattle.amqp_composites.specs.Kind.{number_of};
 ghost use Rattle.amqp_frames.specs.Fields.{Puts};
 
@@ -21,4 +22,15 @@ pub(crate) fn put_fields(
     write_described_fields(&mut out, kind.number(), fields?.as_slice())?;
     out.append(payload)?;
     Ok(out)
+}
+
+/// The described list of those fields, and nothing behind it.
+pub(crate) fn put_alone(
+    alloc: Global,
+    kind: CompositeKind,
+    fields: Result<ValueList, BaseError>,
+) -> Result<Binary, BaseError>
+    ensures { Puts result fields (number_of kind) [] }
+{
+    put_fields(alloc, kind, fields, &[])
 }

@@ -23,7 +23,11 @@ fn alone(body: FrameBody, payload: &[u8]) -> Result<FrameBody, BaseError>
 }
 
 /// The body with that performative and the bytes behind it.
-fn frame_of(alloc: Global, performative: Performative, payload: &[u8]) -> Result<FrameBody, BaseError>
+fn frame_of(
+    alloc: Global,
+    performative: Performative,
+    payload: &[u8],
+) -> Result<FrameBody, BaseError>
     ensures { Gives result (framed performative payload.now) }
 {
     match performative {

@@ -7,7 +7,7 @@ ghost use Rattle.amqp_frames.specs.Sasl.{SpellsSasl};
 ghost use Rattle.amqp_frames.specs.Writing.{Encodes};
 
 use crate::body::LEVELS;
-use crate::fields::put_fields;
+use crate::fields::put_alone;
 use amqp_composites::sasl_body::SaslBody;
 use amqp_data::Binary;
 use amqp_described::read_front;
@@ -19,7 +19,7 @@ pub fn encode_sasl(alloc: Global, body: &SaslBody) -> Result<Binary, BaseError>
     ensures bytes { Encodes result (item (of_sasl_body body.now) no_items) [] }
     ensures spelled { IfOk result (λ bytes. SpellsSasl bytes body.now) }
 {
-    put_fields(alloc, body.kind(), body.to_list(alloc), &[])
+    put_alone(alloc, body.kind(), body.to_list(alloc))
 }
 
 /// The one body that the bytes spell: `Decode` exactly where they spell none.

@@ -4,7 +4,7 @@ ghost use Rattle.amqp_frames.specs.Body.{SpellsBody, body_values, body_payload, 
 ghost use Rattle.amqp_frames.specs.Writing.{Encodes};
 
 use crate::body::FrameBody;
-use crate::fields::put_fields;
+use crate::fields::{put_alone, put_fields};
 use amqp_composites::CompositeKind;
 use amqp_composites::attach::attach_list;
 use amqp_composites::begin::begin_list;
@@ -25,33 +25,29 @@ pub fn encode_body(alloc: Global, body: &FrameBody) -> Result<Binary, BaseError>
     ensures spelled { IfOk result (λ bytes. SpellsBody bytes (read_again_body body.now)) }
 {
     match body {
-        FrameBody::Open(open) => {
-            put_fields(alloc, CompositeKind::Open, open_list(alloc, open), &[])
-        }
-        FrameBody::Begin(begin) => {
-            put_fields(alloc, CompositeKind::Begin, begin_list(alloc, begin), &[])
-        }
-        FrameBody::Attach(attach) => {
-            put_fields(alloc, CompositeKind::Attach, attach_list(alloc, attach), &[])
-        }
-        FrameBody::Flow(flow) => {
-            put_fields(alloc, CompositeKind::Flow, flow_list(alloc, flow), &[])
-        }
-        FrameBody::Transfer(transfer, payload) => {
-            let fields = transfer_list(alloc, transfer);
+        FrameBody::Open(body) => put_alone(alloc, CompositeKind::Open, open_list(alloc, body)),
+        FrameBody::Begin(body) => put_alone(alloc, CompositeKind::Begin, begin_list(alloc, body)),
+        FrameBody::Attach(body) => put_alone(
+            alloc,
+            CompositeKind::Attach,
+            attach_list(alloc, body),
+        ),
+        FrameBody::Flow(body) => put_alone(alloc, CompositeKind::Flow, flow_list(alloc, body)),
+        FrameBody::Transfer(body, payload) => {
+            let fields = transfer_list(alloc, body);
             put_fields(alloc, CompositeKind::Transfer, fields, payload.as_slice())
         }
-        FrameBody::Disposition(disposition) => {
-            let fields = disposition_list(alloc, disposition);
-            put_fields(alloc, CompositeKind::Disposition, fields, &[])
+        FrameBody::Disposition(body) => {
+            let fields = disposition_list(alloc, body);
+            put_alone(alloc, CompositeKind::Disposition, fields)
         }
-        FrameBody::Detach(detach) => {
-            put_fields(alloc, CompositeKind::Detach, detach_list(alloc, detach), &[])
-        }
-        FrameBody::End(end) => put_fields(alloc, CompositeKind::End, end_list(alloc, end), &[]),
-        FrameBody::Close(close) => {
-            put_fields(alloc, CompositeKind::Close, close_list(alloc, close), &[])
-        }
+        FrameBody::Detach(body) => put_alone(
+            alloc,
+            CompositeKind::Detach,
+            detach_list(alloc, body),
+        ),
+        FrameBody::End(body) => put_alone(alloc, CompositeKind::End, end_list(alloc, body)),
+        FrameBody::Close(body) => put_alone(alloc, CompositeKind::Close, close_list(alloc, body)),
         FrameBody::Empty => Ok(Binary::new(alloc)),
     }
 }
