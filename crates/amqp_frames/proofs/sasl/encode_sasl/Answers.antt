@@ -1,0 +1,19 @@
+use Rattle.std.proofs.Common.{[], refl, ap, subst, List, ℕ}
+use Rattle.amqp_composites.specs.declared.kind.CompositeKind.{CompositeKind}
+use Rattle.amqp_composites.specs.Kind.{number_of}
+use Rattle.amqp_composites.specs.SaslBody.{kind_of_sasl_body, sasl_body_fields, of_sasl_body}
+use Rattle.amqp_data.specs.Data.{item, no_items}
+use Rattle.amqp_frames.specs.Fields.{Puts}
+use Rattle.amqp_frames.proofs.Written.{encodes, spells_sasl}
+use Rattle.amqp_frames.proofs.sasl.encode_sasl.Goals as goal
+
+pub returns-clause-bytes : goal.returns-clause-bytes
+returns-clause-bytes c =
+    let body = c.args.body.now in
+    let put = subst (λ (z : CompositeKind). Puts c.put_alone.result c.to_list.result (number_of z) []) c.kind.ensures c.put_alone.ensures in
+    encodes c.put_alone.result c.to_list.result (kind_of_sasl_body body) (sasl_body_fields body) [] (item (of_sasl_body body) no_items) [] refl refl put c.to_list.ensures.list
+
+pub returns-clause-spelled : goal.returns-clause-spelled
+returns-clause-spelled c =
+    let put = subst (λ (z : CompositeKind). Puts c.put_alone.result c.to_list.result (number_of z) []) c.kind.ensures c.put_alone.ensures in
+    spells_sasl c.put_alone.result c.to_list.result c.args.body.now put c.to_list.ensures.list c.to_list.ensures.valid

@@ -1,0 +1,184 @@
+use crate::body::FrameBody;
+use crate::reading::decode_body;
+use crate::sasl::{decode_sasl, encode_sasl};
+use crate::shared::{AllocLinkError, SessionFrame};
+use crate::writing::encode_body;
+use amqp_composites::end::End;
+use amqp_composites::open::Open;
+use amqp_data::Text;
+use amqp_fields::BaseError;
+use std::alloc::{AllocError, Global};
+use std::test::Fail;
+
+/// An Open of container 1234, host 127.0.0.1, max-frame-size 1000, channel-max 9, idle-time-out 5.
+const OPEN: &[u8] =
+    b"\x00\x53\x10\xc0\x1c\x05\xa1\x041234\xa1\x09127.0.0.1\x70\x00\x00\x03\xe8\x60\x00\x09\x52\x05";
+
+/// What frames of one connection held.
+const BODIES: &[&[u8]] = &[
+    b"\x00\x53\x10\xc0\x0d\x04\xa1\x01\x63\x40\x70\x00\x04\x00\x00\x60\x00\xff",
+    b"\x00\x53\x10\xc0\x0d\x04\xa1\x01\x6c\x40\x70\x00\x04\x00\x00\x60\x00\xff",
+    b"\x00\x53\x11\xc0\x0f\x05\x40\x43\x70\x00\x00\x08\x00\x70\x00\x00\x08\x00\x52\xff",
+    b"\x00\x53\x11\xc0\x11\x05\x60\x00\x00\x43\x70\x00\x00\x08\x00\x70\x00\x00\x08\x00\x52\xff",
+    b"\x00\x53\x12\xc0\x19\x0a\xa1\x01\x73\x43\x42\x40\x40\x00\x53\x28\x45\x00\x53\x29\xc0\x05\x01\xa1\x02\x71\x31\x40\x40\x43",
+    b"\x00\x53\x12\xc0\x16\x07\xa1\x01\x73\x43\x41\x40\x40\x00\x53\x28\x45\x00\x53\x29\xc0\x05\x01\xa1\x02\x71\x31",
+    b"\x00\x53\x13\xc0\x11\x07\x43\x70\x00\x00\x08\x00\x43\x70\x00\x00\x08\x00\x43\x43\x52\xc8",
+    b"\x00\x53\x14\xc0\x0b\x05\x43\x43\xa0\x04\x00\x00\x00\x00\x43\x42\x00\x53\x77\xa1\x0ahello AMQP",
+    b"\x00\x53\x15\xc0\x09\x05\x41\x43\x40\x41\x00\x53\x24\x45",
+    b"\x00\x53\x16\xc0\x03\x02\x43\x41",
+    b"\x00\x53\x17\x45",
+    b"\x00\x53\x18\x45",
+    b"",
+];
+
+/// What frames of one SASL dialog held.
+const SASL_BODIES: &[&[u8]] = &[
+    b"\x00\x53\x40\xc0\x13\x01\xe0\x10\x01\xa3\x0dSCRAM-SHA-256",
+    b"\x00\x53\x41\xc0\x32\x02\xa3\x0dSCRAM-SHA-256\xa0\x20n,,n=user,r=rOprNGfwEbeRWgbNEkqO",
+    b"\x00\x53\x42\xc0\x59\x01\xa0\x56r=rOprNGfwEbeRWgbNEkqO%hvYDpWUa2RaTCAfuxFIlj)hNlF$k0,s=W22ZaJ0SNY7soEsUEjb6gQ==,i=4096",
+    b"\x00\x53\x43\xc0\x6d\x01\xa0\x6ac=biws,r=rOprNGfwEbeRWgbNEkqO%hvYDpWUa2RaTCAfuxFIlj)hNlF$k0,p=dHzbZapWIk4jUhN+Ute9ytag9zjfMHgsqmmiz7AndVQ=",
+    b"\x00\x53\x44\xc0\x33\x02\x50\x00\xa0\x2ev=6rriTRBi23WpRR/wtup+mMhUZUn/dB5nLTJRsjl95G4=",
+];
+
+/// Other spellings of bodies: the longer number of the descriptor, its name, a null at the end, the longer list.
+const OTHER_SPELLINGS: &[(&[u8], &[u8])] = &[
+    (
+        b"\x00\x80\x00\x00\x00\x00\x00\x00\x00\x18\x45",
+        b"\x00\x53\x18\x45",
+    ),
+    (b"\x00\xa3\x0famqp:close:list\x45", b"\x00\x53\x18\x45"),
+    (b"\x00\x53\x18\xc0\x02\x01\x40", b"\x00\x53\x18\x45"),
+    (
+        b"\x00\x53\x17\xd0\x00\x00\x00\x05\x00\x00\x00\x01\x40",
+        b"\x00\x53\x17\x45",
+    ),
+];
+
+/// Bytes behind a Detach, a field too many, a body of SASL, no descriptor, a part of a body, an unknown descriptor.
+const REFUSED: &[&[u8]] = &[
+    b"\x00\x53\x16\xc0\x03\x02\x43\x41\x00",
+    b"\x00\x53\x18\xc0\x03\x02\x40\x40",
+    b"\x00\x53\x44\xc0\x03\x01\x50\x00",
+    b"\x45",
+    b"\x00\x53",
+    b"\x00\x53\x19\x45",
+];
+
+/// A performative, a byte behind the body, nothing, an unknown code.
+const SASL_REFUSED: &[&[u8]] = &[
+    b"\x00\x53\x17\x45",
+    b"\x00\x53\x44\xc0\x03\x01\x50\x00\x00",
+    b"",
+    b"\x00\x53\x44\xc0\x03\x01\x50\x05",
+];
+
+fn open(alloc: Global) -> Result<Open, AllocError> {
+    Ok(Open {
+        container_id: Text::from_str(alloc, "1234")?,
+        hostname: Some(Text::from_str(alloc, "127.0.0.1")?),
+        max_frame_size: 1000,
+        channel_max: 9,
+        idle_time_out: Some(5),
+        outgoing_locales: None,
+        incoming_locales: None,
+        offered_capabilities: None,
+        desired_capabilities: None,
+        properties: None,
+    })
+}
+
+#[test]
+fn an_open(rt: HostRuntime) -> Result<(), Fail> {
+    let body = FrameBody::Open(open(rt.alloc())?);
+    assert_eq!(rt; encode_body(rt.alloc(), &body)?.as_slice(), OPEN);
+    Ok(())
+}
+
+/// Whether the body is written again as those bytes.
+fn is_again(alloc: Global, bytes: &[u8], canonical: &[u8]) -> Result<bool, BaseError> {
+    let body = decode_body(alloc, bytes)?;
+    let again = encode_body(alloc, &body)?;
+    Ok(again.as_slice() == canonical)
+}
+
+#[test]
+fn bodies(rt: HostRuntime) -> Result<(), Fail> {
+    for bytes in BODIES {
+        assert!(rt; is_again(rt.alloc(), bytes, bytes)?, "{bytes:?}");
+    }
+    for (bytes, canonical) in OTHER_SPELLINGS {
+        assert!(rt; is_again(rt.alloc(), bytes, canonical)?, "{bytes:?}");
+    }
+    Ok(())
+}
+
+fn is_sasl_again(alloc: Global, bytes: &[u8]) -> Result<bool, BaseError> {
+    let body = decode_sasl(alloc, bytes)?;
+    let again = encode_sasl(alloc, &body)?;
+    Ok(again.as_slice() == bytes)
+}
+
+#[test]
+fn sasl_bodies(rt: HostRuntime) -> Result<(), Fail> {
+    for bytes in SASL_BODIES {
+        assert!(rt; is_sasl_again(rt.alloc(), bytes)?, "{bytes:?}");
+    }
+    Ok(())
+}
+
+fn is_refused(alloc: Global, bytes: &[u8]) -> bool {
+    matches!(decode_body(alloc, bytes), Err(BaseError::Decode))
+}
+
+fn is_sasl_refused(alloc: Global, bytes: &[u8]) -> bool {
+    matches!(decode_sasl(alloc, bytes), Err(BaseError::Decode))
+}
+
+#[test]
+fn refused(rt: HostRuntime) -> Result<(), Fail> {
+    for bytes in REFUSED {
+        assert!(rt; is_refused(rt.alloc(), bytes), "{bytes:?}");
+    }
+    for bytes in SASL_REFUSED {
+        assert!(rt; is_sasl_refused(rt.alloc(), bytes), "{bytes:?}");
+    }
+    Ok(())
+}
+
+#[test]
+fn payload(rt: HostRuntime) -> Result<(), Fail> {
+    let bytes = b"\x00\x53\x14\xc0\x03\x01\x52\x07hello";
+    let body = decode_body(rt.alloc(), bytes)?;
+    let FrameBody::Transfer(transfer, payload) = body else {
+        return Err(Fail::from("a Transfer is read as something else"));
+    };
+    assert_eq!(rt; transfer.handle, 7);
+    assert!(rt; payload.as_slice() == b"hello".as_slice());
+    Ok(())
+}
+
+#[test]
+fn session_frames(rt: HostRuntime) -> Result<(), Fail> {
+    let Ok(frame) = SessionFrame::new(3, FrameBody::End(End { error: None })) else {
+        return Err(Fail::from("an End is refused"));
+    };
+    assert_eq!(rt; frame.channel(), 3);
+    assert!(rt; matches!(frame.body(), FrameBody::End(_)));
+    let (channel, body) = frame.into_parts();
+    assert_eq!(rt; channel, 3);
+    assert!(rt; matches!(body, FrameBody::End(_)));
+    assert!(rt;
+        matches!(
+            SessionFrame::new(3, FrameBody::Empty),
+            Err(FrameBody::Empty)
+        )
+    );
+    Ok(())
+}
+
+#[test]
+fn printed(rt: HostRuntime) -> Result<(), Fail> {
+    let text = format!(in rt.alloc(); "{}", AllocLinkError::DuplicatedLinkName)?;
+    assert_eq!(rt; text.as_str(), "DuplicatedLinkName");
+    Ok(())
+}
