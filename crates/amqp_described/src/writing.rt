@@ -58,11 +58,7 @@ pub fn write_described_fields(
 
 /// Adds the list of the values behind the number: `Size` exactly where it is nested more than 32 deep or a length needs more
 /// than 32 bits.
-pub fn write_described_list(
-    out: &mut Binary,
-    number: u8,
-    values: &[Value],
-) -> Result<(), BaseError>
+pub fn write_described_list(out: &mut Binary, number: u8, values: &[Value]) -> Result<(), BaseError>
     ensures { Adds result out.old out.new (numbered number (list (items_view values.now))) 33 }
 {
     put_number(out, number)?;
