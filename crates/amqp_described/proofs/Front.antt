@@ -1,6 +1,6 @@
 -- A value at the front of bytes.
 use Rattle.std.proofs.Common.{◌≡◌, ℕ, ◌≤◌, List, ◌++◌, length, take, drop, refl, sym, subst, ◌∙◌}
-use Rattle.std.specs.Prelude.{Result, Ok, Err}
+use Rattle.std.specs.Prelude.{Err}
 use Rattle.std.proofs.lemmas.List.{take-append-drop, length-take-le}
 use Rattle.amqp_data.specs.Data.{Amqp, depth}
 use Rattle.amqp_value.specs.Grammar.{Spells}

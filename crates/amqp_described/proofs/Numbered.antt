@@ -1,7 +1,7 @@
 -- What is written behind a number.
-use Rattle.std.proofs.Common.{◌≡◌, ℕ, suc, ◌<◌, ◌≤◌, List, ◌++◌, ◌∷◌, [], sym, ap, subst, ◌∙◌, append_assoc, arith}
+use Rattle.std.proofs.Common.{◌≡◌, ℕ, suc, ◌≤◌, List, ◌++◌, ◌∷◌, [], sym, ap, subst, ◌∙◌, append_assoc, arith}
 use Rattle.std.specs.Prelude.{Result, Ok, Err}
-use Rattle.amqp_data.specs.Data.{Amqp, scalar, ulong, depth}
+use Rattle.amqp_data.specs.Data.{Amqp, scalar, ulong}
 use Rattle.amqp_value.specs.declared.error.ValueError.{ValueError}
 use Rattle.amqp_value.specs.declared.error.ValueError.TheVariants as value
 use Rattle.amqp_value.specs.Grammar.{described'}
@@ -9,7 +9,7 @@ use Rattle.amqp_value.specs.Canonical.{canonical, IsSized}
 use Rattle.amqp_value.specs.Writing.{Writes}
 use Rattle.amqp_fields.specs.declared.error.BaseError.{BaseError}
 use Rattle.amqp_described.specs.Error.{of_value_result}
-use Rattle.amqp_described.specs.Writing.{numbered, Fits, Added, Adds, PutsNumber}
+use Rattle.amqp_described.specs.Writing.{numbered, Added, Adds, PutsNumber}
 
 put : (r : Result (Unit {0}) ValueError) (mid new : List ℕ) (old : List ℕ) (n : ℕ) → mid ≡ old ++ 0 ∷ [] → Writes r mid new (scalar (ulong n)) 32 → PutsNumber (of_value_result r) old new n
 unfolding IsSized

@@ -1,5 +1,5 @@
 -- What is read of bytes.
-use Rattle.std.specs.Prelude.{◌≡◌, ℕ, ◌≤◌, List, ◌++◌, length, take, Result, Ok, Err}
+use Rattle.std.specs.Prelude.{◌≡◌, ℕ, ◌≤◌, List, length, take, Result, Ok, Err}
 use Rattle.amqp_data.specs.Data.{Amqp, Items, depth, items_depth}
 use Rattle.amqp_data.specs.View.{view}
 use Rattle.amqp_data.specs.declared.value.Value.{Value}

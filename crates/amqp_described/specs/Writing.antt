@@ -1,8 +1,8 @@
 -- What is written of described values.
 use Rattle.std.specs.Prelude.{◌≡◌, ℕ, ◌≤◌, List, ◌++◌, ◌∷◌, [], Result, Ok, Err}
-use Rattle.amqp_data.specs.Data.{Amqp, Items, scalar, ulong, described, depth, items_depth}
-use Rattle.amqp_value.specs.Grammar.{Spells, SpellAll}
-use Rattle.amqp_value.specs.Canonical.{canonical, canonical_items, IsSized, AreSized}
+use Rattle.amqp_data.specs.Data.{Amqp, scalar, ulong, described, depth}
+use Rattle.amqp_value.specs.Grammar.{Spells}
+use Rattle.amqp_value.specs.Canonical.{canonical, IsSized}
 use Rattle.amqp_fields.specs.declared.error.BaseError.{BaseError}
 use Rattle.amqp_fields.specs.declared.error.BaseError.TheVariants as errors
 

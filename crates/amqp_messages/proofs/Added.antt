@@ -2,9 +2,9 @@
 use Rattle.std.proofs.Common.{◌≡◌, ℕ, zero, suc, ◌+◌, ◌<◌, ◌≤◌, List, ◌++◌, ◌∷◌, [], length, get_or, drop, refl, sym, ap, subst, ◌∙◌, append_assoc, append-nil, arith}
 use Rattle.std.specs.Prelude.{Option, Some, None, Result, Ok, Err}
 use Rattle.std.proofs.Math.Seq.{drop-cons}
-use Rattle.amqp_data.specs.Data.{Amqp, Items, no_items, item, depth, items_depth}
+use Rattle.amqp_data.specs.Data.{Amqp, Items, no_items, item}
 use Rattle.amqp_value.specs.Grammar.{SpellAll, no_values, more_values}
-use Rattle.amqp_value.specs.Canonical.{canonical, canonical_items, IsSized, AreSized}
+use Rattle.amqp_value.specs.Canonical.{canonical, canonical_items, IsSized}
 use Rattle.amqp_fields.specs.declared.error.BaseError.{BaseError}
 use Rattle.amqp_fields.specs.declared.error.BaseError.TheVariants as errors
 use Rattle.amqp_described.specs.Writing.{numbered, Fits, Added, Adds}

@@ -1,8 +1,8 @@
 -- What is written of a message is read again.
-use Rattle.std.proofs.Common.{◌≡◌, ℕ, ◌<◌, ◌≤◌, List, [], ◌∷◌, ◌++◌, Bool, true, false, nat_eq, refl, sym, ap, subst, ◌∙◌, cond, arith}
+use Rattle.std.proofs.Common.{◌≡◌, ℕ, ◌<◌, ◌≤◌, List, [], ◌∷◌, Bool, true, false, nat_eq, refl, sym, ap, subst, ◌∙◌, cond, arith}
 use Rattle.std.specs.Prelude.{Option, Some, None}
 use Rattle.std.proofs.lemmas.Bool.{eqb-true}
-use Rattle.amqp_data.specs.Data.{Amqp, Items, Pairs, Scalar, scalar, ulong, described, no_items, item}
+use Rattle.amqp_data.specs.Data.{Amqp, Items, Pairs, scalar, ulong, described, no_items, item}
 use Rattle.amqp_fields.specs.Fields.{◌>>=◌, ends, map_with, of_map, is_annotation, is_string, binary_in, of_binary, IsValid}
 use Rattle.amqp_fields.specs.Maps.{map_again}
 use Rattle.amqp_fields.specs.Again.{HasKeys}
@@ -14,12 +14,10 @@ use Rattle.amqp_described.specs.Writing.{numbered}
 use Rattle.amqp_messages.specs.declared.kind.SectionKind.{SectionKind}
 use Rattle.amqp_messages.specs.declared.kind.SectionKind.TheVariants as kind
 use Rattle.amqp_messages.specs.declared.message.Message.{Message}
-use Rattle.amqp_messages.specs.declared.reading.Head.{Head}
-use Rattle.amqp_messages.specs.declared.reading.About.{About}
 use Rattle.amqp_messages.specs.Kind.{number_of}
 use Rattle.amqp_messages.specs.Content.{header_in, of_header, properties_in, of_properties, list_in, of_list}
 use Rattle.amqp_messages.specs.Message.{Said, one_value, all_data, all_sequences, nothing}
-use Rattle.amqp_messages.specs.Sections.{taken, held, section, sections, one_or_nothing, value_or, sequences_or, sequences_in, data_or, body_in}
+use Rattle.amqp_messages.specs.Sections.{taken, held, section, sections, value_or, sequences_or, data_or, body_in}
 use Rattle.amqp_messages.specs.Reading.{head_in, about_in, rest_in, whole, message_in}
 use Rattle.amqp_messages.specs.Writing.{◌&◌, present, each, head_items, about_items, body_items, rest_items, message_items, IsMessageValid}
 use Rattle.amqp_messages.proofs.Taken.{sections_are, more}

@@ -1,7 +1,7 @@
 -- Sections taken one after another.
-use Rattle.std.proofs.Common.{◌≡◌, ℕ, ◌++◌, ◌∷◌, [], List, Bool, true, false, refl, sym, ap, subst, ◌∙◌, append_assoc, append-nil, cond}
-use Rattle.std.specs.Prelude.{Option, Some, None, Result, Err}
-use Rattle.amqp_data.specs.Data.{Amqp, Items, Scalar, scalar, list, dict, array, described, no_items, item}
+use Rattle.std.proofs.Common.{◌≡◌, ◌++◌, ◌∷◌, [], List, Bool, true, false, refl, sym, ap, ◌∙◌, append_assoc, append-nil, cond}
+use Rattle.std.specs.Prelude.{Option, Some, None, Err}
+use Rattle.amqp_data.specs.Data.{Amqp, Items, scalar, list, dict, array, described, no_items, item}
 use Rattle.amqp_fields.specs.declared.error.BaseError.{BaseError}
 use Rattle.amqp_fields.specs.declared.error.BaseError.TheVariants as errors
 use Rattle.amqp_fields.specs.Fields.{◌>>=◌, Gives}
