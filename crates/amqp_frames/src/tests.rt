@@ -15,7 +15,7 @@ const OPEN: &[u8] =
     b"\x00\x53\x10\xc0\x1c\x05\xa1\x041234\xa1\x09127.0.0.1\x70\x00\x00\x03\xe8\x60\x00\x09\x52\x05";
 
 /// What frames of one connection held.
-const BODIES: &[&[u8]] = &[
+const BODIES: [&[u8]; 13] = [
     b"\x00\x53\x10\xc0\x0d\x04\xa1\x01\x63\x40\x70\x00\x04\x00\x00\x60\x00\xff",
     b"\x00\x53\x10\xc0\x0d\x04\xa1\x01\x6c\x40\x70\x00\x04\x00\x00\x60\x00\xff",
     b"\x00\x53\x11\xc0\x0f\x05\x40\x43\x70\x00\x00\x08\x00\x70\x00\x00\x08\x00\x52\xff",
@@ -32,7 +32,7 @@ const BODIES: &[&[u8]] = &[
 ];
 
 /// What frames of one SASL dialog held.
-const SASL_BODIES: &[&[u8]] = &[
+const SASL_BODIES: [&[u8]; 5] = [
     b"\x00\x53\x40\xc0\x13\x01\xe0\x10\x01\xa3\x0dSCRAM-SHA-256",
     b"\x00\x53\x41\xc0\x32\x02\xa3\x0dSCRAM-SHA-256\xa0\x20n,,n=user,r=rOprNGfwEbeRWgbNEkqO",
     b"\x00\x53\x42\xc0\x59\x01\xa0\x56r=rOprNGfwEbeRWgbNEkqO%hvYDpWUa2RaTCAfuxFIlj)hNlF$k0,s=W22ZaJ0SNY7soEsUEjb6gQ==,i=4096",
@@ -41,7 +41,7 @@ const SASL_BODIES: &[&[u8]] = &[
 ];
 
 /// Other spellings of bodies: the longer number of the descriptor, its name, a null at the end, the longer list.
-const OTHER_SPELLINGS: &[(&[u8], &[u8])] = &[
+const OTHER_SPELLINGS: [(&[u8], &[u8]); 4] = [
     (
         b"\x00\x80\x00\x00\x00\x00\x00\x00\x00\x18\x45",
         b"\x00\x53\x18\x45",
@@ -55,7 +55,7 @@ const OTHER_SPELLINGS: &[(&[u8], &[u8])] = &[
 ];
 
 /// Bytes behind a Detach, a field too many, a body of SASL, no descriptor, a part of a body, an unknown descriptor.
-const REFUSED: &[&[u8]] = &[
+const REFUSED: [&[u8]; 6] = [
     b"\x00\x53\x16\xc0\x03\x02\x43\x41\x00",
     b"\x00\x53\x18\xc0\x03\x02\x40\x40",
     b"\x00\x53\x44\xc0\x03\x01\x50\x00",
@@ -65,7 +65,7 @@ const REFUSED: &[&[u8]] = &[
 ];
 
 /// A performative, a byte behind the body, nothing, an unknown code.
-const SASL_REFUSED: &[&[u8]] = &[
+const SASL_REFUSED: [&[u8]; 4] = [
     b"\x00\x53\x17\x45",
     b"\x00\x53\x44\xc0\x03\x01\x50\x00\x00",
     b"",
@@ -104,10 +104,10 @@ fn is_again(alloc: Global, bytes: &[u8], canonical: &[u8]) -> Result<bool, BaseE
 #[test]
 fn bodies(rt: HostRuntime) -> Result<(), Fail> {
     for bytes in BODIES {
-        assert!(rt; is_again(rt.alloc(), bytes, bytes)?, "{bytes:?}");
+        assert!(rt; is_again(rt.alloc(), bytes, bytes)?);
     }
     for (bytes, canonical) in OTHER_SPELLINGS {
-        assert!(rt; is_again(rt.alloc(), bytes, canonical)?, "{bytes:?}");
+        assert!(rt; is_again(rt.alloc(), bytes, canonical)?);
     }
     Ok(())
 }
@@ -121,7 +121,7 @@ fn is_sasl_again(alloc: Global, bytes: &[u8]) -> Result<bool, BaseError> {
 #[test]
 fn sasl_bodies(rt: HostRuntime) -> Result<(), Fail> {
     for bytes in SASL_BODIES {
-        assert!(rt; is_sasl_again(rt.alloc(), bytes)?, "{bytes:?}");
+        assert!(rt; is_sasl_again(rt.alloc(), bytes)?);
     }
     Ok(())
 }
@@ -137,43 +137,48 @@ fn is_sasl_refused(alloc: Global, bytes: &[u8]) -> bool {
 #[test]
 fn refused(rt: HostRuntime) -> Result<(), Fail> {
     for bytes in REFUSED {
-        assert!(rt; is_refused(rt.alloc(), bytes), "{bytes:?}");
+        assert!(rt; is_refused(rt.alloc(), bytes));
     }
     for bytes in SASL_REFUSED {
-        assert!(rt; is_sasl_refused(rt.alloc(), bytes), "{bytes:?}");
+        assert!(rt; is_sasl_refused(rt.alloc(), bytes));
     }
     Ok(())
+}
+
+fn is_hello(body: &FrameBody) -> bool {
+    match body {
+        FrameBody::Transfer(transfer, payload) => {
+            transfer.handle == 7 && payload.as_slice() == b"hello".as_slice()
+        }
+        _ => false,
+    }
 }
 
 #[test]
 fn payload(rt: HostRuntime) -> Result<(), Fail> {
-    let bytes = b"\x00\x53\x14\xc0\x03\x01\x52\x07hello";
-    let body = decode_body(rt.alloc(), bytes)?;
-    let FrameBody::Transfer(transfer, payload) = body else {
-        return Err(Fail::from("a Transfer is read as something else"));
-    };
-    assert_eq!(rt; transfer.handle, 7);
-    assert!(rt; payload.as_slice() == b"hello".as_slice());
+    let body = decode_body(rt.alloc(), b"\x00\x53\x14\xc0\x03\x01\x52\x07hello")?;
+    assert!(rt; is_hello(&body));
     Ok(())
 }
 
-#[test]
-fn session_frames(rt: HostRuntime) -> Result<(), Fail> {
-    let Ok(frame) = SessionFrame::new(3, FrameBody::End(End { error: None })) else {
-        return Err(Fail::from("an End is refused"));
-    };
-    assert_eq!(rt; frame.channel(), 3);
-    assert!(rt; matches!(frame.body(), FrameBody::End(_)));
+fn is_end(body: &FrameBody) -> bool {
+    matches!(body, FrameBody::End(_))
+}
+
+/// The channel of a frame with that body, and whether the body is an End, lent and taken out.
+fn frame_parts(channel: u16, body: FrameBody) -> Option<(u16, bool, u16, bool)> {
+    let frame = SessionFrame::new(channel, body).ok()?;
+    let seen = frame.channel();
+    let lent = is_end(frame.body());
     let (channel, body) = frame.into_parts();
-    assert_eq!(rt; channel, 3);
-    assert!(rt; matches!(body, FrameBody::End(_)));
-    assert!(rt;
-        matches!(
-            SessionFrame::new(3, FrameBody::Empty),
-            Err(FrameBody::Empty)
-        )
-    );
-    Ok(())
+    Some((seen, lent, channel, is_end(&body)))
+}
+
+#[test]
+fn session_frames(rt: HostRuntime) {
+    let end = FrameBody::End(End { error: None });
+    assert!(rt; frame_parts(3, end) == Some((3, true, 3, true)));
+    assert!(rt; frame_parts(3, FrameBody::Empty).is_none());
 }
 
 #[test]
