@@ -1,9 +1,8 @@
 -- What the bytes of a SASL frame's body say.
-use Rattle.std.proofs.Common.{◌≡◌, ℕ, ◌<◌, ◌≤◌, List, length, take, refl, sym, ap, subst, ◌∙◌, arith}
+use Rattle.std.proofs.Common.{◌≡◌, ℕ, ◌<◌, ◌≤◌, List, length, take, sym, ap, subst, ◌∙◌, arith}
 use Rattle.std.proofs.lemmas.List.{take_all}
 use Rattle.std.proofs.lemmas.Option.{none-some, same_Some}
-use Rattle.std.specs.Prelude.{Option, Some, None, Result, Ok, Err}
-use Rattle.amqp_data.specs.Data.{Amqp, depth}
+use Rattle.std.specs.Prelude.{Some, Result, Ok, Err}
 use Rattle.amqp_data.specs.View.{view}
 use Rattle.amqp_data.specs.declared.value.Value.{Value}
 use Rattle.amqp_value.specs.Grammar.{Spells}

@@ -1,9 +1,9 @@
 -- What was written of a list of fields is read again.
-use Rattle.std.proofs.Common.{◌≡◌, ℕ, ◌≤◌, List, [], ◌++◌, refl, sym, ap, subst, ◌∙◌, arith}
+use Rattle.std.proofs.Common.{◌≡◌, ℕ, ◌≤◌, List, [], ◌++◌, sym, ap, subst, ◌∙◌, arith}
 use Rattle.std.proofs.lemmas.List.{append-nil}
-use Rattle.std.specs.Prelude.{Option, Some, Result, Ok, Err, IfOk, OnOk}
-use Rattle.amqp_data.specs.Data.{Amqp, Items, list, no_items, item, items_depth, depth}
-use Rattle.amqp_value.specs.Canonical.{canonical, canonical_items, IsSized, AreSized}
+use Rattle.std.specs.Prelude.{Some, Result, Ok, Err, IfOk, OnOk}
+use Rattle.amqp_data.specs.Data.{Amqp, Items, list, no_items, item, items_depth}
+use Rattle.amqp_value.specs.Canonical.{canonical, canonical_items, AreSized}
 use Rattle.amqp_value.specs.Grammar.{Spells}
 use Rattle.amqp_fields.specs.declared.error.BaseError.{BaseError}
 use Rattle.amqp_fields.specs.declared.error.BaseError.TheVariants as errors
@@ -15,7 +15,7 @@ use Rattle.amqp_composites.specs.declared.sasl_body.SaslBody.{SaslBody}
 use Rattle.amqp_composites.specs.Described.{composite}
 use Rattle.amqp_composites.specs.Kind.{number_of}
 use Rattle.amqp_composites.specs.Performative.{performative_in, kind_of_performative, performative_fields, IsPerformativeValid, read_again, performative_again}
-use Rattle.amqp_composites.specs.SaslBody.{sasl_body_in, kind_of_sasl_body, sasl_body_fields, IsSaslBodyValid, of_sasl_body, sasl_body_again}
+use Rattle.amqp_composites.specs.SaslBody.{sasl_body_in, kind_of_sasl_body, sasl_body_fields, IsSaslBodyValid, sasl_body_again}
 use Rattle.amqp_frames.specs.declared.body.FrameBody.{FrameBody}
 use Rattle.amqp_frames.specs.Body.{framed, SpellsBody, performative'}
 use Rattle.amqp_frames.specs.Fields.{Put, Puts}

@@ -1,4 +1,4 @@
-use Rattle.std.proofs.Common.{[], refl, ap, subst, List, ℕ}
+use Rattle.std.proofs.Common.{[], refl, subst}
 use Rattle.amqp_composites.specs.declared.kind.CompositeKind.{CompositeKind}
 use Rattle.amqp_composites.specs.Kind.{number_of}
 use Rattle.amqp_composites.specs.SaslBody.{kind_of_sasl_body, sasl_body_fields, of_sasl_body}
