@@ -27,7 +27,3 @@ list_in v = None
 
 abbrev pub of_list : Items → Amqp
 of_list vs = list vs
-
--- any value
-abbrev pub value_in : Amqp → Option Amqp
-value_in v = Some v

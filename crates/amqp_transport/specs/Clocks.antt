@@ -1,5 +1,5 @@
 -- The idle time of an end and the heartbeat for its peer's (OASIS AMQP 1.0, part 2, section 2.4.5).
-use Rattle.std.specs.Prelude.{◌≡◌, ℕ, ◌+◌, ◌-◌, ◌*◌, ◌/◌, ◌<◌, ◌≤◌, Option, Some, None}
+use Rattle.std.specs.Prelude.{ℕ, ◌+◌, ◌-◌, ◌/◌, ◌<◌, ◌≤◌, Option, Some, None}
 use Rattle.amqp_transport.specs.declared.idle_clock.IdleClock.{IdleClock}
 use Rattle.amqp_transport.specs.declared.heart_beat.HeartBeat.{HeartBeat}
 
