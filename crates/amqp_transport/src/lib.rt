@@ -1,13 +1,23 @@
-//! What a transport keeps beside its frames: protocol headers (OASIS AMQP 1.0, part 2, section 2.2), the idle time of what is
-//! read and the heartbeat of what is written (section 2.4.5). Moments and times are in milliseconds, and are given by the caller.
+//! Frames over a link: transports, the exchange of protocol headers (OASIS AMQP 1.0, part 2, sections 2.2 and 2.3), the idle
+//! time of what is read and the heartbeat of what is written (section 2.4.5). Moments and times are in milliseconds, and are given
+//! by the caller.
 #![tactic(auto)]
 
+pub use codec::FramedCodec;
 pub use header::{ProtocolHeader, ProtocolId};
 pub use heart_beat::HeartBeat;
 pub use idle_clock::IdleClock;
+pub use negotiating::{Negotiated, Negotiating};
+pub use transport::{Error, Flush, Next, Transport};
 
+pub mod codec;
 pub mod header;
 pub mod heart_beat;
 pub mod idle_clock;
+mod inbox;
+pub mod kind;
+pub mod laws;
+pub mod negotiating;
 #[cfg(test)]
 mod tests;
+pub mod transport;

@@ -1,0 +1,43 @@
+-- The frames that bytes carry.
+use Rattle.std.specs.Prelude.{◌≡◌, ◌<◌, ◌≤◌, ◌⊎◌, ℕ, List, [], ◌∷◌, ◌++◌, length, drop, flat_map, Option, Some, None, Result, Ok, Err}
+use Rattle.amqp_wire.specs.Size.{size_of}
+use Rattle.amqp_wire.specs.Frame.{HasBody, frame_of}
+use Rattle.amqp_wire.specs.declared.link.Link.{Ghosts}
+use Rattle.amqp_transport.specs.declared.transport.Error.{Error}
+use Rattle.amqp_transport.specs.declared.transport.Next.{Next}
+use Rattle.amqp_transport.specs.declared.transport.Next.TheVariants.{Frame, Pending, Ended}
+use Rattle.amqp_wire.specs.Steps.{Gave}
+use Rattle.amqp_transport.specs.Wire.{Wire}
+
+-- bytes that are one frame, whose body spells x
+pub record IsFrame {X : Type 0} (kind : ℕ) (spells : ℕ → List ℕ → X → Type 0) (piece : List ℕ) (x : X) : Type 0 where
+  pub start : ℕ
+  pub channel : ℕ
+  pub body : HasBody kind (length piece) piece (length piece) start channel
+  pub spelled : spells channel (drop start piece) x
+
+-- the bytes are these frames one after another, and then a rest
+abbrev pub Joined : {X : Type 0} → ℕ → (ℕ → List ℕ → X → Type 0) → List ℕ → List X → List ℕ → Type 0
+Joined kind spells bytes [] rest = bytes ≡ rest
+Joined kind spells bytes (x ∷ xs) rest = (piece : List ℕ) × (more : List ℕ) × (bytes ≡ piece ++ more) × IsFrame kind spells piece x × Joined kind spells more xs rest
+
+-- a rest that is no whole frame
+abbrev pub IsPart : List ℕ → Type 0
+IsPart bytes = (length bytes < 4) ⊎ (length bytes < size_of bytes)
+
+abbrev pub frames_of : {X : Type 0} → Result (Next X) Error → List X
+frames_of (Ok (Frame x)) = x ∷ []
+frames_of (Ok Pending) = []
+frames_of (Ok Ended) = []
+frames_of (Err e) = []
+
+-- Bytes came in and at most one frame went out, so that the frames so far, joined with what is left, are the bytes so far.
+pub record Grew {L X : Type 0} (link : Ghosts L) (kind : ℕ) (spells : ℕ → List ℕ → X → Type 0) (old : Wire L) (result : Result (Next X) Error) (new : Wire L) : Type 0 where
+  pub bytes : List ℕ
+  pub gave : Gave link old.codec.link bytes new.codec.link
+  pub output : new.codec.output ≡ old.codec.output
+  pub grows : (read : List ℕ) (frames : List X) → Joined kind spells read frames old.codec.input → Joined kind spells (read ++ bytes) (frames ++ frames_of result) new.codec.input
+
+-- the frames that are written
+abbrev pub stream_of : {X : Type 0} → ℕ → (X → List ℕ) → (X → ℕ) → List X → List ℕ
+stream_of kind canonical channel xs = flat_map (λ x. frame_of kind (channel x) (canonical x)) xs

@@ -1,0 +1,92 @@
+//! The exchange of protocol headers (OASIS AMQP 1.0, part 2, section 2.2).
+ghost use Rattle.std.specs.Prelude.{◌≡◌, ◌++◌, ◌≤◌, length, Ok, Err, IfOk, IfErr, IsErr};
+ghost use Rattle.std.specs.Borrow.{Lends, sem};
+ghost use Rattle.amqp_transport.specs.contracts.negotiating.Negotiating.{the_row};
+ghost use Rattle.amqp_transport.specs.Exchange.{HeaderPolled, Exchanged, started};
+
+use crate::codec::{FramedCodec, HeaderRead};
+use crate::transport::Error;
+use amqp_wire::link::{Held, IoKind, Link, Stop};
+use std::alloc::AllocError;
+use std::marker::Model;
+
+/// What a poll of the exchange gives.
+#[derive(Clone, Copy, Debug, PartialEq, Eq)]
+pub enum Negotiated {
+    /// Not all is written, or fewer than eight bytes are there.
+    Pending,
+    /// The eight bytes that were read.
+    Header([u8; 8]),
+}
+
+/// A codec whose header is to be written and whose peer's header is to be read.
+#[derive(Drop)]
+pub struct Negotiating<L: Link> {
+    codec: FramedCodec<L>,
+}
+
+impl<L: Link> Model for Negotiating<L> {
+    ghost use Rattle.amqp_transport.specs.Codec.{Codec};
+
+    ghost Value = { Codec L };
+
+    ghost view = { λ n. n.codec };
+}
+
+/// Queues the header. A refusal hands the codec back as it was.
+pub fn negotiate<L: Link>(
+    mut codec: FramedCodec<L>,
+    header: [u8; 8],
+) -> Result<Negotiating<L>, (AllocError, FramedCodec<L>)>
+    ensures ok { IfOk result (λ n. n ≡ started codec header) }
+    ensures err { IfErr result (λ e. e.1 ≡ codec) }
+{
+    match codec.queue_bytes(header.as_slice()) {
+        Ok(()) => {
+            codec.set_decoder_max_frame_size(512);
+            codec.set_encoder_max_frame_size(512);
+            Ok(Negotiating { codec })
+        }
+        Err(e) => Err((e, codec)),
+    }
+}
+
+impl<L: Link> Negotiating<L> {
+    fn read(&mut self) -> Result<Negotiated, Error>
+        ensures { HeaderPolled L.Link self.old result self.new }
+    {
+        match self.codec.read_header()? {
+            HeaderRead::Header(header) => Ok(Negotiated::Header(header)),
+            HeaderRead::Stopped(Stop::Empty) => Ok(Negotiated::Pending),
+            HeaderRead::Stopped(Stop::End) => Err(Error::Io(IoKind::End)),
+            HeaderRead::Stopped(Stop::Failed) => Err(Error::Io(IoKind::Fault)),
+        }
+    }
+
+    /// Writes the header, and then waits for eight bytes.
+    pub fn poll(&mut self) -> Result<Negotiated, Error>
+        ensures { Exchanged L.Link self.old result self.new }
+    {
+        match self.codec.flush() {
+            None => self.read(),
+            Some(Held::Full) => Ok(Negotiated::Pending),
+            Some(Held::Failed) => Err(Error::Io(IoKind::Fault)),
+            Some(Held::Memory) => Err(Error::Memory(AllocError)),
+        }
+    }
+
+    /// The codec, with all that was read behind the header.
+    pub fn into_framed_codec(self) -> FramedCodec<L>
+        ensures { result ≡ self }
+    {
+        self.codec
+    }
+
+    /// The link.
+    pub fn link(&mut self) -> &mut L
+        ensures* writes_back { sem 𝓛 (Lends (the_row L.row L.Link) L.row self.entry result (λ w. record self.old { link = w })) }
+        ensures value { result.now ≡ self.old.link }
+    {
+        self.codec.link()
+    }
+}

@@ -1,0 +1,285 @@
+//! Frames of one kind over a link, with an idle clock (OASIS AMQP 1.0, part 2, sections 2.3 and 2.4.5).
+ghost use Rattle.std.specs.Prelude.{◌≡◌, ◌<◌, ◌≤◌, ◌==◌, ◌+◌, ◌-◌, ◌++◌, ◌^◌, ℕ, [], length, take, drop, max, Ok, Err, Some, None, OnOk, OnErr, IfOk, IsErrOf, IfNone, IfSome, IsTrue, ◌↔◌};
+ghost use Rattle.std.specs.Borrow.{Lends, sem};
+ghost use Rattle.amqp_transport.specs.contracts.transport.Transport.{the_row};
+ghost use Rattle.amqp_wire.specs.Frame.{IsFront, frame_of};
+ghost use Rattle.amqp_transport.specs.Codec.{Codec, FedTo, IsWanted, Flushed};
+ghost use Rattle.amqp_transport.specs.Stream.{Grew};
+ghost use Rattle.amqp_transport.specs.Wire.{Wire, Polled, Answered, idle_of, FlushedTo, StartedSend};
+
+use crate::codec::{Arrival, FramedCodec};
+use crate::idle_clock::IdleClock;
+use crate::kind::FrameKind;
+use amqp_fields::BaseError;
+use amqp_wire::frame::Front;
+use amqp_wire::link::{Held, IoKind, Link, Stop};
+use std::alloc::{AllocError, Global};
+use std::marker::{Model, PhantomData};
+use thiserror::Error as ErrorDerive;
+
+/// Why a transport gives no frame, or takes none.
+#[derive(Clone, Copy, Debug, PartialEq, Eq, ErrorDerive)]
+pub enum Error {
+    /// There was not enough memory.
+    #[error("Memory")]
+    Memory(AllocError),
+    /// The link failed, or its input ended inside a frame.
+    #[error("Io")]
+    Io(IoKind),
+    /// No frame came for the idle time.
+    #[error("IdleTimeoutElapsed")]
+    IdleTimeoutElapsed,
+    /// The body of a frame spells nothing that such a frame may hold.
+    #[error("DecodeError")]
+    DecodeError,
+    /// A frame of another type came.
+    #[error("NotImplemented")]
+    NotImplemented,
+    /// A frame is too large or too small, or its body begins at no place in it.
+    #[error("FramingError")]
+    FramingError,
+}
+
+impl From<AllocError> for Error {
+    ghost use Rattle.std.specs.Prelude.{◌≡◌};
+    ghost use Rattle.amqp_transport.specs.declared.transport.Error.TheVariants.{Memory};
+
+    ghost from_gives = { λ a e. e ≡ Memory a };
+
+    fn from(error: AllocError) -> Self {
+        Error::Memory(error)
+    }
+}
+
+/// What a poll gives.
+#[derive(Debug, Drop)]
+pub enum Next<T> {
+    /// A frame.
+    Frame(T),
+    /// No whole frame is there now.
+    Pending,
+    /// The input ended between two frames.
+    Ended,
+}
+
+/// How a flush ends.
+#[derive(Clone, Copy, Debug, PartialEq, Eq)]
+pub enum Flush {
+    /// All is written.
+    Empty,
+    /// The link takes nothing more now.
+    Full,
+}
+
+/// Frames of one kind over a link; an error of reading is answered again.
+#[derive(Drop)]
+pub struct Transport<L: Link, F: FrameKind> {
+    codec: FramedCodec<L>,
+    clock: IdleClock,
+    kept: Option<Error>,
+    kind: PhantomData<F>,
+}
+
+impl<L: Link, F: FrameKind> Model for Transport<L, F> {
+    ghost use Rattle.amqp_transport.specs.Wire.{Wire};
+
+    ghost Value = { Wire L };
+
+    ghost view = { λ t. record { codec = t.codec; clock = t.clock; kept = t.kept } };
+}
+
+impl<L: Link, F: FrameKind> Transport<L, F> {
+    /// Frames over the link, at most so many bytes each, at least 512; an idle time of 0 is none. Times are in milliseconds.
+    pub fn bind(
+        alloc: Global,
+        link: L,
+        max_frame_size: usize,
+        idle_timeout: Option<u64>,
+        at: u64,
+    ) -> Self
+        requires { 512 ≤ max_frame_size }
+        ensures codec { result.codec ≡ record { link = link; input = []; output = []; decoder = max_frame_size; encoder = max_frame_size } }
+        ensures clock { result.clock ≡ record { idle = idle_of idle_timeout; since = at } }
+        ensures kept { result.kept ≡ None }
+    {
+        let codec = FramedCodec::new(alloc, link, max_frame_size, max_frame_size);
+        Transport::bind_to_framed_codec(codec, idle_timeout, at)
+    }
+
+    /// Frames over the codec; nothing that was read is lost.
+    pub fn bind_to_framed_codec(codec: FramedCodec<L>, idle_timeout: Option<u64>, at: u64) -> Self
+        ensures codec { result.codec ≡ codec }
+        ensures clock { result.clock ≡ record { idle = idle_of idle_timeout; since = at } }
+        ensures kept { result.kept ≡ None }
+    {
+        Transport {
+            codec,
+            clock: IdleClock::new(idle_timeout.unwrap_or(0), at),
+            kept: None,
+            kind: PhantomData,
+        }
+    }
+
+    /// The codec, with all that was read and not given.
+    pub fn into_framed_codec(self) -> FramedCodec<L>
+        ensures { result ≡ self.codec }
+    {
+        self.codec
+    }
+
+    /// The link.
+    pub fn link(&mut self) -> &mut L
+        ensures* writes_back { sem 𝓛 (Lends (the_row L.row F.row F.Item.row L.Link F.FrameKind) L.row self.entry result (λ w. record self.old { codec = record self.old.codec { link = w } })) }
+        ensures value { result.now ≡ self.old.codec.link }
+    {
+        self.codec.link()
+    }
+
+    fn keep(&mut self, error: Error) -> Error
+        ensures value { result ≡ error }
+        ensures kept { self.new ≡ record self.old { kept = Some error } }
+    {
+        self.kept = Some(error);
+        error
+    }
+
+    /// What the bytes that are there give.
+    fn answer(&mut self, at: u64, arrival: Arrival) -> Result<Next<F::Item>, Error>
+        requires front { IsFront F.TYPE self.old.codec.decoder self.old.codec.input arrival.front }
+        requires wanted { IsWanted arrival.front arrival.stop }
+        ensures { Answered F.spells arrival.front arrival.stop at self.old result self.new }
+    {
+        match arrival.front {
+            Front::Whole {
+                size,
+                start,
+                channel,
+            } => {
+                match self.codec.give::<F>(size, start, channel) {
+                    Ok(item) => {
+                        self.clock.restart(at);
+                        Ok(Next::Frame(item))
+                    }
+                    Err(BaseError::Memory(error)) => Err(Error::Memory(error)),
+                    Err(_) => Err(self.keep(Error::DecodeError)),
+                }
+            }
+            Front::Refused => Err(self.keep(Error::FramingError)),
+            Front::Foreign => Err(self.keep(Error::NotImplemented)),
+            Front::Partial => match arrival.stop {
+                Some(Stop::End) => {
+                    if self.codec.is_drained() {
+                        return Ok(Next::Ended);
+                    }
+                    Err(self.keep(Error::Io(IoKind::End)))
+                }
+                Some(Stop::Empty) => {
+                    if self.clock.has_elapsed(at) {
+                        return Err(self.keep(Error::IdleTimeoutElapsed));
+                    }
+                    Ok(Next::Pending)
+                }
+                Some(Stop::Failed) => {
+                    if self.clock.has_elapsed(at) {
+                        return Err(self.keep(Error::IdleTimeoutElapsed));
+                    }
+                    Err(self.keep(Error::Io(IoKind::Fault)))
+                }
+                None => unreachable!(),
+            },
+        }
+    }
+
+    /// At most one frame.
+    pub fn poll_next(&mut self, at: u64) -> Result<Next<F::Item>, Error>
+        ensures answer { Polled L.Link F.TYPE F.spells self.old at result self.new }
+        ensures joined { Grew L.Link F.TYPE F.spells self.old result self.new }
+    {
+        self.poll_once(at)
+    }
+
+    fn poll_once(&mut self, at: u64) -> Result<Next<F::Item>, Error>
+        ensures { Polled L.Link F.TYPE F.spells self.old at result self.new }
+    {
+        match self.kept {
+            Some(kept) => Err(kept),
+            None => {
+                let arrival = self.codec.advance(F::TYPE)?;
+                self.answer(at, arrival)
+            }
+        }
+    }
+
+    /// Queues the whole frame, or nothing.
+    pub fn start_send(&mut self, alloc: Global, item: &F::Item) -> Result<(), Error>
+        ensures { StartedSend F.TYPE F.canonical F.channel_of F.is_oversized self.old item.now result self.new }
+    {
+        match F::encode(alloc, item) {
+            Ok(body) => {
+                if body.bytes.len() > self.codec.encoder_max_frame_size() - 8
+                    || body.bytes.len() > 4294967287
+                {
+                    return Err(Error::FramingError);
+                }
+                self.codec
+                    .queue(F::TYPE, body.channel, body.bytes.as_slice())?;
+                Ok(())
+            }
+            Err(BaseError::Memory(error)) => Err(Error::Memory(error)),
+            Err(_) => Err(Error::FramingError),
+        }
+    }
+
+    /// Writes until nothing is left, or the link takes nothing; what was not taken stays queued.
+    pub fn poll_flush(&mut self) -> Result<Flush, Error>
+        ensures { FlushedTo L.Link self.old result self.new }
+    {
+        match self.codec.flush() {
+            None => Ok(Flush::Empty),
+            Some(Held::Full) => Ok(Flush::Full),
+            Some(Held::Failed) => Err(Error::Io(IoKind::Fault)),
+            Some(Held::Memory) => Err(Error::Memory(AllocError)),
+        }
+    }
+
+    /// The same; a link has no end of its own.
+    pub fn poll_close(&mut self) -> Result<Flush, Error>
+        ensures { FlushedTo L.Link self.old result self.new }
+    {
+        self.poll_flush()
+    }
+
+    /// Frames that are read may have so many bytes, at least 512.
+    pub fn set_decoder_max_frame_size(&mut self, size: usize) -> &mut Self
+        ensures same { result.ghost_name ≡ self.entry.ghost_name }
+        ensures value { result.now ≡ record self.old { codec = record self.old.codec { decoder = max 512 size } } }
+    {
+        self.codec.set_decoder_max_frame_size(size);
+        self
+    }
+
+    /// Frames that are written may have so many bytes, at least 512.
+    pub fn set_encoder_max_frame_size(&mut self, size: usize) -> &mut Self
+        ensures same { result.ghost_name ≡ self.entry.ghost_name }
+        ensures value { result.now ≡ record self.old { codec = record self.old.codec { encoder = max 512 size } } }
+    {
+        self.codec.set_encoder_max_frame_size(size);
+        self
+    }
+
+    /// The most bytes of a frame that is written, less 4.
+    pub fn encoder_max_frame_size(&self) -> usize
+        ensures { result ≡ self.now.codec.encoder - 4 }
+    {
+        self.codec.encoder_max_frame_size() - 4
+    }
+
+    /// Another idle time, in milliseconds, which starts at that moment; 0 is none.
+    pub fn set_idle_timeout(&mut self, duration: u64, at: u64) -> &mut Self
+        ensures same { result.ghost_name ≡ self.entry.ghost_name }
+        ensures value { result.now ≡ record self.old { clock = record { idle = duration; since = at } } }
+    {
+        self.clock = IdleClock::new(duration, at);
+        self
+    }
+}
