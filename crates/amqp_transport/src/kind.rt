@@ -51,7 +51,4 @@ pub trait FrameKind {
         ensures spelled { IfOk result (λ b. spells b.channel b.bytes (again item.now)) }
         ensures size { IsErrOf result BaseError.Size → is_oversized item.now }
         ensures decode { IsErrOf result BaseError.Decode → ⊥ };
-
-    /// A body spells one item at most.
-    ghost one: { (c : ℕ) (bytes : List ℕ) (x y : Self.Item) → spells c bytes x → spells c bytes y → x ≡ y };
 }

@@ -4,13 +4,16 @@
 #![tactic(auto)]
 
 pub use codec::FramedCodec;
+pub use frames::{AmqpFrames, Frame, SaslFrames};
 pub use header::{ProtocolHeader, ProtocolId};
 pub use heart_beat::HeartBeat;
 pub use idle_clock::IdleClock;
+pub use kind::FrameKind;
 pub use negotiating::{Negotiated, Negotiating};
 pub use transport::{Error, Flush, Next, Transport};
 
 pub mod codec;
+pub mod frames;
 pub mod header;
 pub mod heart_beat;
 pub mod idle_clock;
