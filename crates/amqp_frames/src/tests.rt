@@ -101,14 +101,33 @@ fn is_again(alloc: Global, bytes: &[u8], canonical: &[u8]) -> Result<bool, BaseE
     Ok(again.as_slice() == canonical)
 }
 
+fn are_again(alloc: Global, rows: &[&[u8]]) -> Result<bool, BaseError> {
+    for bytes in rows {
+        if !is_again(alloc, bytes, bytes)? {
+            return Ok(false);
+        }
+    }
+    Ok(true)
+}
+
 #[test]
 fn bodies(rt: HostRuntime) -> Result<(), Fail> {
-    for bytes in BODIES {
-        assert!(rt; is_again(rt.alloc(), bytes, bytes)?);
+    assert!(rt; are_again(rt.alloc(), &BODIES)?);
+    Ok(())
+}
+
+fn are_read(alloc: Global, rows: &[(&[u8], &[u8])]) -> Result<bool, BaseError> {
+    for (bytes, canonical) in rows {
+        if !is_again(alloc, bytes, canonical)? {
+            return Ok(false);
+        }
     }
-    for (bytes, canonical) in OTHER_SPELLINGS {
-        assert!(rt; is_again(rt.alloc(), bytes, canonical)?);
-    }
+    Ok(true)
+}
+
+#[test]
+fn other_spellings(rt: HostRuntime) -> Result<(), Fail> {
+    assert!(rt; are_read(rt.alloc(), &OTHER_SPELLINGS)?);
     Ok(())
 }
 
@@ -118,11 +137,18 @@ fn is_sasl_again(alloc: Global, bytes: &[u8]) -> Result<bool, BaseError> {
     Ok(again.as_slice() == bytes)
 }
 
+fn are_sasl_again(alloc: Global, rows: &[&[u8]]) -> Result<bool, BaseError> {
+    for bytes in rows {
+        if !is_sasl_again(alloc, bytes)? {
+            return Ok(false);
+        }
+    }
+    Ok(true)
+}
+
 #[test]
 fn sasl_bodies(rt: HostRuntime) -> Result<(), Fail> {
-    for bytes in SASL_BODIES {
-        assert!(rt; is_sasl_again(rt.alloc(), bytes)?);
-    }
+    assert!(rt; are_sasl_again(rt.alloc(), &SASL_BODIES)?);
     Ok(())
 }
 
@@ -135,14 +161,14 @@ fn is_sasl_refused(alloc: Global, bytes: &[u8]) -> bool {
 }
 
 #[test]
-fn refused(rt: HostRuntime) -> Result<(), Fail> {
-    for bytes in REFUSED {
-        assert!(rt; is_refused(rt.alloc(), bytes));
-    }
-    for bytes in SASL_REFUSED {
-        assert!(rt; is_sasl_refused(rt.alloc(), bytes));
-    }
-    Ok(())
+fn refused(rt: HostRuntime) {
+    let alloc = rt.alloc();
+    assert!(rt; REFUSED.iter().all(|bytes| is_refused(alloc, bytes)));
+    assert!(rt;
+        SASL_REFUSED
+            .iter()
+            .all(|bytes| is_sasl_refused(alloc, bytes))
+    );
 }
 
 fn is_hello(body: &FrameBody) -> bool {
