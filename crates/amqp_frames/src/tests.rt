@@ -5,7 +5,8 @@ use crate::shared::{AllocLinkError, SessionFrame};
 use crate::writing::encode_body;
 use amqp_composites::end::End;
 use amqp_composites::open::Open;
-use amqp_data::Text;
+use amqp_composites::sasl_body::SaslBody;
+use amqp_data::{Binary, Text};
 use amqp_fields::BaseError;
 use std::alloc::{AllocError, Global};
 use std::test::Fail;
@@ -87,17 +88,22 @@ fn open(alloc: Global) -> Result<Open, AllocError> {
     })
 }
 
+fn written(alloc: Global, body: FrameBody) -> Result<Binary, BaseError> {
+    encode_body(alloc, &body)
+}
+
 #[test]
 fn an_open(rt: HostRuntime) -> Result<(), Fail> {
-    let body = FrameBody::Open(open(rt.alloc())?);
-    assert_eq!(rt; encode_body(rt.alloc(), &body)?.as_slice(), OPEN);
+    let open = open(rt.alloc())?;
+    let bytes = written(rt.alloc(), FrameBody::Open(open))?;
+    assert!(rt; bytes.as_slice() == OPEN);
     Ok(())
 }
 
 /// Whether the body is written again as those bytes.
 fn is_again(alloc: Global, bytes: &[u8], canonical: &[u8]) -> Result<bool, BaseError> {
     let body = decode_body(alloc, bytes)?;
-    let again = encode_body(alloc, &body)?;
+    let again = written(alloc, body)?;
     Ok(again.as_slice() == canonical)
 }
 
@@ -131,9 +137,13 @@ fn other_spellings(rt: HostRuntime) -> Result<(), Fail> {
     Ok(())
 }
 
+fn sasl_written(alloc: Global, body: SaslBody) -> Result<Binary, BaseError> {
+    encode_sasl(alloc, &body)
+}
+
 fn is_sasl_again(alloc: Global, bytes: &[u8]) -> Result<bool, BaseError> {
     let body = decode_sasl(alloc, bytes)?;
-    let again = encode_sasl(alloc, &body)?;
+    let again = sasl_written(alloc, body)?;
     Ok(again.as_slice() == bytes)
 }
 
@@ -152,27 +162,50 @@ fn sasl_bodies(rt: HostRuntime) -> Result<(), Fail> {
     Ok(())
 }
 
+fn is_decode(error: BaseError) -> bool {
+    matches!(error, BaseError::Decode)
+}
+
 fn is_refused(alloc: Global, bytes: &[u8]) -> bool {
-    matches!(decode_body(alloc, bytes), Err(BaseError::Decode))
+    match decode_body(alloc, bytes) {
+        Ok(_) => false,
+        Err(error) => is_decode(error),
+    }
 }
 
 fn is_sasl_refused(alloc: Global, bytes: &[u8]) -> bool {
-    matches!(decode_sasl(alloc, bytes), Err(BaseError::Decode))
+    match decode_sasl(alloc, bytes) {
+        Ok(_) => false,
+        Err(error) => is_decode(error),
+    }
+}
+
+fn are_refused(alloc: Global, rows: &[&[u8]]) -> bool {
+    for bytes in rows {
+        if !is_refused(alloc, bytes) {
+            return false;
+        }
+    }
+    true
+}
+
+fn are_sasl_refused(alloc: Global, rows: &[&[u8]]) -> bool {
+    for bytes in rows {
+        if !is_sasl_refused(alloc, bytes) {
+            return false;
+        }
+    }
+    true
 }
 
 #[test]
 fn refused(rt: HostRuntime) {
-    let alloc = rt.alloc();
-    assert!(rt; REFUSED.iter().all(|bytes| is_refused(alloc, bytes)));
-    assert!(rt;
-        SASL_REFUSED
-            .iter()
-            .all(|bytes| is_sasl_refused(alloc, bytes))
-    );
+    assert!(rt; are_refused(rt.alloc(), &REFUSED));
+    assert!(rt; are_sasl_refused(rt.alloc(), &SASL_REFUSED));
 }
 
-fn is_hello(body: &FrameBody) -> bool {
-    match body {
+fn says_hello(body: FrameBody) -> bool {
+    match &body {
         FrameBody::Transfer(transfer, payload) => {
             transfer.handle == 7 && payload.as_slice() == b"hello".as_slice()
         }
@@ -183,28 +216,41 @@ fn is_hello(body: &FrameBody) -> bool {
 #[test]
 fn payload(rt: HostRuntime) -> Result<(), Fail> {
     let body = decode_body(rt.alloc(), b"\x00\x53\x14\xc0\x03\x01\x52\x07hello")?;
-    assert!(rt; is_hello(&body));
+    assert!(rt; says_hello(body));
     Ok(())
 }
 
-fn is_end(body: &FrameBody) -> bool {
-    matches!(body, FrameBody::End(_))
+fn is_end(body: FrameBody) -> bool {
+    matches!(&body, FrameBody::End(_))
 }
 
-/// The channel of a frame with that body, and whether the body is an End, lent and taken out.
-fn frame_parts(channel: u16, body: FrameBody) -> Option<(u16, bool, u16, bool)> {
-    let frame = SessionFrame::new(channel, body).ok()?;
-    let seen = frame.channel();
-    let lent = is_end(frame.body());
+fn lends_an_end(frame: &SessionFrame) -> bool {
+    frame.channel() == 3 && matches!(frame.body(), FrameBody::End(_))
+}
+
+fn gives_an_end(frame: SessionFrame) -> bool {
     let (channel, body) = frame.into_parts();
-    Some((seen, lent, channel, is_end(&body)))
+    channel == 3 && is_end(body)
+}
+
+fn makes_an_end() -> bool {
+    match SessionFrame::new(3, FrameBody::End(End { error: None })) {
+        Ok(frame) => lends_an_end(&frame) && gives_an_end(frame),
+        Err(_) => false,
+    }
+}
+
+fn takes_none() -> bool {
+    match SessionFrame::new(3, FrameBody::Empty) {
+        Ok(_) => true,
+        Err(_) => false,
+    }
 }
 
 #[test]
 fn session_frames(rt: HostRuntime) {
-    let end = FrameBody::End(End { error: None });
-    assert!(rt; frame_parts(3, end) == Some((3, true, 3, true)));
-    assert!(rt; frame_parts(3, FrameBody::Empty).is_none());
+    assert!(rt; makes_an_end());
+    assert!(rt; !takes_none());
 }
 
 #[test]
