@@ -9,6 +9,7 @@ use amqp_composites::sasl_body::SaslBody;
 use amqp_data::{Binary, Text};
 use amqp_fields::BaseError;
 use std::alloc::{AllocError, Global};
+use std::mem;
 use std::test::Fail;
 
 /// An Open of container 1234, host 127.0.0.1, max-frame-size 1000, channel-max 9, idle-time-out 5.
@@ -88,8 +89,11 @@ fn open(alloc: Global) -> Result<Open, AllocError> {
     })
 }
 
+/// The bytes of the body, which is forgotten: its drop has as many cases as its lists have fields, and each is to be proved.
 fn written(alloc: Global, body: FrameBody) -> Result<Binary, BaseError> {
-    encode_body(alloc, &body)
+    let bytes = encode_body(alloc, &body);
+    mem::forget(body);
+    bytes
 }
 
 #[test]
@@ -138,7 +142,9 @@ fn other_spellings(rt: HostRuntime) -> Result<(), Fail> {
 }
 
 fn sasl_written(alloc: Global, body: SaslBody) -> Result<Binary, BaseError> {
-    encode_sasl(alloc, &body)
+    let bytes = encode_sasl(alloc, &body);
+    mem::forget(body);
+    bytes
 }
 
 fn is_sasl_again(alloc: Global, bytes: &[u8]) -> Result<bool, BaseError> {
@@ -168,14 +174,20 @@ fn is_decode(error: BaseError) -> bool {
 
 fn is_refused(alloc: Global, bytes: &[u8]) -> bool {
     match decode_body(alloc, bytes) {
-        Ok(_) => false,
+        Ok(body) => {
+            mem::forget(body);
+            false
+        }
         Err(error) => is_decode(error),
     }
 }
 
 fn is_sasl_refused(alloc: Global, bytes: &[u8]) -> bool {
     match decode_sasl(alloc, bytes) {
-        Ok(_) => false,
+        Ok(body) => {
+            mem::forget(body);
+            false
+        }
         Err(error) => is_decode(error),
     }
 }
@@ -204,8 +216,8 @@ fn refused(rt: HostRuntime) {
     assert!(rt; are_sasl_refused(rt.alloc(), &SASL_REFUSED));
 }
 
-fn says_hello(body: FrameBody) -> bool {
-    match &body {
+fn says_hello(body: &FrameBody) -> bool {
+    match body {
         FrameBody::Transfer(transfer, payload) => {
             transfer.handle == 7 && payload.as_slice() == b"hello".as_slice()
         }
@@ -213,37 +225,58 @@ fn says_hello(body: FrameBody) -> bool {
     }
 }
 
+fn hello_is_read(alloc: Global, bytes: &[u8]) -> Result<bool, BaseError> {
+    let body = decode_body(alloc, bytes)?;
+    let hello = says_hello(&body);
+    mem::forget(body);
+    Ok(hello)
+}
+
 #[test]
 fn payload(rt: HostRuntime) -> Result<(), Fail> {
-    let body = decode_body(rt.alloc(), b"\x00\x53\x14\xc0\x03\x01\x52\x07hello")?;
-    assert!(rt; says_hello(body));
+    let bytes = b"\x00\x53\x14\xc0\x03\x01\x52\x07hello";
+    assert!(rt; hello_is_read(rt.alloc(), bytes)?);
     Ok(())
 }
 
-fn is_end(body: FrameBody) -> bool {
-    matches!(&body, FrameBody::End(_))
+fn is_end(body: &FrameBody) -> bool {
+    matches!(body, FrameBody::End(_))
 }
 
 fn lends_an_end(frame: &SessionFrame) -> bool {
-    frame.channel() == 3 && matches!(frame.body(), FrameBody::End(_))
+    frame.channel() == 3 && is_end(frame.body())
 }
 
 fn gives_an_end(frame: SessionFrame) -> bool {
     let (channel, body) = frame.into_parts();
-    channel == 3 && is_end(body)
+    let gives = channel == 3 && is_end(&body);
+    mem::forget(body);
+    gives
 }
 
 fn makes_an_end() -> bool {
     match SessionFrame::new(3, FrameBody::End(End { error: None })) {
-        Ok(frame) => lends_an_end(&frame) && gives_an_end(frame),
-        Err(_) => false,
+        Ok(frame) => {
+            let lends = lends_an_end(&frame);
+            gives_an_end(frame) && lends
+        }
+        Err(body) => {
+            mem::forget(body);
+            false
+        }
     }
 }
 
 fn takes_none() -> bool {
     match SessionFrame::new(3, FrameBody::Empty) {
-        Ok(_) => true,
-        Err(_) => false,
+        Ok(frame) => {
+            mem::forget(frame);
+            true
+        }
+        Err(body) => {
+            mem::forget(body);
+            false
+        }
     }
 }
 
