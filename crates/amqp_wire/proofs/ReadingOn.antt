@@ -4,7 +4,7 @@ use Rattle.amqp_wire.specs.declared.link.Link.{Ghosts}
 use Rattle.amqp_wire.specs.declared.link.Stop.{Stop}
 use Rattle.amqp_wire.specs.declared.reading.Wait.{Wait}
 use Rattle.amqp_wire.specs.declared.reading.Wait.TheVariants.{Over, Stopped, Spent}
-use Rattle.amqp_wire.specs.Codec.{Codec}
+use Rattle.amqp_wire.specs.Codec.{Codec, limits_of}
 use Rattle.amqp_wire.specs.Steps.{Gave, GaveNone}
 use Rattle.amqp_wire.specs.Events.{LinkEvent, Read, NotRead, read_of, wrote_of}
 use Rattle.amqp_wire.specs.Reading.{IsWaitEnd, ReadOn}
@@ -12,21 +12,21 @@ use Rattle.amqp_wire.proofs.Events.{went_then, read_of-append, wrote_of-append, 
 
 -- nothing was read
 pub read_on_none : {L : Type 0} (link : Ghosts L) (a : Codec L) (left : ℕ) → ReadOn link a left Over a left
-read_on_none link a left = record { events = []; went = refl; silent = refl; input = sym (append-nil a.input); output = refl; counted = omega arith; end = tt }
+read_on_none link a left = record { events = []; went = refl; silent = refl; input = sym (append-nil a.input); output = refl; limits = refl; counted = omega arith; end = tt }
 
 -- no read was left
 pub read_on_spent : {L : Type 0} (link : Ghosts L) (a : Codec L) (left : ℕ) → left ≡ 0 → ReadOn link a left Spent a left
-read_on_spent link a left e = record { events = []; went = refl; silent = refl; input = sym (append-nil a.input); output = refl; counted = omega arith; end = e }
+read_on_spent link a left e = record { events = []; went = refl; silent = refl; input = sym (append-nil a.input); output = refl; limits = refl; counted = omega arith; end = e }
 
 -- one read gave bytes
-pub read_on_more : {L : Type 0} (link : Ghosts L) (a b : Codec L) (left left' : ℕ) (bytes : List ℕ) → 0 < length bytes → b.input ≡ a.input ++ bytes → Gave link a.link bytes b.link → b.output ≡ a.output → left' + 1 ≡ left → ReadOn link a left Over b left'
-read_on_more link a b left left' bytes some i g o c =
-    record { events = Read bytes ∷ []; went = (a.link, refl, (some, g)); silent = refl; input = i; output = o; counted = omega arith; end = tt }
+pub read_on_more : {L : Type 0} (link : Ghosts L) (a b : Codec L) (left left' : ℕ) (bytes : List ℕ) → 0 < length bytes → b.input ≡ a.input ++ bytes → Gave link a.link bytes b.link → b.output ≡ a.output → limits_of b ≡ limits_of a → left' + 1 ≡ left → ReadOn link a left Over b left'
+read_on_more link a b left left' bytes some i g o m c =
+    record { events = Read bytes ∷ []; went = (a.link, refl, (some, g)); silent = refl; input = i; output = o; limits = m; counted = omega arith; end = tt }
 
 -- one read gave nothing
-pub read_on_stop : {L : Type 0} (link : Ghosts L) (a b : Codec L) (left : ℕ) (stop : Stop) → b.input ≡ a.input → GaveNone link a.link stop b.link → b.output ≡ a.output → ReadOn link a left (Stopped stop) b left
-read_on_stop link a b left stop i g o =
-    record { events = NotRead stop ∷ []; went = (a.link, refl, g); silent = refl; input = i ∙ sym (append-nil a.input); output = o; counted = omega arith; end = inl refl }
+pub read_on_stop : {L : Type 0} (link : Ghosts L) (a b : Codec L) (left : ℕ) (stop : Stop) → b.input ≡ a.input → GaveNone link a.link stop b.link → b.output ≡ a.output → limits_of b ≡ limits_of a → ReadOn link a left (Stopped stop) b left
+read_on_stop link a b left stop i g o m =
+    record { events = NotRead stop ∷ []; went = (a.link, refl, g); silent = refl; input = i ∙ sym (append-nil a.input); output = o; limits = m; counted = omega arith; end = inl refl }
 
 end_later : (w : Wait) (es fs : List LinkEvent) (left : ℕ) → IsWaitEnd w fs left → IsWaitEnd w (fs ++ es) left
 end_later Over es fs left p = tt
@@ -42,6 +42,7 @@ read_on_then link a b c l m n v w p q =
       silent = wrote_of-append q.events p.events ∙ ap (λ (u : List ℕ). u ++ wrote_of q.events) p.silent ∙ q.silent;
       input = q.input ∙ ap (λ (u : List ℕ). u ++ read_of q.events) p.input ∙ append_assoc a.input (read_of p.events) (read_of q.events) ∙ ap (λ (u : List ℕ). a.input ++ u) (sym (read_of-append q.events p.events));
       output = q.output ∙ p.output;
+      limits = q.limits ∙ p.limits;
       counted = omega (arith, reads_in-append q.events p.events, p.counted, q.counted);
       end = end_later w p.events q.events n q.end;
     }

@@ -4,11 +4,18 @@ use Rattle.amqp_wire.specs.declared.link.Link.{Ghosts}
 use Rattle.amqp_wire.specs.declared.link.Held.{Held}
 use Rattle.amqp_wire.specs.Steps.{Gave, Took, WroteBy}
 
--- a link, what was read of it and not given, and what is to be written
+-- a link, what was read of it and not given, what is to be written, and the most bytes of a frame that is read and of one
+-- that is written
 pub record Codec (L : Type 0) : Type 0 where
   pub link : L
   pub input : List ℕ
   pub output : List ℕ
+  pub decoder : ℕ
+  pub encoder : ℕ
+
+-- both limits
+abbrev pub limits_of : {L : Type 0} → Codec L → ℕ × ℕ
+limits_of c = (c.decoder, c.encoder)
 
 -- bytes came in, and nothing else changed
 pub record Fed {L : Type 0} (link : Ghosts L) (old : Codec L) (bytes : List ℕ) (new : Codec L) : Type 0 where

@@ -3,6 +3,7 @@ pub mod Source
 pub mod Status
 pub mod Size
 pub mod Frame
+pub mod Cut
 pub mod Steps
 pub mod Codec
 pub mod Events

@@ -6,7 +6,7 @@ use Rattle.amqp_wire.specs.declared.frame.Front.TheVariants.{Partial, Refused, F
 use Rattle.amqp_wire.specs.declared.reading.Wait.{Wait}
 use Rattle.amqp_wire.specs.declared.reading.Wait.TheVariants.{Over, Stopped, Spent}
 use Rattle.amqp_wire.specs.declared.reading.Arrival.{Arrival}
-use Rattle.amqp_wire.specs.Codec.{Codec}
+use Rattle.amqp_wire.specs.Codec.{Codec, limits_of}
 use Rattle.amqp_wire.specs.Events.{LinkEvent, NotRead, Went, read_of, wrote_of, reads_in, Includes}
 
 -- the wait that an answer tells; want of memory tells none
@@ -31,6 +31,7 @@ pub record ReadOn {L : Type 0} (link : Ghosts L) (old : Codec L) (left : ℕ) (w
   pub silent : wrote_of events ≡ []
   pub input : new.input ≡ old.input ++ read_of events
   pub output : new.output ≡ old.output
+  pub limits : limits_of new ≡ limits_of old
   pub counted : left' + reads_in events ≡ left
   pub end : IsWaitEnd wait events left'
 

@@ -7,6 +7,7 @@ pub mod codec;
 mod failures;
 pub mod faulty_pipe;
 pub mod frame;
+mod inbox;
 pub mod link;
 pub mod memory;
 pub mod pipe;

@@ -4,15 +4,9 @@ ghost use Rattle.amqp_wire.specs.Frame.{IsFront};
 ghost use Rattle.amqp_wire.specs.Reading.{ReadOn, IsKnown, wait_in, wait_of};
 
 use crate::codec::{Filled, FramedCodec};
-use crate::frame::{Front, front_of};
+use crate::frame::Front;
 use crate::link::{Link, Stop};
 use std::alloc::AllocError;
-
-/// The most bytes that one read asks for.
-const PIECE: usize = 4096;
-
-/// The number of bytes in a protocol header (part 2, section 2.2).
-pub const HEADER_LENGTH: usize = 8;
 
 /// How a wait for input ended.
 #[derive(Clone, Copy, Debug, PartialEq, Eq)]
@@ -48,7 +42,7 @@ pub fn read_once<L: Link>(
     if *reads_left == 0 {
         return Ok(Wait::Spent);
     }
-    match codec.fill(PIECE)? {
+    match codec.fill()? {
         Filled::More => {
             *reads_left -= 1;
             Ok(Wait::Over)
@@ -66,7 +60,7 @@ pub fn read_header<L: Link>(
     ensures there { result ≡ Ok Wait.Over → 8 ≤ length codec.new.input }
     ensures less { IfOk result (λ w. (w ≡ Wait.Over → ⊥) → length codec.new.input < 8) }
 {
-    'reads: while codec.input().len() < HEADER_LENGTH {
+    'reads: while !codec.has_header() {
         match read_once(codec, reads_left) {
             Ok(Wait::Over) => {}
             Ok(Wait::Stopped(stop)) => return Ok(Wait::Stopped(stop)),
@@ -91,7 +85,7 @@ pub fn read_front<L: Link>(
     ensures known { IfOk result (λ a. IsKnown a.front a.wait) }
 {
     'reads: loop {
-        let front = front_of(kind, limit, codec.input());
+        let front = codec.front(kind, limit);
         if front != Front::Partial {
             return Ok(Arrival {
                 front,

@@ -105,13 +105,19 @@ fn fronts_at_512_bytes(rt: HostRuntime) -> Result<(), Fail> {
 fn codec_over_a_pipe(rt: HostRuntime) -> Result<(), Fail> {
     let mut pipe = Pipe::new(rt.alloc());
     pipe.give(b"AMQP\x00\x01\x00\x00rest")?;
-    let mut codec = FramedCodec::new(rt.alloc(), pipe);
-    assert_eq!(rt; codec.fill(8)?, Filled::More);
-    assert_eq!(rt; codec.input(), b"AMQP\x00\x01\x00\x00".as_slice());
-    codec.take_front(codec.input().len());
-    assert_eq!(rt; codec.fill(8)?, Filled::More);
-    assert_eq!(rt; codec.input(), b"rest".as_slice());
-    assert_eq!(rt; codec.fill(8)?, Filled::Stopped(Stop::Empty));
+    let mut codec = FramedCodec::new(rt.alloc(), pipe, 512, 1024);
+    assert!(rt; codec.is_drained());
+    assert!(rt; !codec.has_header());
+    assert_eq!(rt; codec.fill()?, Filled::More);
+    assert!(rt; codec.has_header());
+    assert_eq!(rt;
+        codec.header().as_slice(),
+        b"AMQP\x00\x01\x00\x00".as_slice()
+    );
+    codec.take_header()?;
+    assert!(rt; !codec.has_header());
+    assert!(rt; !codec.is_drained());
+    assert_eq!(rt; codec.fill()?, Filled::Stopped(Stop::Empty));
     codec.queue(b"AMQP")?;
     codec.queue_frame(1, 258, &[64])?;
     assert!(rt; !codec.is_flushed());
@@ -124,12 +130,52 @@ fn codec_over_a_pipe(rt: HostRuntime) -> Result<(), Fail> {
 }
 
 #[test]
+fn limits_of_a_codec(rt: HostRuntime) -> Result<(), Fail> {
+    let mut codec = FramedCodec::new(rt.alloc(), Pipe::new(rt.alloc()), 512, 1024);
+    assert_eq!(rt; codec.encoder_max_frame_size(), 1024);
+    codec.set_encoder_max_frame_size(100);
+    codec.set_decoder_max_frame_size(4096);
+    assert_eq!(rt; codec.encoder_max_frame_size(), 512);
+    assert_eq!(rt; codec.decoder_max_frame_size(), 4096);
+    Ok(())
+}
+
+// Two frames (section 2.3): one with an extended header of four bytes, and one with no body.
+#[test]
+fn frames_of_a_codec(rt: HostRuntime) -> Result<(), Fail> {
+    let mut codec = FramedCodec::new(rt.alloc(), Pipe::new(rt.alloc()), 512, 512);
+    codec.link().give(
+        b"\x00\x00\x00\x0e\x03\x00\x00\x02\xff\xff\xff\xffab\x00\x00\x00\x08\x02\x00\x00\x00",
+    )?;
+    assert_eq!(rt; codec.fill()?, Filled::More);
+    let first = Front::Whole {
+        size: 14,
+        start: 12,
+        channel: 2,
+    };
+    assert_eq!(rt; codec.front(0, 512), first);
+    assert_eq!(rt; codec.frame(14).len(), 14);
+    let body = codec.body(14, 12)?;
+    assert_eq!(rt; body.as_slice(), b"ab".as_slice());
+    assert_eq!(rt; codec.front(0, 512), first);
+    assert_eq!(rt; codec.frame(14).len(), 14);
+    codec.take_frame(14);
+    assert_eq!(rt;
+        codec.frame(8),
+        b"\x00\x00\x00\x08\x02\x00\x00\x00".as_slice()
+    );
+    codec.take_frame(8);
+    assert!(rt; codec.is_drained());
+    Ok(())
+}
+
+#[test]
 fn codec_over_a_faulty_pipe(rt: HostRuntime) -> Result<(), Fail> {
     let pipe = FaultyPipe::new(rt.alloc(), b"", true, &[0, 2])?;
-    let mut codec = FramedCodec::new(rt.alloc(), pipe);
+    let mut codec = FramedCodec::new(rt.alloc(), pipe, 512, 512);
     codec.queue(b"ab")?;
-    assert_eq!(rt; codec.fill(8)?, Filled::Stopped(Stop::Failed));
-    assert_eq!(rt; codec.fill(8)?, Filled::Stopped(Stop::End));
+    assert_eq!(rt; codec.fill()?, Filled::Stopped(Stop::Failed));
+    assert_eq!(rt; codec.fill()?, Filled::Stopped(Stop::End));
     assert_eq!(rt; codec.flush(), Some(Held::Failed));
     assert_eq!(rt; codec.flush(), None);
     assert_eq!(rt; codec.link().output(), b"ab".as_slice());
@@ -140,7 +186,7 @@ fn codec_over_a_faulty_pipe(rt: HostRuntime) -> Result<(), Fail> {
 #[test]
 fn waits_for_input(rt: HostRuntime) -> Result<(), Fail> {
     let mut reads_left = 4;
-    let mut codec = FramedCodec::new(rt.alloc(), Pipe::new(rt.alloc()));
+    let mut codec = FramedCodec::new(rt.alloc(), Pipe::new(rt.alloc()), 512, 512);
     codec.link().give(b"AMQP")?;
     assert_eq!(rt;
         read_header(&mut codec, &mut reads_left)?,
@@ -148,8 +194,11 @@ fn waits_for_input(rt: HostRuntime) -> Result<(), Fail> {
     );
     codec.link().give(b"\x00\x01\x00\x00")?;
     assert_eq!(rt; read_header(&mut codec, &mut reads_left)?, Wait::Over);
-    assert_eq!(rt; codec.input(), b"AMQP\x00\x01\x00\x00".as_slice());
-    codec.take_front(codec.input().len());
+    assert_eq!(rt;
+        codec.header().as_slice(),
+        b"AMQP\x00\x01\x00\x00".as_slice()
+    );
+    codec.take_header()?;
     codec.link().give(b"\x00\x00\x00\x08\x02\x00\x00\x01r")?;
     let arrival = read_front(&mut codec, 0, 512, &mut reads_left)?;
     let whole = Front::Whole {
@@ -170,7 +219,9 @@ fn waits_for_input(rt: HostRuntime) -> Result<(), Fail> {
         Wait::Stopped(Stop::Empty)
     );
     assert_eq!(rt; reads_left, 8);
-    assert!(rt; codec.input().ends_with(b"rest!"));
+    codec.take_frame(8);
+    assert!(rt; !codec.has_header());
+    assert!(rt; !codec.is_drained());
     Ok(())
 }
 

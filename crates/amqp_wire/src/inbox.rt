@@ -1,13 +1,11 @@
 //! Bytes that were read and are not given yet.
-ghost use Rattle.std.specs.Prelude.{◌≡◌, ◌<◌, ◌≤◌, ◌==◌, ◌+◌, ◌++◌, ◌⊎◌, [], length, take, drop, Ok, Err, Some, None, OnOk, OnErr, IfOk, IfSome, IsErrOf};
+ghost use Rattle.std.specs.Prelude.{◌≡◌, ◌<◌, ◌≤◌, ◌==◌, ◌+◌, ◌++◌, ◌⊎◌, ℕ, [], length, take, drop, true, false, OnOk, OnErr, IfOk};
 ghost use Rattle.amqp_wire.specs.Frame.{IsFront, HasBody};
 ghost use Rattle.amqp_wire.specs.Steps.{FilledBy};
 
-use crate::kind::FrameKind;
-use amqp_fields::BaseError;
-use amqp_wire::codec::Filled;
-use amqp_wire::frame::{Front, front_of};
-use amqp_wire::link::{Link, LinkRead, Stop};
+use crate::codec::Filled;
+use crate::frame::{Front, front_of};
+use crate::link::{Link, LinkRead, Stop};
 use bytes::{Bytes, BytesMut};
 use std::alloc::{AllocError, Global};
 use std::marker::Model;
@@ -24,7 +22,7 @@ pub(crate) struct Inbox {
 
 impl Model for Inbox {
     ghost use Rattle.std.specs.Prelude.{List, ℕ, ◌++◌};
-    ghost use Rattle.amqp_transport.specs.Cut.{IsCut};
+    ghost use Rattle.amqp_wire.specs.Cut.{IsCut};
 
     ghost Value = { List ℕ };
 
@@ -45,6 +43,20 @@ fn cut_off(cut: &mut Bytes, rest: &mut BytesMut, size: usize) -> Result<(), Allo
         *cut = rest.freeze_to(size)?;
     }
     Ok(())
+}
+
+/// Drops what was cut off, or so many bytes.
+fn drop_cut(cut: &mut Bytes, rest: &mut BytesMut, size: usize)
+    requires fits { size ≤ length (cut.old ++ rest.old.items) }
+    requires cut { (cut.old ≡ []) ⊎ (length cut.old ≡ size) }
+    ensures cut { cut.new ≡ [] }
+    ensures rest { rest.new.items ≡ drop size (cut.old ++ rest.old.items) }
+{
+    if cut.is_empty() {
+        rest.advance(size);
+        return;
+    }
+    *cut = Bytes::new();
 }
 
 /// Puts what was cut off back in front.
@@ -81,6 +93,14 @@ impl Inbox {
         self.cut.is_empty() && self.rest.is_empty()
     }
 
+    /// Whether there are eight.
+    pub(crate) fn has_header(&self) -> bool
+        ensures yes { result ≡ true → 8 ≤ length self.now }
+        ensures no { result ≡ false → length self.now < 8 }
+    {
+        !self.cut.is_empty() || self.rest.len() >= 8
+    }
+
     /// What the bytes begin with.
     pub(crate) fn front(&self, kind: u8, limit: usize) -> Front
         requires { 8 ≤ limit }
@@ -92,15 +112,16 @@ impl Inbox {
         front_of(kind, limit, self.cut.as_slice())
     }
 
-    /// One read of the link.
+    /// One read of the link. Room is made before it, so that no byte that moved is lost.
     pub(crate) fn fill<L: Link>(&mut self, link: &mut L) -> Result<Filled, AllocError>
-        ensures { FilledBy L.Link self.old link.old result self.new link.new }
+        ensures filled { FilledBy L.Link self.old link.old result self.new link.new }
+        ensures most { length self.new ≤ length self.old + 4096 }
     {
         self.rest.reserve(PIECE)?;
         let mut piece = [0u8; PIECE];
         match link.read(piece.as_mut_slice()) {
-            LinkRead::Bytes(n) => {
-                self.rest.extend_reserved(&piece[..n]);
+            LinkRead::Bytes(count) => {
+                self.rest.extend_reserved(&piece[..count]);
                 Ok(Filled::More)
             }
             LinkRead::Empty => Ok(Filled::Stopped(Stop::Empty)),
@@ -109,43 +130,59 @@ impl Inbox {
         }
     }
 
-    /// Takes the first eight bytes off, if so many are there.
-    pub(crate) fn header(&mut self, alloc: Global) -> Result<Option<[u8; 8]>, AllocError>
-        ensures some { IfOk result (λ o. IfSome o (λ h. self.old ≡ h ++ self.new)) }
-        ensures none { result ≡ Ok None → (length self.old < 8) × (self.new ≡ self.old) }
+    /// The first eight bytes.
+    pub(crate) fn header(&self) -> [u8; 8]
+        requires { 8 ≤ length self.now }
+        ensures { result ≡ take 8 self.now }
+    {
+        let mut header = [0u8; 8];
+        if self.cut.is_empty() {
+            header.copy_from_slice(&self.rest.as_slice()[..8]);
+            return header;
+        }
+        header.copy_from_slice(&self.cut.as_slice()[..8]);
+        header
+    }
+
+    /// Takes the first eight bytes off. An `Err` changes nothing.
+    pub(crate) fn take_header(&mut self, alloc: Global) -> Result<(), AllocError>
+        requires { 8 ≤ length self.old }
+        ensures ok { OnOk result (self.new ≡ drop 8 self.old) }
         ensures err { OnErr result (self.new ≡ self.old) }
     {
         join(alloc, &mut self.cut, &mut self.rest)?;
-        if self.rest.len() < 8 {
-            return Ok(None);
-        }
-        let mut header = [0u8; 8];
-        header.copy_from_slice(&self.rest.as_slice()[..8]);
         self.rest.advance(8);
-        Ok(Some(header))
+        Ok(())
     }
 
-    /// Takes the first frame off and reads its body. An `Err` changes nothing.
+    /// The first frame, with its body from `start` on. An `Err`, too, changes nothing.
     #[tactic(auto, using(crate::proofs::Cuts::cut_is_size, crate::proofs::Cuts::taken_is_cut))]
-    pub(crate) fn give<F: FrameKind>(
-        &mut self,
-        alloc: Global,
-        limit: usize,
-        size: usize,
-        start: usize,
-        channel: u16,
-    ) -> Result<F::Item, BaseError>
-        requires { HasBody F.TYPE limit self.old size start channel }
-        ensures ok { IfOk result (λ x. F.spells channel (drop start (take size self.old)) x) }
-        ensures taken { OnOk result (self.new ≡ drop size self.old) }
-        ensures none { IsErrOf result BaseError.Decode → (x : F.Item) → F.spells channel (drop start (take size self.old)) x → ⊥ }
-        ensures size { IsErrOf result BaseError.Size → ⊥ }
-        ensures err { OnErr result (self.new ≡ self.old) }
+    pub(crate) fn body(&mut self, size: usize, start: usize) -> Result<Bytes, AllocError>
+        requires { (kind limit channel : ℕ) × HasBody kind limit self.old size start channel }
+        ensures body { IfOk result (λ b. b ≡ drop start (take size self.old)) }
+        ensures same { self.new ≡ self.old }
     {
         cut_off(&mut self.cut, &mut self.rest, size)?;
         let body = self.cut.slice(start..)?;
-        let item = F::decode(alloc, channel, &body)?;
-        self.cut = Bytes::new();
-        Ok(item)
+        Ok(body)
+    }
+
+    /// The bytes of the first frame.
+    pub(crate) fn frame(&self, size: usize) -> &[u8]
+        requires { (kind limit start channel : ℕ) × HasBody kind limit self.now size start channel }
+        ensures { result.now ≡ take size self.now }
+    {
+        if self.cut.is_empty() {
+            return &self.rest.as_slice()[..size];
+        }
+        self.cut.as_slice()
+    }
+
+    /// Takes the first frame off.
+    pub(crate) fn take_frame(&mut self, size: usize)
+        requires { (kind limit start channel : ℕ) × HasBody kind limit self.old size start channel }
+        ensures { self.new ≡ drop size self.old }
+    {
+        drop_cut(&mut self.cut, &mut self.rest, size);
     }
 }

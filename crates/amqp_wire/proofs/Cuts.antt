@@ -2,7 +2,7 @@ use Rattle.std.proofs.Common.{◌≡◌, ◌+◌, ◌*◌, ◌<◌, ◌≤◌, �
 use Rattle.std.proofs.lemmas.List.{get_or_append_left, length-take-le}
 use Rattle.std.proofs.lemmas.Grind.{common_steps}
 use Rattle.amqp_wire.specs.Size.{size_of, start_of, channel_of}
-use Rattle.amqp_transport.specs.Cut.{IsCut}
+use Rattle.amqp_wire.specs.Cut.{IsCut}
 use Rattle.amqp_wire.specs.Frame.{HasBody, HasSize, IsWhole}
 
 -- later bytes change no size
