@@ -5,7 +5,7 @@ use Rattle.std.specs.Int.{w16, w32, to_be_bytes}
 use Rattle.amqp_wire.specs.Size.{size_of, start_of, channel_of}
 use Rattle.amqp_wire.specs.Frame.{HasBody, HasSize, IsWhole, frame_of}
 use Rattle.amqp_transport.specs.Stream.{IsFrame, Joined, IsPart, stream_of}
-use Rattle.amqp_transport.proofs.Cuts.{size_of-append}
+use Rattle.amqp_wire.proofs.Cuts.{size_of-append}
 
 -- the size in front of a frame is its length
 pub frame_size : {X : Type 0} (kind : ℕ) (spells : ℕ → List ℕ → X → Type 0) (piece more : List ℕ) (x : X) → IsFrame kind spells piece x → (size_of (piece ++ more) ≡ length piece) × (8 ≤ length piece)

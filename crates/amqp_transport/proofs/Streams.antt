@@ -14,10 +14,10 @@ use Rattle.amqp_transport.specs.declared.transport.Next.TheVariants.{Frame, Pend
 use Rattle.amqp_wire.specs.Size.{size_of, start_of, channel_of}
 use Rattle.amqp_wire.specs.Frame.{HasBody, HasSize, IsWhole, IsFront, frame_of}
 use Rattle.amqp_wire.specs.Steps.{Gave, GaveNone, ReadBy, StoppedBy}
-use Rattle.amqp_transport.specs.Codec.{Codec, Fed}
+use Rattle.amqp_wire.specs.Codec.{Codec, Fed}
 use Rattle.amqp_transport.specs.Wire.{Wire, Given, Waits, Ends, Fails, Answered, Answers, Wants, IsMemory, Polled, PolledAt, keeping}
 use Rattle.amqp_transport.specs.Stream.{IsFrame, Joined, IsPart, frames_of, Grew}
-use Rattle.amqp_transport.proofs.Cuts.{size_of-append, size_of-take}
+use Rattle.amqp_wire.proofs.Cuts.{size_of-append, size_of-take}
 use Rattle.amqp_wire.proofs.Links.{gave_then, gave_nothing}
 
 -- bytes that come later are part of the rest

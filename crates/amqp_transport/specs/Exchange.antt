@@ -12,7 +12,7 @@ use Rattle.amqp_transport.specs.declared.negotiating.Negotiated.{Negotiated}
 use Rattle.amqp_transport.specs.declared.negotiating.Negotiated.TheVariants.{Pending, Header}
 use Rattle.amqp_wire.specs.Steps.{Gave, ReadBy}
 use Rattle.amqp_transport.specs.Wire.{IsMemory}
-use Rattle.amqp_transport.specs.Codec.{Codec, Fed, Flushed}
+use Rattle.amqp_wire.specs.Codec.{Codec, Fed, Flushed}
 
 -- the header is queued, and both limits are the least
 abbrev pub started : {L : Type 0} → Codec L → List ℕ → Codec L

@@ -1,7 +1,6 @@
 pub mod Header
 pub mod Clocks
-pub mod Cut
-pub mod Codec
+pub mod Arrivals
 pub mod Wire
 pub mod Stream
 pub mod Exchange

@@ -18,7 +18,8 @@ use Rattle.amqp_wire.specs.Frame.{IsFront, frame_of}
 use Rattle.amqp_wire.specs.Steps.{Gave, ReadBy}
 use Rattle.amqp_transport.specs.declared.idle_clock.IdleClock.{IdleClock}
 use Rattle.amqp_transport.specs.Clocks.{HasElapsed}
-use Rattle.amqp_transport.specs.Codec.{Codec, Fed, FedTo, Flushed, IsWanted}
+use Rattle.amqp_wire.specs.Codec.{Codec, Fed, Flushed}
+use Rattle.amqp_transport.specs.Arrivals.{FedTo, IsWanted}
 
 -- a codec, an idle clock, and the error that is answered again
 pub record Wire (L : Type 0) : Type 0 where

@@ -3,7 +3,6 @@
 //! by the caller.
 #![tactic(auto)]
 
-pub use codec::FramedCodec;
 pub use frames::{AmqpFrames, Frame, SaslFrames};
 pub use header::{ProtocolHeader, ProtocolId};
 pub use heart_beat::HeartBeat;
@@ -12,15 +11,14 @@ pub use kind::FrameKind;
 pub use negotiating::{Negotiated, Negotiating};
 pub use transport::{Error, Flush, Next, Transport};
 
-pub mod codec;
 pub mod frames;
 pub mod header;
 pub mod heart_beat;
 pub mod idle_clock;
-mod inbox;
 pub mod kind;
 pub mod laws;
 pub mod negotiating;
+pub mod reading;
 #[cfg(test)]
 mod tests;
 pub mod transport;

@@ -4,8 +4,9 @@ ghost use Rattle.std.specs.Borrow.{Lends, sem};
 ghost use Rattle.amqp_transport.specs.contracts.negotiating.Negotiating.{the_row};
 ghost use Rattle.amqp_transport.specs.Exchange.{HeaderPolled, Exchanged, started};
 
-use crate::codec::{FramedCodec, HeaderRead};
+use crate::reading::{HeaderRead, read_header};
 use crate::transport::Error;
+use amqp_wire::codec::{FramedCodec, MIN_MAX_FRAME_SIZE};
 use amqp_wire::link::{Held, IoKind, Link, Stop};
 use std::alloc::AllocError;
 use std::marker::Model;
@@ -26,7 +27,7 @@ pub struct Negotiating<L: Link> {
 }
 
 impl<L: Link> Model for Negotiating<L> {
-    ghost use Rattle.amqp_transport.specs.Codec.{Codec};
+    ghost use Rattle.amqp_wire.specs.Codec.{Codec};
 
     ghost Value = { Codec L };
 
@@ -41,10 +42,10 @@ pub fn negotiate<L: Link>(
     ensures ok { IfOk result (λ n. n ≡ started codec header) }
     ensures err { IfErr result (λ e. e.1 ≡ codec) }
 {
-    match codec.queue_bytes(header.as_slice()) {
+    match codec.queue(header.as_slice()) {
         Ok(()) => {
-            codec.set_decoder_max_frame_size(512);
-            codec.set_encoder_max_frame_size(512);
+            codec.set_decoder_max_frame_size(MIN_MAX_FRAME_SIZE);
+            codec.set_encoder_max_frame_size(MIN_MAX_FRAME_SIZE);
             Ok(Negotiating { codec })
         }
         Err(e) => Err((e, codec)),
@@ -55,7 +56,7 @@ impl<L: Link> Negotiating<L> {
     fn read(&mut self) -> Result<Negotiated, Error>
         ensures { HeaderPolled L.Link self.old result self.new }
     {
-        match self.codec.read_header()? {
+        match read_header(&mut self.codec)? {
             HeaderRead::Header(header) => Ok(Negotiated::Header(header)),
             HeaderRead::Stopped(Stop::Empty) => Ok(Negotiated::Pending),
             HeaderRead::Stopped(Stop::End) => Err(Error::Io(IoKind::End)),

@@ -1,4 +1,3 @@
-use crate::codec::FramedCodec;
 use crate::frames::{AmqpFrames, Frame};
 use crate::header::{ProtocolHeader, ProtocolId};
 use crate::heart_beat::HeartBeat;

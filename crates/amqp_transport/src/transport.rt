@@ -2,15 +2,17 @@
 ghost use Rattle.std.specs.Prelude.{◌≡◌, ◌<◌, ◌≤◌, ◌==◌, ◌+◌, ◌-◌, ◌++◌, ◌^◌, ℕ, [], length, take, drop, max, Ok, Err, Some, None, OnOk, OnErr, IfOk, IsErrOf, IfNone, IfSome, IsTrue, ◌↔◌};
 ghost use Rattle.std.specs.Borrow.{Lends, sem};
 ghost use Rattle.amqp_transport.specs.contracts.transport.Transport.{the_row};
-ghost use Rattle.amqp_wire.specs.Frame.{IsFront, frame_of};
-ghost use Rattle.amqp_transport.specs.Codec.{Codec, FedTo, IsWanted, Flushed};
+ghost use Rattle.amqp_wire.specs.Frame.{IsFront, HasBody, frame_of};
+ghost use Rattle.amqp_wire.specs.Codec.{Codec, Flushed};
+ghost use Rattle.amqp_transport.specs.Arrivals.{FedTo, IsWanted};
 ghost use Rattle.amqp_transport.specs.Stream.{Grew};
 ghost use Rattle.amqp_transport.specs.Wire.{Wire, Polled, Answered, idle_of, FlushedTo, StartedSend};
 
-use crate::codec::{Arrival, FramedCodec};
 use crate::idle_clock::IdleClock;
 use crate::kind::FrameKind;
+use crate::reading::{Arrival, advance};
 use amqp_fields::BaseError;
+use amqp_wire::codec::FramedCodec;
 use amqp_wire::frame::Front;
 use amqp_wire::link::{Held, IoKind, Link, Stop};
 use std::alloc::{AllocError, Global};
@@ -88,6 +90,26 @@ impl<L: Link, F: FrameKind> Model for Transport<L, F> {
     ghost view = { λ t. record { codec = t.codec; clock = t.clock; kept = t.kept } };
 }
 
+/// Reads the body of the first frame, and takes the frame off. An `Err` changes nothing.
+fn give<L: Link, F: FrameKind>(
+    codec: &mut FramedCodec<L>,
+    size: usize,
+    start: usize,
+    channel: u16,
+) -> Result<F::Item, BaseError>
+    requires { HasBody F.TYPE codec.old.decoder codec.old.input size start channel }
+    ensures ok { IfOk result (λ x. F.spells channel (drop start (take size codec.old.input)) x) }
+    ensures taken { OnOk result (codec.new ≡ record codec.old { input = drop size codec.old.input }) }
+    ensures none { IsErrOf result BaseError.Decode → (x : F.Item) → F.spells channel (drop start (take size codec.old.input)) x → ⊥ }
+    ensures size { IsErrOf result BaseError.Size → ⊥ }
+    ensures err { OnErr result (codec.new ≡ codec.old) }
+{
+    let body = codec.body(size, start)?;
+    let item = F::decode(codec.alloc(), channel, &body)?;
+    codec.take_frame(size);
+    Ok(item)
+}
+
 impl<L: Link, F: FrameKind> Transport<L, F> {
     /// Frames over the link, at most so many bytes each, at least 512; an idle time of 0 is none. Times are in milliseconds.
     pub fn bind(
@@ -155,7 +177,7 @@ impl<L: Link, F: FrameKind> Transport<L, F> {
                 start,
                 channel,
             } => {
-                match self.codec.give::<F>(size, start, channel) {
+                match give::<L, F>(&mut self.codec, size, start, channel) {
                     Ok(item) => {
                         self.clock.restart(at);
                         Ok(Next::Frame(item))
@@ -204,7 +226,7 @@ impl<L: Link, F: FrameKind> Transport<L, F> {
         match self.kept {
             Some(kept) => Err(kept),
             None => {
-                let arrival = self.codec.advance(F::TYPE)?;
+                let arrival = advance(&mut self.codec, F::TYPE)?;
                 self.answer(at, arrival)
             }
         }
@@ -222,7 +244,7 @@ impl<L: Link, F: FrameKind> Transport<L, F> {
                     return Err(Error::FramingError);
                 }
                 self.codec
-                    .queue(F::TYPE, body.channel, body.bytes.as_slice())?;
+                    .queue_frame(F::TYPE, body.channel, body.bytes.as_slice())?;
                 Ok(())
             }
             Err(BaseError::Memory(error)) => Err(Error::Memory(error)),

@@ -19,14 +19,14 @@ pub read_on_spent : {L : Type 0} (link : Ghosts L) (a : Codec L) (left : ℕ) �
 read_on_spent link a left e = record { events = []; went = refl; silent = refl; input = sym (append-nil a.input); output = refl; limits = refl; counted = omega arith; end = e }
 
 -- one read gave bytes
-pub read_on_more : {L : Type 0} (link : Ghosts L) (a b : Codec L) (left left' : ℕ) (bytes : List ℕ) → 0 < length bytes → b.input ≡ a.input ++ bytes → Gave link a.link bytes b.link → b.output ≡ a.output → limits_of b ≡ limits_of a → left' + 1 ≡ left → ReadOn link a left Over b left'
-read_on_more link a b left left' bytes some i g o m c =
-    record { events = Read bytes ∷ []; went = (a.link, refl, (some, g)); silent = refl; input = i; output = o; limits = m; counted = omega arith; end = tt }
+pub read_on_more : {L : Type 0} (link : Ghosts L) (a b : Codec L) (left left' : ℕ) (bytes : List ℕ) → 0 < length bytes → b.input ≡ a.input ++ bytes → Gave link a.link bytes b.link → b ≡ record a { link = b.link; input = b.input } → left' + 1 ≡ left → ReadOn link a left Over b left'
+read_on_more {L} link a b left left' bytes some i g e c =
+    record { events = Read bytes ∷ []; went = (a.link, refl, (some, g)); silent = refl; input = i; output = ap (λ (k : Codec L). k.output) e; limits = ap (λ (k : Codec L). limits_of k) e; counted = omega arith; end = tt }
 
 -- one read gave nothing
-pub read_on_stop : {L : Type 0} (link : Ghosts L) (a b : Codec L) (left : ℕ) (stop : Stop) → b.input ≡ a.input → GaveNone link a.link stop b.link → b.output ≡ a.output → limits_of b ≡ limits_of a → ReadOn link a left (Stopped stop) b left
-read_on_stop link a b left stop i g o m =
-    record { events = NotRead stop ∷ []; went = (a.link, refl, g); silent = refl; input = i ∙ sym (append-nil a.input); output = o; limits = m; counted = omega arith; end = inl refl }
+pub read_on_stop : {L : Type 0} (link : Ghosts L) (a b : Codec L) (left : ℕ) (stop : Stop) → b.input ≡ a.input → GaveNone link a.link stop b.link → b ≡ record a { link = b.link; input = b.input } → ReadOn link a left (Stopped stop) b left
+read_on_stop {L} link a b left stop i g e =
+    record { events = NotRead stop ∷ []; went = (a.link, refl, g); silent = refl; input = i ∙ sym (append-nil a.input); output = ap (λ (k : Codec L). k.output) e; limits = ap (λ (k : Codec L). limits_of k) e; counted = omega arith; end = inl refl }
 
 end_later : (w : Wait) (es fs : List LinkEvent) (left : ℕ) → IsWaitEnd w fs left → IsWaitEnd w (fs ++ es) left
 end_later Over es fs left p = tt

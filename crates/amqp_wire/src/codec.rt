@@ -4,7 +4,7 @@ ghost use Rattle.std.specs.Borrow.{Lends, sem};
 ghost use Rattle.amqp_wire.specs.contracts.codec.FramedCodec.{the_row};
 ghost use Rattle.amqp_wire.specs.Frame.{IsFront, HasBody, frame_of};
 ghost use Rattle.amqp_wire.specs.Steps.{FilledBy};
-ghost use Rattle.amqp_wire.specs.Codec.{Flushed, limits_of};
+ghost use Rattle.amqp_wire.specs.Codec.{Flushed};
 
 use crate::frame::{Front, put_frame};
 use crate::inbox::Inbox;
@@ -149,8 +149,7 @@ impl<L: Link> FramedCodec<L> {
     /// changes nothing.
     pub fn fill(&mut self) -> Result<Filled, AllocError>
         ensures filled { FilledBy L.Link self.old.input self.old.link result self.new.input self.new.link }
-        ensures output { self.new.output ≡ self.old.output }
-        ensures limits { limits_of self.new ≡ limits_of self.old }
+        ensures rest { self.new ≡ record self.old { link = self.new.link; input = self.new.input } }
         ensures most { length self.new.input ≤ length self.old.input + 4096 }
     {
         self.input.fill(&mut self.link)

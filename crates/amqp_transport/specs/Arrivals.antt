@@ -1,22 +1,15 @@
+-- Waiting for a frame or a protocol header (OASIS AMQP 1.0, part 2, sections 2.2 and 2.3).
 use Rattle.std.specs.Prelude.{◌≡◌, ◌<◌, ℕ, List, [], ◌++◌, length, Option, Some, None, Result, Ok, Err}
 use Rattle.amqp_wire.specs.declared.link.Link.{Ghosts}
 use Rattle.amqp_wire.specs.declared.link.Stop.{Stop}
-use Rattle.amqp_wire.specs.declared.link.Held.{Held}
 use Rattle.amqp_wire.specs.declared.frame.Front.{Front}
 use Rattle.amqp_wire.specs.declared.frame.Front.TheVariants.{Partial, Refused, Foreign, Whole}
-use Rattle.amqp_transport.specs.declared.codec.Arrival.{Arrival}
-use Rattle.amqp_transport.specs.declared.codec.HeaderRead.{HeaderRead}
-use Rattle.amqp_transport.specs.declared.codec.HeaderRead.TheVariants.{Header, Stopped}
 use Rattle.amqp_wire.specs.Frame.{IsFront}
-use Rattle.amqp_wire.specs.Steps.{Gave, GaveNone, ReadBy, WroteBy, Took}
-
--- a link, what was read of it and not given, what is to be written, and both limits
-pub record Codec (L : Type 0) : Type 0 where
-  pub link : L
-  pub input : List ℕ
-  pub output : List ℕ
-  pub decoder : ℕ
-  pub encoder : ℕ
+use Rattle.amqp_wire.specs.Steps.{Gave, ReadBy}
+use Rattle.amqp_wire.specs.Codec.{Codec, Fed}
+use Rattle.amqp_transport.specs.declared.reading.Arrival.{Arrival}
+use Rattle.amqp_transport.specs.declared.reading.HeaderRead.{HeaderRead}
+use Rattle.amqp_transport.specs.declared.reading.HeaderRead.TheVariants.{Header, Stopped}
 
 -- more was wanted exactly where less than a frame is there
 abbrev pub IsWanted : Front → Option Stop → Type 0
@@ -29,12 +22,7 @@ IsWanted Foreign (Some stop) = ⊥
 IsWanted (Whole size start channel) None = Unit {0}
 IsWanted (Whole size start channel) (Some stop) = ⊥
 
--- bytes came in, and nothing else changed
-pub record Fed {L : Type 0} (link : Ghosts L) (old : Codec L) (bytes : List ℕ) (new : Codec L) : Type 0 where
-  pub gave : Gave link old.link bytes new.link
-  pub rest : new ≡ record old { link = new.link; input = old.input ++ bytes }
-
--- they came in until the front is known, or a read gave nothing
+-- bytes came in until the front is known, or a read gave nothing
 pub record FedTo {L : Type 0} (link : Ghosts L) (kind : ℕ) (old : Codec L) (bytes : List ℕ) (a : Arrival) (new : Codec L) : Type 0 where
   pub reads : ReadBy link old.link bytes a.stop new.link
   pub rest : new ≡ record old { link = new.link; input = old.input ++ bytes }
@@ -44,20 +32,6 @@ pub record FedTo {L : Type 0} (link : Ghosts L) (kind : ℕ) (old : Codec L) (by
 abbrev pub Arrived : {L E : Type 0} → Ghosts L → ℕ → Codec L → Result Arrival E → Codec L → Type 0
 Arrived link kind old (Ok a) new = (bytes : List ℕ) × FedTo link kind old bytes a new
 Arrived link kind old (Err e) new = (bytes : List ℕ) × Fed link old bytes new
-
--- bytes went out, and nothing else changed
-pub record Sent {L : Type 0} (link : Ghosts L) (old : Codec L) (bytes : List ℕ) (new : Codec L) : Type 0 where
-  pub took : Took link old.link bytes new.link
-  pub rest : new ≡ record old { link = new.link; output = new.output }
-  pub out : old.output ≡ bytes ++ new.output
-
--- these bytes went out, and nothing else changed; all of them, if nothing held them
-pub record Flushed {L : Type 0} (link : Ghosts L) (old : Codec L) (held : Option Held) (new : Codec L) : Type 0 where
-  pub bytes : List ℕ
-  pub writes : WroteBy link old.link bytes held new.link
-  pub rest : new ≡ record old { link = new.link; output = new.output }
-  pub out : old.output ≡ bytes ++ new.output
-  pub all : held ≡ None → new.output ≡ []
 
 -- eight bytes were read and taken off, or a read gave nothing while fewer were there
 abbrev pub ReadHeader : {L E : Type 0} → Ghosts L → Codec L → Result HeaderRead E → Codec L → Type 0
