@@ -3,7 +3,7 @@ use Rattle.std.proofs.Common.{◌≡◌, ◌≢◌, ◌≤◌, ◌+◌, ◌^◌,
 use Rattle.std.specs.Prelude.{OnOk}
 use Rattle.std.proofs.lemmas.List.{append-nil}
 use Rattle.std.specs.declared.alloc.AllocError.{AllocError}
-use Rattle.amqp_base.specs.declared.sasl.body.SaslBody.{SaslBody}
+use Rattle.amqp_composites.specs.declared.sasl_body.SaslBody.{SaslBody}
 use Rattle.amqp_connection.specs.declared.open_error.OpenError.TheVariants.{Negotiation}
 use Rattle.amqp_wire.specs.declared.link.Link.{Ghosts}
 use Rattle.amqp_wire.specs.Events.{LinkEvent, Went, read_of, wrote_of, reads_in}
@@ -25,7 +25,7 @@ use Rattle.sasl_gate.specs.Negotiation.{HasIn as NegotiationHasIn, IsHeldUp}
 use Rattle.sasl_gate.specs.ScramBodies.{IsOnlySasl, outcome_body}
 use Rattle.sasl_gate.specs.ServerGate.{ServerEnd, turn_in as server_turn_in, holds_in as server_holds_in, HasProof, ServerSame, ServerPassed}
 use Rattle.sasl_gate.specs.States.{Account, ServerState}
-use Rattle.amqp_base.specs.declared.sasl.body.SaslCode.TheVariants as sasl
+use Rattle.amqp_composites.specs.declared.sasl_code.SaslCode.TheVariants as sasl
 use Rattle.sasl_gate.proofs.Gates.{only_sasl}
 use Rattle.amqp_peer.specs.declared.authentication.Authentication.{Authentication}
 use Rattle.amqp_peer.specs.declared.authentication.Authentication.TheVariants.{Idle as IdleExchange, Client, Listener}

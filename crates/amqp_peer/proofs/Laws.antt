@@ -2,7 +2,7 @@
 use Rattle.std.proofs.Common.{◌≡◌, ◌↔◌, ◌⊎◌, inl, inr, ℕ, List, [], ◌∷◌, ◌++◌, Option, None, refl, sym, ap, ◌∙◌, subst, append_assoc}
 use Rattle.amqp_connection.specs.declared.open_error.OpenError.TheVariants.{Negotiation}
 use Rattle.amqp_wire.specs.Events.{LinkEvent, read_of, wrote_of}
-use Rattle.amqp_base.specs.declared.sasl.body.SaslBody.{SaslBody}
+use Rattle.amqp_composites.specs.declared.sasl_body.SaslBody.{SaslBody}
 use Rattle.sasl_gate.specs.declared.gate.client.SaslProfile.TheVariants as profile
 use Rattle.sasl_gate.specs.ClientGate.{ClientPassed}
 use Rattle.sasl_gate.specs.ServerGate.{ServerPassed}

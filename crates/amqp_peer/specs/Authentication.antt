@@ -2,8 +2,8 @@
 use Rattle.std.specs.Prelude.{◌≡◌, ℕ, List, Option, Some, None, if◌then◌else◌, ⊤}
 use Rattle.std.specs.Str.{bytes_eq}
 use Rattle.std.proofs.Common.{refl, subst, sym}
-use Rattle.amqp_base.specs.declared.sasl.body.SaslBody.{SaslBody}
-use Rattle.amqp_base.specs.declared.sasl.body.SaslCode.{SaslCode}
+use Rattle.amqp_composites.specs.declared.sasl_body.SaslBody.{SaslBody}
+use Rattle.amqp_composites.specs.declared.sasl_code.SaslCode.{SaslCode}
 use Rattle.sha2.specs.Sha256.{sha256}
 use Rattle.sasl_gate.specs.declared.gate.client.SaslProfile.TheVariants as profile
 use Rattle.sasl_gate.specs.declared.gate.error.NegotiationError.{NegotiationError}

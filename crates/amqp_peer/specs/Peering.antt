@@ -35,7 +35,7 @@ pub record Peering (L : Type 0) : Type 0 where
 abbrev pub fresh : {L : Type 0} → L → PeerKind → Peering L
 fresh link kind = record {
   opening = record {
-    negotiation = record { codec = record { link = link; input = []; output = [] }; phase = HeaderPhase; exchange = IdleExchange };
+    negotiation = record { codec = record { link = link; input = []; output = []; decoder = 512; encoder = 512 }; phase = HeaderPhase; exchange = IdleExchange };
     stage = Idle;
   };
   kind = kind;

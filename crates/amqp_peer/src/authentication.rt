@@ -5,7 +5,7 @@ ghost use Rattle.amqp_peer.specs.Calls.{IsAllowedProfile, IsAllowedSasl, IsAllow
 ghost use Rattle.amqp_peer.specs.declared.call.Call.TheVariants.{Open, Accept};
 
 use crate::call::{AcceptSasl, Call};
-use amqp_base::SaslBody;
+use amqp_composites::sasl_body::SaslBody;
 use amqp_text::Text;
 use kdf_core::Sha256Fn;
 use sasl_gate::gate::exchange::{Exchange, Turn, Verdict};

@@ -8,9 +8,9 @@ ghost use Rattle.amqp_peer.specs.contracts.opening.Opening.{the_row};
 ghost use Rattle.amqp_peer.specs.declared.opening.Stage.{Stage};
 ghost use Rattle.amqp_peer.specs.Opening.{Opened, Ran, amqp_header, begun, IsUnderWay, IsStopEnd, IsMemoryIn};
 
-use amqp_wire::codec::FramedCodec;
+use amqp_wire::codec::{FramedCodec, MIN_MAX_FRAME_SIZE};
 use amqp_wire::link::{Held, IoKind, Link, Stop};
-use amqp_wire::reading::{HEADER_LENGTH, Wait, read_all, read_header};
+use amqp_wire::reading::{Wait, read_all, read_header};
 use sasl_gate::NegotiationError;
 use sasl_gate::gate::exchange::Exchange;
 use sasl_gate::gate::negotiation::{GatePoll, Negotiation};
@@ -76,10 +76,11 @@ pub fn memory_in(error: &NegotiationError) -> Option<AllocError>
 impl<L: Link, X: Exchange> Opening<L, X> {
     /// An opening that has not begun; takes no memory.
     pub fn new(alloc: Global, link: L, exchange: X) -> Self
-        ensures { result ≡ record { negotiation = record { codec = record { link = link; input = []; output = [] }; phase = HeaderPhase; exchange = exchange }; stage = Stage.Idle } }
+        ensures { result ≡ record { negotiation = record { codec = record { link = link; input = []; output = []; decoder = 512; encoder = 512 }; phase = HeaderPhase; exchange = exchange }; stage = Stage.Idle } }
     {
+        let codec = FramedCodec::new(alloc, link, MIN_MAX_FRAME_SIZE, MIN_MAX_FRAME_SIZE);
         Opening {
-            negotiation: Negotiation::new(alloc, FramedCodec::new(alloc, link), exchange),
+            negotiation: Negotiation::new(alloc, codec, exchange),
             stage: Stage::Idle,
         }
     }
@@ -162,12 +163,17 @@ impl<L: Link, X: Exchange> Opening<L, X> {
         requires whole { 8 ≤ length self.old.negotiation.codec.input }
         ensures { Ran L.Link X.Exchange self.old reads_left.old result self.new reads_left.new }
     {
-        if !is_amqp_header(&self.negotiation.codec().input()[..HEADER_LENGTH]) {
+        let header = self.negotiation.codec().header();
+        if !is_amqp_header(header.as_slice()) {
             return Ok(self.fail(NegotiationError::NotImplemented));
         }
-        self.negotiation.codec_mut().take_front(HEADER_LENGTH);
-        self.stage = Stage::Exchanged;
-        self.drain(reads_left)
+        match self.negotiation.codec_mut().take_header() {
+            Ok(()) => {
+                self.stage = Stage::Exchanged;
+                self.drain(reads_left)
+            }
+            Err(error) => Err(error),
+        }
     }
 
     fn await_header(&mut self, reads_left: &mut u64) -> Result<Option<NegotiationError>, AllocError>

@@ -1,6 +1,6 @@
 -- The text of a trace.
 use Rattle.std.specs.Prelude.{◌+◌, ◌/◌, ◌%◌, List, ℕ, [], ◌∷◌, ◌++◌, length, nat_lt, ◌==◌, if◌then◌else◌, codes, decimal, Option, Some, None, flat_map}
-use Rattle.amqp_base.specs.SaslCode.{code_number}
+use Rattle.amqp_composites.specs.SaslCode.{sasl_code_number}
 use Rattle.amqp_wire.specs.declared.link.IoKind.{IoKind}
 use Rattle.amqp_wire.specs.declared.link.IoKind.TheVariants as io
 use Rattle.sasl_gate.specs.declared.scram.error.ScramErrorKind.{ScramErrorKind}
@@ -54,7 +54,7 @@ abbrev pub negotiation_text : NegotiationError → List ℕ
 negotiation_text (negotiation.Memory e) = codes "Memory"
 negotiation_text (negotiation.ProtocolHeaderMismatch header) = codes "ProtocolHeaderMismatch " ++ bytes_text header
 negotiation_text negotiation.NotImplemented = codes "NotImplemented"
-negotiation_text (negotiation.SaslError code additional) = codes "SaslError " ++ decimal (code_number code) ++ codes " " ++ option_text additional
+negotiation_text (negotiation.SaslError code additional) = codes "SaslError " ++ decimal (sasl_code_number code) ++ codes " " ++ option_text additional
 negotiation_text (negotiation.ScramError kind) = codes "ScramError." ++ scram_word kind
 negotiation_text (negotiation.Io kind) = codes "Io." ++ io_word kind
 negotiation_text negotiation.DecodeError = codes "DecodeError"

@@ -3,7 +3,7 @@ use crate::outside::{ReadError, read_all};
 use crate::program::run_program;
 use crate::script::{ScriptError, parse};
 use crate::trace_text::text;
-use amqp_base::SaslCode;
+use amqp_composites::sasl_code::SaslCode;
 use amqp_connection::OpenError;
 use amqp_peer::{AcceptSasl, Call, NamedReply, Reply, ReplyList};
 use amqp_text::{Binary, Text};

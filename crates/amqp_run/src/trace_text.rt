@@ -8,7 +8,7 @@
 ghost use Rattle.std.specs.Prelude.{◌≡◌, ◌<◌, ◌++◌, ◌∷◌, [], OnOk, IfOk, flat_map};
 ghost use Rattle.amqp_run.specs.TraceText.{digit_of, hex_of, bytes_text, option_text, io_word, scram_word, negotiation_text, open_text, answer_text, reply_text, wrote_text, entry_text, text_of};
 
-use amqp_base::SaslCode;
+use amqp_composites::sasl_code::SaslCode;
 use amqp_connection::OpenError;
 use amqp_peer::{NamedReply, Reply};
 use amqp_text::Binary;
@@ -113,7 +113,7 @@ fn push_outcome(
     ensures { let said = negotiation_text (NegotiationError.SaslError code additional.now) in
         OnOk result (out.new.items ≡ out.old.items ++ said) }
 {
-    let code = u8::from(code);
+    let code = code.number();
     let head = format!(in alloc; "SaslError {code} ")?;
     out.extend_from_slice(head.as_bytes())?;
     push_option(out, additional)?;

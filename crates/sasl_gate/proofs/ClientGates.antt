@@ -3,12 +3,12 @@ use Rattle.std.proofs.Common.{◌≡◌, ◌≢◌, ◌<◌, arith, ℕ, List, [
 use Rattle.std.proofs.lemmas.List.{append-nil}
 use Rattle.std.specs.Prelude.{⊤}
 use Rattle.std.specs.declared.alloc.AllocError.{AllocError}
-use Rattle.amqp_base.specs.declared.sasl.body.SaslBody.{SaslBody}
-use Rattle.amqp_base.specs.declared.sasl.body.SaslBody.TheVariants.{Challenge, Outcome}
-use Rattle.amqp_base.specs.declared.sasl.body.SaslChallenge.{SaslChallenge}
-use Rattle.amqp_base.specs.declared.sasl.body.SaslOutcome.{SaslOutcome}
-use Rattle.amqp_base.specs.declared.sasl.body.SaslCode.{SaslCode}
-use Rattle.amqp_base.specs.declared.sasl.body.SaslCode.TheVariants as sasl
+use Rattle.amqp_composites.specs.declared.sasl_body.SaslBody.{SaslBody}
+use Rattle.amqp_composites.specs.declared.sasl_body.SaslBody.TheVariants.{Challenge, Outcome}
+use Rattle.amqp_composites.specs.declared.sasl.SaslChallenge.{SaslChallenge}
+use Rattle.amqp_composites.specs.declared.sasl.SaslOutcome.{SaslOutcome}
+use Rattle.amqp_composites.specs.declared.sasl_code.SaslCode.{SaslCode}
+use Rattle.amqp_composites.specs.declared.sasl_code.SaslCode.TheVariants as sasl
 use Rattle.amqp_wire.specs.declared.link.Link.{Ghosts}
 use Rattle.amqp_wire.specs.Codec.{Codec}
 use Rattle.amqp_wire.specs.Events.{LinkEvent, read_of, wrote_of}

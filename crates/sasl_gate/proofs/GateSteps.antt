@@ -1,8 +1,8 @@
 -- The steps of a negotiation.
 use Rattle.std.proofs.Common.{◌≡◌, ◌≤◌, inl, inr, ℕ, List, [], ◌∷◌, ◌++◌, length, take, drop, Some, None, Result, Ok, Err, refl, sym, subst}
-use Rattle.amqp_base.specs.declared.sasl.body.SaslBody.{SaslBody}
-use Rattle.amqp_base.specs.declared.sasl.body.SaslCode.{SaslCode}
-use Rattle.amqp_base.specs.Sasl.{Spells}
+use Rattle.amqp_composites.specs.declared.sasl_body.SaslBody.{SaslBody}
+use Rattle.amqp_composites.specs.declared.sasl_code.SaslCode.{SaslCode}
+use Rattle.amqp_frames.specs.Sasl.{SpellsSasl}
 use Rattle.amqp_wire.specs.declared.link.Link.{Ghosts}
 use Rattle.amqp_wire.specs.declared.link.Stop.{Stop}
 use Rattle.amqp_wire.specs.declared.link.Stop.TheVariants.{Empty, End, Failed as FailedRead}
@@ -83,7 +83,7 @@ pub failed_overlong : {L X : Type 0} (link : Ghosts L) (m : Mechanism X) (a : Ne
 failed_overlong link m a left body phase same o long = failed_frames link m a left FramingError phase same (λ before n. too_long body o long refl)
 
 pub failed_body : {L X : Type 0} (link : Ghosts L) (m : Mechanism X) (a : Negotiating L X) (left : ℕ) (e : NegotiationError) (body : SaslBody) (size start channel : ℕ) → a.phase ≡ Frames → m.same a.exchange a.exchange
-    → HasBody 1 512 a.codec.input size start channel → Spells (drop start (take size a.codec.input)) body
+    → HasBody 1 512 a.codec.input size start channel → SpellsSasl (drop start (take size a.codec.input)) body
     → ((given sent : List SaslBody) → m.holds a.exchange given sent → m.causes a.exchange e (given ++ body ∷ []) sent)
     → Stepped link m a left Ends (record a { phase = Failed e }) left
 failed_body link m a left e body size start channel phase same b s c =
@@ -145,7 +145,7 @@ read_waited {L} {X} link m a c (Stopped stop) left k s new over alive same r e =
 
 -- a body was taken
 pub body_taken : {L X : Type 0} (link : Ghosts L) (m : Mechanism X) (a : Negotiating L X) (x : X) (left size start channel : ℕ) (body : SaslBody) → a.phase ≡ Frames → m.same a.exchange x
-    → HasBody 1 512 a.codec.input size start channel → Spells (drop start (take size a.codec.input)) body
+    → HasBody 1 512 a.codec.input size start channel → SpellsSasl (drop start (take size a.codec.input)) body
     → ((given sent : List SaslBody) → m.holds a.exchange given sent → m.holds x (given ++ body ∷ []) sent)
     → Stepped link m a left Goes (record { codec = record a.codec { input = drop size a.codec.input }; phase = a.phase; exchange = x }) left
 body_taken link m a x left size start channel body phase same b s g = record { events = []; goes = goes_taken link m a x left size start channel body phase same b s g; end = tt }

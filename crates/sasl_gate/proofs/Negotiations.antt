@@ -3,8 +3,8 @@ use Rattle.std.proofs.Common.{◌≡◌, ◌<◌, ◌≤◌, ◌+◌, ◌-◌, i
 use Rattle.std.specs.Prelude.{flat_map, slice_index}
 use Rattle.std.proofs.lemmas.List.{append-nil, take-append-drop, length-take-le, drop-take}
 use Rattle.std.proofs.lemmas.Grind.{flat_map-append, common_steps}
-use Rattle.amqp_base.specs.declared.sasl.body.SaslBody.{SaslBody}
-use Rattle.amqp_base.specs.Sasl.{Spells}
+use Rattle.amqp_composites.specs.declared.sasl_body.SaslBody.{SaslBody}
+use Rattle.amqp_frames.specs.Sasl.{SpellsSasl}
 use Rattle.amqp_wire.specs.declared.link.Link.{Ghosts}
 use Rattle.amqp_wire.specs.declared.link.Held.{Held}
 use Rattle.amqp_wire.specs.declared.reading.Wait.{Wait}
@@ -177,7 +177,7 @@ take_index : (bytes : List ℕ) (size i : ℕ) → i < size → size ≤ length 
 take_index bytes size i h l = grind (arith, common_steps)
 
 -- a frame that was cut off is one
-pub frame_cut : (bytes : List ℕ) (size start channel : ℕ) (x : SaslBody) → HasBody 1 512 bytes size start channel → Spells (drop start (take size bytes)) x → IsSaslFrame (take size bytes) x
+pub frame_cut : (bytes : List ℕ) (size start channel : ℕ) (x : SaslBody) → HasBody 1 512 bytes size start channel → SpellsSasl (drop start (take size bytes)) x → IsSaslFrame (take size bytes) x
 frame_cut bytes size start channel x b s =
     let all : size ≤ length bytes = subst (λ (n : ℕ). n ≤ length bytes) (sym b.size_is) b.whole.all in
     let least : 8 ≤ size = subst (λ (n : ℕ). 8 ≤ n) (sym b.size_is) b.whole.size.least in
@@ -211,7 +211,7 @@ frame_cut bytes size start channel x b s =
 
 -- a body was taken
 pub goes_taken : {L X : Type 0} (link : Ghosts L) (m : Mechanism X) (a : Negotiating L X) (x : X) (left size start channel : ℕ) (body : SaslBody) → a.phase ≡ Frames → m.same a.exchange x
-    → HasBody 1 512 a.codec.input size start channel → Spells (drop start (take size a.codec.input)) body
+    → HasBody 1 512 a.codec.input size start channel → SpellsSasl (drop start (take size a.codec.input)) body
     → ((given sent : List SaslBody) → m.holds a.exchange given sent → m.holds x (given ++ body ∷ []) sent)
     → GoesOn link m a left [] (record { codec = record a.codec { input = drop size a.codec.input }; phase = a.phase; exchange = x }) left
 goes_taken {L} {X} link m a x left size start channel body phase s b spelled g =

@@ -1,8 +1,10 @@
 -- The frames of a negotiation (OASIS AMQP 1.0, part 5, section 5.3.1; part 2, section 2.3).
-use Rattle.std.specs.Prelude.{◌≡◌, ℕ, List, [], ◌∷◌, ◌++◌, length, drop, flat_map}
-use Rattle.amqp_base.specs.declared.sasl.body.SaslBody.{SaslBody}
-use Rattle.amqp_base.specs.Sasl.{Spells}
-use Rattle.amqp_base.specs.Canonical.{canonical_of}
+use Rattle.std.specs.Prelude.{◌≡◌, ℕ, List, [], ◌∷◌, ◌++◌, ◌≤◌, length, drop, flat_map}
+use Rattle.amqp_composites.specs.declared.sasl_body.SaslBody.{SaslBody}
+use Rattle.amqp_frames.specs.Sasl.{SpellsSasl}
+use Rattle.amqp_data.specs.Data.{item, no_items, items_depth}
+use Rattle.amqp_value.specs.Canonical.{canonical_items, AreSized}
+use Rattle.amqp_composites.specs.SaslBody.{of_sasl_body}
 use Rattle.amqp_wire.specs.Frame.{HasBody, frame_of}
 
 -- the protocol header of the SASL layer (part 5, section 5.3.2)
@@ -14,7 +16,7 @@ pub record IsSaslFrame (piece : List ℕ) (x : SaslBody) : Type 0 where
   pub start : ℕ
   pub channel : ℕ
   pub body : HasBody 1 512 piece (length piece) start channel
-  pub spelled : Spells (drop start piece) x
+  pub spelled : SpellsSasl (drop start piece) x
 
 -- the bytes are frames with these bodies one after another, and then a rest
 abbrev pub Carries : List ℕ → List SaslBody → List ℕ → Type 0
@@ -26,6 +28,14 @@ pub record Heard (read : List ℕ) (bodies : List SaslBody) (rest : List ℕ) : 
   pub tail : List ℕ
   pub header : read ≡ sasl_header ++ tail
   pub frames : Carries tail bodies rest
+
+-- the bytes that are written of a body
+abbrev pub canonical_of : SaslBody → List ℕ
+canonical_of x = canonical_items (item (of_sasl_body x) no_items) ++ []
+
+-- a length in it has no room in 32 bits, or it is nested too deep
+abbrev pub IsOversized : SaslBody → Type 0
+IsOversized x = AreSized (item (of_sasl_body x) no_items) → items_depth (item (of_sasl_body x) no_items) ≤ 34 → ⊥
 
 -- the frame that is written of a body
 abbrev pub sasl_frame : SaslBody → List ℕ

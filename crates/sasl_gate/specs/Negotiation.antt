@@ -1,8 +1,7 @@
 -- A negotiation over a link, in words of the bytes that were read and written.
 use Rattle.std.specs.Prelude.{◌≡◌, ◌≢◌, ◌<◌, ◌≤◌, ◌+◌, ◌⊎◌, ℕ, List, [], ◌++◌, length, take, drop, Result, Ok, Err, ⊤}
-use Rattle.amqp_base.specs.declared.sasl.body.SaslBody.{SaslBody}
-use Rattle.amqp_base.specs.Sasl.{Spells}
-use Rattle.amqp_base.specs.Canonical.{canonical_of, IsSized}
+use Rattle.amqp_composites.specs.declared.sasl_body.SaslBody.{SaslBody}
+use Rattle.amqp_frames.specs.Sasl.{SpellsSasl}
 use Rattle.amqp_wire.specs.declared.link.Link.{Ghosts}
 use Rattle.amqp_wire.specs.declared.link.Stop.TheVariants.{Empty, End}
 use Rattle.amqp_wire.specs.declared.link.Held.TheVariants.{Full}
@@ -19,7 +18,7 @@ use Rattle.sasl_gate.specs.declared.gate.negotiation.Phase.{Phase}
 use Rattle.sasl_gate.specs.declared.gate.negotiation.Phase.TheVariants.{Header, Frames, Failed}
 use Rattle.sasl_gate.specs.declared.gate.negotiation.GatePoll.{GatePoll}
 use Rattle.sasl_gate.specs.declared.gate.negotiation.GatePoll.TheVariants.{Pending, Passed}
-use Rattle.sasl_gate.specs.Frames.{sasl_header, Heard, said}
+use Rattle.sasl_gate.specs.Frames.{sasl_header, Heard, canonical_of, IsOversized, said}
 
 -- a negotiation: its codec, how far it is, and the exchange of its mechanism
 pub record Negotiating (L X : Type 0) : Type 0 where
@@ -58,7 +57,7 @@ pub record IsUndecodable (bytes : List ℕ) : Type 0 where
   pub start : ℕ
   pub channel : ℕ
   pub body : HasBody 1 512 bytes size start channel
-  pub none : (x : SaslBody) → Spells (drop start (take size bytes)) x → ⊥
+  pub none : (x : SaslBody) → SpellsSasl (drop start (take size bytes)) x → ⊥
 
 -- the bytes behind the frames that were taken begin with a frame that is refused
 abbrev pub FrameCause : NegotiationError → List ℕ → Type 0
@@ -86,7 +85,7 @@ IsMemoryOr FramingError P = P
 
 -- a body has no frame of at most 512 bytes (part 5, section 5.3.1)
 abbrev pub IsOverlong : SaslBody → Type 0
-IsOverlong x = (IsSized x → ⊥) ⊎ (504 < length (canonical_of x))
+IsOverlong x = IsOversized x ⊎ (504 < length (canonical_of x))
 
 -- why a negotiation fails, where `causes` is why its mechanism does, and `owes` the body that it owes
 pub data IsCaused (causes : NegotiationError → List SaslBody → List SaslBody → Type 0) (owes : SaslBody → Type 0) (e : NegotiationError) (events : List LinkEvent) : Type 0 where

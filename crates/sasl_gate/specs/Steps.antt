@@ -1,8 +1,8 @@
 -- One step of a negotiation.
 use Rattle.std.specs.Prelude.{◌≡◌, ◌+◌, ◌≤◌, ℕ, List, length, Option, Some, None, Result, Ok, Err, ⊤, ◌⊎◌}
-use Rattle.amqp_base.specs.declared.sasl.body.SaslBody.{SaslBody}
-use Rattle.amqp_base.specs.Sasl.{Spells}
-use Rattle.amqp_base.specs.Canonical.{canonical_of}
+use Rattle.amqp_composites.specs.declared.sasl_body.SaslBody.{SaslBody}
+use Rattle.amqp_frames.specs.Sasl.{SpellsSasl}
+use Rattle.sasl_gate.specs.Frames.{canonical_of}
 use Rattle.amqp_wire.specs.declared.link.Link.{Ghosts}
 use Rattle.amqp_wire.specs.Events.{LinkEvent}
 use Rattle.sasl_gate.specs.declared.gate.exchange.Exchange.{Ghosts as Mechanism}
@@ -88,8 +88,8 @@ ArrivesAt link mechanism arrival old left step new left' = ArrivesIn link mechan
 
 -- the body that bytes spell, if there is one
 abbrev pub IsDecoded : List ℕ → Option SaslBody → Type 0
-IsDecoded bytes None = (x : SaslBody) → Spells bytes x → ⊥
-IsDecoded bytes (Some body) = Spells bytes body
+IsDecoded bytes None = (x : SaslBody) → SpellsSasl bytes x → ⊥
+IsDecoded bytes (Some body) = SpellsSasl bytes body
 
 -- the bytes of the body that is owed, if a frame has room for them
 abbrev pub IsOwed : (SaslBody → Type 0) → Option (List ℕ) → Type 0

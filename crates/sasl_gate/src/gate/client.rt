@@ -1,7 +1,7 @@
 //! The client's end of a SASL negotiation with SCRAM-SHA-256 (OASIS AMQP 1.0, part 5, section 5.3; RFC 7677).
 ghost use Rattle.std.specs.Prelude.{◌≡◌, ◌^◌, ◌↔◌, ℕ, Option, Some, Ok, Contains, IsTrue, IfOk, IfErr, OnOk};
 ghost use Rattle.std.specs.Borrow.{Lends, sem};
-ghost use Rattle.amqp_base.specs.declared.sasl.body.SaslBody.TheVariants.{Mechanisms, Challenge, Outcome};
+ghost use Rattle.amqp_composites.specs.declared.sasl_body.SaslBody.TheVariants.{Mechanisms, Challenge, Outcome};
 ghost use Rattle.sasl_gate.specs.declared.gate.exchange.Turn.TheVariants.{Receive};
 ghost use Rattle.sasl_gate.specs.ClientGate.{username_of, password_of, nonce_of, ClientEnd, client_turn, client_left, client_owes, client_holds, client_causes, client_init, ClientSame, client_mechanism, client_refusal, client_same_self, client_same_then, client_begun, client_start, IsAllowedProfile, IsStartRefusal, IsTextAnswer, ClientPolled};
 ghost use Rattle.sasl_gate.specs.Negotiation.{IsPassed};
@@ -13,9 +13,11 @@ use crate::gate::exchange::{Exchange, Turn, Verdict};
 use crate::gate::negotiation::{GatePoll, Negotiation};
 use crate::scram::client::{ClientPhase, ScramClient};
 use crate::scram::error::ScramErrorKind;
-use amqp_base::{
-    SaslBody, SaslChallenge, SaslCode, SaslInit, SaslMechanisms, SaslOutcome, SaslResponse,
+use amqp_composites::sasl::{
+    SaslChallenge, SaslInit, SaslMechanisms, SaslOutcome, SaslResponse,
 };
+use amqp_composites::sasl_body::SaslBody;
+use amqp_composites::sasl_code::SaslCode;
 use amqp_text::symbol::SymbolError;
 use amqp_text::{Binary, Symbol, Text};
 use amqp_wire::codec::FramedCodec;

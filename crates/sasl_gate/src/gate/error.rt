@@ -3,7 +3,7 @@ ghost use Rattle.std.specs.Prelude.{◌≡◌, IfOk};
 ghost use Rattle.sasl_gate.specs.declared.gate.error.NegotiationError.TheVariants.{Memory};
 
 use crate::scram::error::ScramErrorKind;
-use amqp_base::SaslCode;
+use amqp_composites::sasl_code::SaslCode;
 use amqp_text::Binary;
 use amqp_wire::link::IoKind;
 use std::alloc::{AllocError, Global};

@@ -4,9 +4,9 @@ ghost use Rattle.std.specs.Borrow.{Lends, sem};
 ghost use Rattle.amqp_wire.specs.declared.frame.Front.TheVariants.{Refused, Foreign, Partial};
 ghost use Rattle.amqp_wire.specs.declared.reading.Wait.{Wait};
 ghost use Rattle.amqp_wire.specs.Events.{LinkEvent};
-ghost use Rattle.amqp_base.specs.declared.sasl.body.SaslBody.{SaslBody};
-ghost use Rattle.amqp_base.specs.Canonical.{canonical_of};
-ghost use Rattle.amqp_base.specs.Sasl.{Spells};
+ghost use Rattle.amqp_composites.specs.declared.sasl_body.SaslBody.{SaslBody};
+ghost use Rattle.sasl_gate.specs.Frames.{canonical_of};
+ghost use Rattle.amqp_frames.specs.Sasl.{SpellsSasl};
 ghost use Rattle.amqp_wire.specs.Frame.{HasBody, IsFront};
 ghost use Rattle.amqp_wire.specs.contracts.codec.FramedCodec.{the_row as codec_row};
 ghost use Rattle.sasl_gate.specs.contracts.gate.negotiation.Negotiation.{the_row};
@@ -18,12 +18,14 @@ ghost use Rattle.sasl_gate.specs.Steps.{Stepped, step_in, measure_of, HasEnded, 
 
 use crate::gate::error::NegotiationError;
 use crate::gate::exchange::{Exchange, Turn, Verdict};
-use amqp_base::{BaseError, FRAME_TYPE_SASL, SaslBody, decode_sasl, encode_sasl};
+use amqp_composites::sasl_body::SaslBody;
+use amqp_fields::BaseError;
+use amqp_frames::{FRAME_TYPE_SASL, decode_sasl, encode_sasl};
 use amqp_text::Binary;
 use amqp_wire::codec::FramedCodec;
 use amqp_wire::frame::Front;
 use amqp_wire::link::{Held, IoKind, Link, Stop};
-use amqp_wire::reading::{Arrival, HEADER_LENGTH, Wait, read_front, read_header};
+use amqp_wire::reading::{Arrival, Wait, read_front, read_header};
 use std::alloc::{AllocError, Global};
 use std::marker::Model;
 
@@ -88,16 +90,6 @@ fn is_sasl_header(bytes: &[u8]) -> bool
     ensures { result ≡ true ↔ (bytes.now ≡ sasl_header) }
 {
     bytes == SASL_HEADER.as_slice()
-}
-
-// The first eight bytes.
-fn front_header(bytes: &[u8]) -> [u8; 8]
-    requires { 8 ≤ length bytes.now }
-    ensures { result ≡ take 8 bytes.now }
-{
-    let mut header = [0u8; 8];
-    header.copy_from_slice(&bytes[..HEADER_LENGTH]);
-    header
 }
 
 impl<L: Link, X: Exchange> Negotiation<L, X> {
@@ -206,20 +198,24 @@ impl<L: Link, X: Exchange> Negotiation<L, X> {
     }
 
     // Compares the header that was read.
-    fn on_header(&mut self) -> Step
+    fn on_header(&mut self) -> Result<Step, AllocError>
         requires phase { self.old.phase ≡ Header }
         requires whole { 8 ≤ length self.old.codec.input }
-        ensures stepped { (left : ℕ) → Stepped L.Link X.Exchange self.old left result self.new left }
-        ensures less { result ≡ Step.Goes → measure_of X.Exchange self.new < measure_of X.Exchange self.old }
-        ensures ended { result ≡ Step.Ends → HasEnded X.Exchange self.new }
+        ensures stepped { (left : ℕ) → Stepped L.Link X.Exchange self.old left (step_in result) self.new left }
+        ensures less { result ≡ Ok Step.Goes → measure_of X.Exchange self.new < measure_of X.Exchange self.old }
+        ensures ended { result ≡ Ok Step.Ends → HasEnded X.Exchange self.new }
     {
-        let header = front_header(self.codec.input());
-        if is_sasl_header(header.as_slice()) {
-            self.codec.take_front(HEADER_LENGTH);
-            self.phase = Phase::Frames;
-            return Step::Goes;
+        let header = self.codec.header();
+        if !is_sasl_header(header.as_slice()) {
+            return Ok(self.fail(NegotiationError::ProtocolHeaderMismatch(header)));
         }
-        self.fail(NegotiationError::ProtocolHeaderMismatch(header))
+        match self.codec.take_header() {
+            Ok(()) => {
+                self.phase = Phase::Frames;
+                Ok(Step::Goes)
+            }
+            Err(error) => Err(error),
+        }
     }
 
     fn await_header(&mut self, reads_left: &mut u64) -> Result<Step, AllocError>
@@ -229,7 +225,7 @@ impl<L: Link, X: Exchange> Negotiation<L, X> {
         ensures ended { result ≡ Ok Step.Ends → HasEnded X.Exchange self.new }
     {
         match read_header(&mut self.codec, reads_left) {
-            Ok(Wait::Over) => Ok(self.on_header()),
+            Ok(Wait::Over) => self.on_header(),
             Ok(Wait::Stopped(stop)) => Ok(self.on_stop(stop)),
             Ok(Wait::Spent) => Ok(Step::Waits),
             Err(error) => Err(error),
@@ -241,7 +237,7 @@ impl<L: Link, X: Exchange> Negotiation<L, X> {
         requires frame { (channel : ℕ) × HasBody 1 512 self.now.codec.input size start channel }
         ensures { IfOk result (IsDecoded (drop start (take size self.now.codec.input))) }
     {
-        match decode_sasl(self.alloc, &self.codec.input()[start..size]) {
+        match decode_sasl(self.alloc, &self.codec.frame(size)[start..]) {
             Ok(body) => Ok(Some(body)),
             Err(BaseError::Memory(error)) => Err(error),
             Err(BaseError::Decode) => Ok(None),
@@ -253,14 +249,14 @@ impl<L: Link, X: Exchange> Negotiation<L, X> {
     fn take_body(&mut self, body: SaslBody, size: usize) -> Result<Step, AllocError>
         requires phase { self.old.phase ≡ Frames }
         requires turn { X.turn_of self.old.exchange ≡ Receive }
-        requires frame { (start channel : ℕ) × HasBody 1 512 self.old.codec.input size start channel × Spells (drop start (take size self.old.codec.input)) body }
+        requires frame { (start channel : ℕ) × HasBody 1 512 self.old.codec.input size start channel × SpellsSasl (drop start (take size self.old.codec.input)) body }
         ensures stepped { (left : ℕ) → Stepped L.Link X.Exchange self.old left (step_in result) self.new left }
         ensures less { result ≡ Ok Step.Goes → measure_of X.Exchange self.new < measure_of X.Exchange self.old }
         ensures ended { result ≡ Ok Step.Ends → HasEnded X.Exchange self.new }
     {
         match self.exchange.on_body(self.alloc, body) {
             Ok(Verdict::Taken) => {
-                self.codec.take_front(size);
+                self.codec.take_frame(size);
                 Ok(Step::Goes)
             }
             Ok(Verdict::Refused(error)) => Ok(self.fail(error)),

@@ -1,7 +1,7 @@
 //! The listener's end of a SASL negotiation with SCRAM-SHA-256 (OASIS AMQP 1.0, part 5, section 5.3; RFC 7677).
 ghost use Rattle.std.specs.Prelude.{◌≡◌, ◌≢◌, ◌⊎◌, ◌^◌, ℕ, List, Option, Some, None, Ok, IfOk, IfErr, IfSome, IfNone};
 ghost use Rattle.std.specs.Borrow.{Lends, sem};
-ghost use Rattle.amqp_base.specs.declared.sasl.body.SaslBody.TheVariants.{Init, Response};
+ghost use Rattle.amqp_composites.specs.declared.sasl_body.SaslBody.TheVariants.{Init, Response};
 ghost use Rattle.sasl_gate.specs.declared.gate.exchange.Turn.TheVariants.{Receive};
 ghost use Rattle.sasl_gate.specs.ServerGate.{ServerEnd, server_turn, server_left, server_owes, server_holds, server_causes, ServerSame, server_mechanism, server_refusal, server_same_self, server_same_then, server_begun, server_start, own_mechanisms, IsTextAnswer, ServerPolled};
 ghost use Rattle.sasl_gate.specs.Negotiation.{IsPassed};
@@ -15,9 +15,11 @@ use crate::gate::negotiation::{GatePoll, Negotiation};
 use crate::scram::error::ScramErrorKind;
 use crate::scram::provider::ScramCredentialProvider;
 use crate::scram::server::ScramServer;
-use amqp_base::{
-    SaslBody, SaslChallenge, SaslCode, SaslInit, SaslMechanisms, SaslOutcome, SaslResponse,
+use amqp_composites::sasl::{
+    SaslChallenge, SaslInit, SaslMechanisms, SaslOutcome, SaslResponse,
 };
+use amqp_composites::sasl_body::SaslBody;
+use amqp_composites::sasl_code::SaslCode;
 use amqp_text::{Binary, SymbolList, Text};
 use amqp_wire::codec::FramedCodec;
 use amqp_wire::link::Link;

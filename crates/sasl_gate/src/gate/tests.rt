@@ -20,7 +20,7 @@ fn client_gate(rt: &impl Abort, alloc: Global) -> Result<ClientGate<Pipe>, Fail>
         password: Text::from_str(alloc, "pencil")?,
         nonce: Text::from_str(alloc, nonce)?,
     };
-    let codec = FramedCodec::new(alloc, Pipe::new(alloc));
+    let codec = FramedCodec::new(alloc, Pipe::new(alloc), 512, 512);
     match ClientGate::new(alloc, codec, profile.try_clone(alloc)?, None) {
         Ok(gate) => Ok(gate),
         Err(_) => Err("no gate".into()),
@@ -37,7 +37,7 @@ fn server_gate(rt: &impl Abort, alloc: Global) -> Result<ServerGate<Pipe, OneUse
     let password = Text::from_str(alloc, "pencil")?;
     let provider = OneUser::new(user, password, Some(stored))?;
     let nonce = Text::from_str(alloc, nonce)?;
-    let codec = FramedCodec::new(alloc, Pipe::new(alloc));
+    let codec = FramedCodec::new(alloc, Pipe::new(alloc), 512, 512);
     match ServerGate::new(alloc, codec, provider, nonce) {
         Ok(gate) => Ok(gate),
         Err(_) => Err("no gate".into()),

@@ -3,17 +3,3 @@ use Rattle.sasl_gate.specs.Negotiation.{Negotiating}
 use Rattle.sasl_gate.specs.Frames.{sasl_header}
 use Rattle.sasl_gate.proofs.GateSteps.{header_taken, header_mismatch}
 use Rattle.sasl_gate.proofs.gate.negotiation.Negotiation.on_header.Goals as goal
-
-pub returns-then-is_sasl_header-clause-stepped : goal.returns-then-is_sasl_header-clause-stepped
-returns-then-is_sasl_header-clause-stepped g c =
-    let phase = rw (← c.self.view_is) at c.requires.phase in
-    let front : take 8 c.self.inside.codec.input ≡ sasl_header =
-    ap (λ (u : List ℕ). take 8 u) (sym c.input.ensures) ∙ sym c.front_header-header.ensures ∙ sym c.as_slice.ensures ∙ c.if-is_sasl_header.ensures.0 refl in
-    λ left. rw (← c.self.view_is, c.take_front.ensures) (header_taken g.L.Link g.X.Exchange _ left phase (g.met.X.Exchange.same_self c.self.inside.exchange) front)
-
-pub returns-clause-stepped : goal.returns-clause-stepped
-returns-clause-stepped g c =
-    let same = ap (λ (n : Negotiating _ _). n.codec.input) c.self.view_is in
-    let header : c.front_header-header.result ≡ take 8 c.args.self.now.codec.input = c.front_header-header.ensures ∙ ap (λ (u : List ℕ). take 8 u) (c.input.ensures ∙ same) in
-    λ left. rw (c.fail.ensures.failed, c.fail.ensures.ends) (header_mismatch g.L.Link g.X.Exchange c.args.self.now left c.front_header-header.result c.requires.phase (g.met.X.Exchange.same_self c.args.self.now.exchange) c.requires.whole header
-    (λ e. let bad : false ≡ true = c.if-is_sasl_header.ensures.1 (c.as_slice.ensures ∙ e) in cc))

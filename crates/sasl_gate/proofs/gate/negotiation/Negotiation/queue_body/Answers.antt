@@ -1,5 +1,5 @@
 use Rattle.std.proofs.Common.{◌≡◌, ◌∙◌, ◌++◌, ap, List, ℕ}
-use Rattle.amqp_base.specs.Canonical.{canonical_of}
+use Rattle.sasl_gate.specs.Frames.{canonical_of}
 use Rattle.amqp_wire.specs.Frame.{frame_of}
 use Rattle.sasl_gate.specs.Frames.{sasl_frame}
 use Rattle.sasl_gate.proofs.GateSteps.{body_sent}

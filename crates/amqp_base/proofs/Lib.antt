@@ -1,9 +1,0 @@
-pub mod Ascii
-pub mod Numbers
-pub mod Sound
-pub mod Complete
-pub mod Lists
-pub mod Bodies
-pub mod Loops
-pub mod Canonical
-pub mod Written
