@@ -1,4 +1,5 @@
 use Rattle.amqp_wire.specs.declared.reading.Wait.TheVariants.{Over}
+use Rattle.sasl_gate.specs.Steps.{step_in}
 use Rattle.sasl_gate.proofs.GateSteps.{alive_header, read_then, read_stopped, read_spent, read_more}
 use Rattle.sasl_gate.proofs.gate.negotiation.Negotiation.await_header.Goals as goal
 
@@ -7,7 +8,7 @@ returns-in-Ok-Over-clause-stepped g c =
     let phase = rw (← c.self.view_is) at c.requires.phase in
     let r = rw c.in-Ok-Over.field-0-is at c.in-Ok-Over.ensures.read in
     let st = c.on_header.ensures.stepped c.read_header.new.reads_left in
-    rw (← c.self.view_is) (read_then g.L.Link g.X.Exchange _ c.read_header.new.codec c.on_header.new.self Over c.args.reads_left.now c.read_header.new.reads_left c.read_header.new.reads_left c.on_header.result
+    rw (← c.self.view_is) (read_then g.L.Link g.X.Exchange _ c.read_header.new.codec c.on_header.new.self Over c.args.reads_left.now c.read_header.new.reads_left c.read_header.new.reads_left (step_in c.on_header.result)
     (alive_header _ phase) (g.met.X.Exchange.same_self c.self.inside.exchange) st.goes.kept r st)
 
 pub returns-in-Ok-Stopped-clause-stepped : goal.returns-in-Ok-Stopped-clause-stepped

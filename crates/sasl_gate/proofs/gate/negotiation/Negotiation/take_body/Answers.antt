@@ -7,7 +7,7 @@ returns-in-Ok-Taken-clause-stepped g c =
     let f = rw (← c.self.view_is) at c.requires.frame in
     let taken = rw c.in-Ok-Taken.field-0-is at c.in-Ok-Taken.ensures.taken in
     let same = rw c.in-Ok-Taken.field-0-is at c.in-Ok-Taken.ensures.same in
-    λ left. rw (← c.self.view_is, c.take_front.ensures) (body_taken g.L.Link g.X.Exchange _ c.on_body.new.self left c.args.size f.0 f.1 c.args.body phase same f.2 f.3 taken)
+    λ left. rw (← c.self.view_is, c.take_frame.ensures) (body_taken g.L.Link g.X.Exchange _ c.on_body.new.self left c.args.size f.0 f.1 c.args.body phase same f.2 f.3 taken)
 
 pub returns-in-Ok-Refused-clause-stepped : goal.returns-in-Ok-Refused-clause-stepped
 returns-in-Ok-Refused-clause-stepped g c =
