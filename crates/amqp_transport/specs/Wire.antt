@@ -102,12 +102,15 @@ PolledAt None link kind spells old at result new =
 abbrev pub Polled : {L X : Type 0} → Ghosts L → ℕ → (ℕ → List ℕ → X → Type 0) → Wire L → ℕ → Result (Next X) Error → Wire L → Type 0
 Polled link kind spells old at result new = PolledAt old.kept link kind spells old at result new
 
--- the frame is queued whole, or nothing is
+-- the frame is above the limit, its size has no room in 32 bits, or the item has no bytes (part 2, section 2.3.1)
+abbrev pub IsTooLarge : {L X : Type 0} → (X → List ℕ) → (X → Type 0) → Wire L → X → Type 0
+IsTooLarge canonical is_oversized old x = (old.codec.encoder < 8 + length (canonical x)) ⊎ ((2 ^ 32 ≤ 8 + length (canonical x)) ⊎ is_oversized x)
+
+-- the frame is queued whole where it is not too large; else nothing is
 abbrev pub StartedSend : {L X : Type 0} → ℕ → (X → List ℕ) → (X → ℕ) → (X → Type 0) → Wire L → X → Result Unit Error → Wire L → Type 0
 StartedSend kind canonical channel is_oversized old x (Ok u) new =
-    (8 + length (canonical x) ≤ old.codec.encoder) × (new ≡ record old { codec = record old.codec { output = old.codec.output ++ frame_of kind (channel x) (canonical x) } })
-StartedSend kind canonical channel is_oversized old x (Err FramingError) new =
-    ((old.codec.encoder < 8 + length (canonical x)) ⊎ ((2 ^ 32 ≤ 8 + length (canonical x)) ⊎ is_oversized x)) × (new ≡ old)
+    (IsTooLarge canonical is_oversized old x → ⊥) × (new ≡ record old { codec = record old.codec { output = old.codec.output ++ frame_of kind (channel x) (canonical x) } })
+StartedSend kind canonical channel is_oversized old x (Err FramingError) new = IsTooLarge canonical is_oversized old x × (new ≡ old)
 StartedSend kind canonical channel is_oversized old x (Err (Memory a)) new = new ≡ old
 StartedSend kind canonical channel is_oversized old x (Err e) new = ⊥
 
