@@ -1,7 +1,7 @@
 //! Frames of AMQP and of SASL (OASIS AMQP 1.0, part 2, section 2.3; part 5, section 5.3).
 ghost use Rattle.std.specs.Prelude.{◌≡◌};
 ghost use Rattle.amqp_transport.specs.Kinds.{no_frame, amqp_spells, amqp_bytes, amqp_oversized, amqp_again, amqp_channel, sasl_spells, sasl_bytes, sasl_oversized, sasl_channel};
-ghost use Rattle.amqp_transport.proofs.OneItem.{one_frame, one_sasl};
+ghost use Rattle.amqp_transport.specs.OneItem.{one_frame, one_sasl};
 
 use crate::kind::{Encoded, FrameKind};
 use amqp_composites::sasl_body::SaslBody;
