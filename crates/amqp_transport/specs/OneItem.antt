@@ -1,4 +1,4 @@
--- A body spells one item at most: a law of both kinds of frames (OASIS AMQP 1.0, part 2, section 2.3.2; part 5, section 5.3.1).
+-- A body spells one item at most (OASIS AMQP 1.0, part 2, section 2.3.2; part 5, section 5.3.1).
 use Rattle.std.proofs.Common.{◌≡◌, ◌⊎◌, inl, inr, ℕ, ◌≤◌, List, [], ◌∷◌, ◌++◌, length, refl, sym, ap, ◌∙◌, arith}
 use Rattle.std.proofs.lemmas.List.{append_cancel_left, length-append}
 use Rattle.std.proofs.lemmas.Option.{same_Some}

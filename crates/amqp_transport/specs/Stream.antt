@@ -42,7 +42,7 @@ pub record Grew {L X : Type 0} (link : Ghosts L) (kind : ℕ) (spells : ℕ → 
 abbrev pub stream_of : {X : Type 0} → ℕ → (X → List ℕ) → (X → ℕ) → List X → List ℕ
 stream_of kind canonical channel xs = flat_map (λ x. frame_of kind (channel x) (canonical x)) xs
 
--- a frame can hold the item: its size and its channel have room, and its body spells the item as it is read again (section 2.3.1)
+-- a frame can hold the item: its size and channel have room (section 2.3.1), and its body spells it as it is read again
 pub record HasFrame {X : Type 0} (spells : ℕ → List ℕ → X → Type 0) (canonical : X → List ℕ) (channel : X → ℕ) (again : X → X) (x : X) : Type 0 where
   pub size_fits : 8 + length (canonical x) < 2 ^ 32
   pub channel_fits : channel x < 2 ^ 16

@@ -38,8 +38,8 @@ impl<L: Link> Model for Negotiating<L> {
     ghost view = { λ n. n.codec };
 }
 
-/// Queues the eight bytes of a header, and sets both limits of frames to 512 bytes. Only memory can be wanting; then the codec is
-/// handed back as it was.
+/// Queues the eight bytes of a header, and sets both limits of frames to 512 bytes. Only memory can be wanting; then the codec
+/// is handed back as it was.
 pub fn negotiate<L: Link>(
     mut codec: FramedCodec<L>,
     header: [u8; 8],
@@ -67,12 +67,12 @@ pub fn negotiate_sasl_header<L: Link>(
     negotiate(codec, ProtocolHeader::sasl().to_bytes())
 }
 
-/// Queues the header of AMQP (part 2, section 2.2), as `negotiate`, for a connection of which nothing was sent or received. There is no
-/// idle time while headers are exchanged: the one given here starts where a transport is bound with it.
+/// Queues the header of AMQP (part 2, section 2.2), as `negotiate`, for a connection of which nothing was sent or received. No
+/// idle time runs while headers are exchanged: it starts where a transport is bound with it (section 2.4.5).
 pub fn negotiate_amqp_header<L: Link>(
     codec: FramedCodec<L>,
     state: ConnectionState,
-    idle_timeout: Option<u64>,
+    _idle_timeout: Option<u64>,
 ) -> Result<Negotiating<L>, (AllocError, FramedCodec<L>)>
     requires { state ≡ Start }
     ensures ok { IfOk result (λ n. n ≡ started codec (header_bytes (version_1 Amqp))) }
@@ -93,8 +93,8 @@ impl<L: Link> Negotiating<L> {
         }
     }
 
-    /// Writes the header, and then waits for eight bytes, whatever they say. `Io` where the link failed or its input ended before them;
-    /// after `Memory` nothing is lost, and the next poll goes on.
+    /// Writes the header, and then waits for eight bytes, whatever they say. `Io` says that the link failed, or that its input
+    /// ended before them. After `Memory` nothing is lost, and the next poll goes on.
     pub fn poll(&mut self) -> Result<Negotiated, Error>
         ensures { Exchanged L.Link self.old result self.new }
     {

@@ -201,8 +201,13 @@ fn sends_a_response(alloc: Global, text: &[u8]) -> Result<Result<(), Error>, All
     let mut response = Binary::new(alloc);
     response.append(text)?;
     let body = SaslBody::Response(SaslResponse { response });
-    let mut transport: Transport<Pipe, SaslFrames> =
-        Transport::bind(alloc, Pipe::new(alloc), 512, None, 0);
+    let mut transport: Transport<Pipe, SaslFrames> = Transport::bind(
+        alloc,
+        Pipe::new(alloc),
+        512,
+        None,
+        0,
+    );
     let sent = transport.start_send(alloc, &body);
     mem::forget(body);
     Ok(sent)
@@ -211,6 +216,9 @@ fn sends_a_response(alloc: Global, text: &[u8]) -> Result<Result<(), Error>, All
 #[test]
 fn frames_at_the_limit_are_sent(rt: HostRuntime) -> Result<(), Fail> {
     assert_eq!(rt; sends_a_response(rt.alloc(), &[b'x'; 487])?, Ok(()));
-    assert_eq!(rt; sends_a_response(rt.alloc(), &[b'x'; 488])?, Err(Error::FramingError));
+    assert_eq!(rt;
+        sends_a_response(rt.alloc(), &[b'x'; 488])?,
+        Err(Error::FramingError)
+    );
     Ok(())
 }

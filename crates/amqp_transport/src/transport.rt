@@ -89,8 +89,8 @@ impl<L: Link, F: FrameKind> Model for Transport<L, F> {
 }
 
 impl<L: Link, F: FrameKind> Transport<L, F> {
-    /// Frames over the link. None may have more bytes than that size, which is at least 512 (part 2, section 2.4.1), read or written.
-    /// The idle time and the moment at which it starts are in milliseconds; an idle time of 0 is none (section 2.4.5).
+    /// Frames over the link. None that is read or written may have more bytes than that size, at least 512 (part 2, section
+    /// 2.4.1). The idle time and the moment at which it starts are in milliseconds; an idle time of 0 is none (section 2.4.5).
     pub fn bind(
         alloc: Global,
         link: L,
@@ -107,8 +107,8 @@ impl<L: Link, F: FrameKind> Transport<L, F> {
         Transport::bind_to_framed_codec(codec, idle_timeout, at)
     }
 
-    /// Frames over the codec; nothing that was read is lost. The idle time and the moment at which it starts are in milliseconds; an
-    /// idle time of 0 is none (part 2, section 2.4.5).
+    /// Frames over the codec; nothing that was read is lost. The idle time and the moment at which it starts are in
+    /// milliseconds; an idle time of 0 is none (part 2, section 2.4.5).
     pub fn bind_to_framed_codec(codec: FramedCodec<L>, idle_timeout: Option<u64>, at: u64) -> Self
         ensures codec { result.codec ≡ codec }
         ensures clock { result.clock ≡ record { idle = idle_of idle_timeout; since = at } }
@@ -194,9 +194,9 @@ impl<L: Link, F: FrameKind> Transport<L, F> {
 
     /// At most one frame. The moment is in milliseconds; a frame that is given starts the idle time anew.
     ///
-    /// `Io`, `IdleTimeoutElapsed`, `DecodeError`, `NotImplemented` and `FramingError` are answered again by each later poll. After
-    /// `Memory` all that was read is still there, and the next poll goes on. What is looked at first, the size, the place of the
-    /// body, the type or the body itself, is what is answered.
+    /// The size of a frame is looked at first, then the place of its body, its type, and its body: the first that is wrong is
+    /// answered. An error is answered again by each later poll, but for `Memory`: all that was read is still there then, and
+    /// the next poll goes on.
     pub fn poll_next(&mut self, at: u64) -> Result<Next<F::Item>, Error>
         ensures answer { Polled L.Link F.TYPE F.spells self.old at result self.new }
         ensures joined { Grew L.Link F.TYPE F.spells self.old result self.new }
@@ -216,8 +216,9 @@ impl<L: Link, F: FrameKind> Transport<L, F> {
         }
     }
 
-    /// Queues the whole frame, or nothing: `FramingError` exactly where the frame would have more bytes than the encoder's limit or
-    /// than 32 bits can count, or the item has no bytes at all, unless memory ran out (`Memory`). An `Err` changes nothing.
+    /// Queues the whole frame, or nothing. Unless memory ran out, `FramingError` is answered exactly where the frame would
+    /// have more bytes than the encoder's limit or than 32 bits can count, or where the item has no bytes at all. An `Err`
+    /// changes nothing.
     pub fn start_send(&mut self, alloc: Global, item: &F::Item) -> Result<(), Error>
         ensures answer { StartedSend F.TYPE F.canonical F.channel_of F.is_oversized self.old item.now result self.new }
         ensures frame { OnOk result (HasFrame F.spells F.canonical F.channel_of F.again item.now) }
@@ -238,8 +239,8 @@ impl<L: Link, F: FrameKind> Transport<L, F> {
         }
     }
 
-    /// Writes until nothing is left (`Empty`), or the link takes nothing now (`Full`). `Io` where the link failed, `Memory` where it had
-    /// no memory. What was not taken stays queued after each of them.
+    /// Writes until nothing is left (`Empty`), or the link takes nothing now (`Full`). `Io` says that the link failed,
+    /// `Memory` that it had no memory. What was not taken stays queued, whatever is answered.
     pub fn poll_flush(&mut self) -> Result<Flush, Error>
         ensures { FlushedTo L.Link self.old result self.new }
     {
