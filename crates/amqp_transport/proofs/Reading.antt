@@ -1,12 +1,11 @@
 -- What is read of a stream.
-use Rattle.std.proofs.Common.{◌≡◌, ◌≢◌, ◌+◌, ◌*◌, ◌-◌, ◌/◌, ◌%◌, ◌<◌, ◌≤◌, ◌^◌, ◌⊎◌, inl, inr, ℕ, List, [], ◌∷◌, ◌++◌, length, take, drop, get_or, refl, sym, ap, ◌∙◌, subst, arith, append_assoc, length-append, take-append-drop}
+use Rattle.std.proofs.Common.{◌≡◌, ◌+◌, ◌<◌, ◌≤◌, ◌^◌, inl, inr, ℕ, List, [], ◌∷◌, ◌++◌, length, take, drop, refl, sym, ap, ◌∙◌, subst, arith, append_assoc, length-append}
 use Rattle.std.proofs.Math.Path.{ap₂}
-use Rattle.std.proofs.lemmas.List.{append-nil, take_at, drop_at}
+use Rattle.std.proofs.lemmas.List.{take_at, drop_at}
 use Rattle.std.proofs.lemmas.List.Elements.{All-head, All-tail}
 use Rattle.std.specs.Prelude.{map, All}
-use Rattle.std.specs.Int.{w16, w32, to_be_bytes}
-use Rattle.amqp_wire.specs.Size.{size_of, start_of, channel_of}
-use Rattle.amqp_wire.specs.Frame.{HasBody, HasSize, IsWhole, frame_of}
+use Rattle.amqp_wire.specs.Size.{size_of}
+use Rattle.amqp_wire.specs.Frame.{frame_of}
 use Rattle.amqp_transport.specs.Stream.{IsFrame, Joined, IsPart, HasFrame, AreFirst, stream_of}
 use Rattle.amqp_transport.proofs.Cuts.{size_of-append}
 

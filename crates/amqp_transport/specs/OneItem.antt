@@ -1,9 +1,9 @@
 -- A body spells one item at most (OASIS AMQP 1.0, part 2, section 2.3.2; part 5, section 5.3.1).
-use Rattle.std.proofs.Common.{◌≡◌, ◌⊎◌, inl, inr, ℕ, ◌≤◌, List, [], ◌∷◌, ◌++◌, length, refl, sym, ap, ◌∙◌, arith}
+use Rattle.std.proofs.Common.{◌≡◌, ◌⊎◌, inl, inr, ℕ, List, [], ◌∷◌, ◌++◌, length, refl, sym, ap, ◌∙◌, arith}
 use Rattle.std.proofs.lemmas.List.{append_cancel_left, length-append}
 use Rattle.std.proofs.lemmas.Option.{same_Some}
 use Rattle.std.specs.Prelude.{Some}
-use Rattle.amqp_data.specs.Data.{Amqp, list, no_items, depth}
+use Rattle.amqp_data.specs.Data.{Amqp, list, no_items}
 use Rattle.amqp_value.specs.Grammar.{Spells, empty_list}
 use Rattle.amqp_value.proofs.Complete.{begins_no_other}
 use Rattle.amqp_composites.specs.declared.performative.Performative.{Performative}
@@ -13,7 +13,6 @@ use Rattle.amqp_composites.specs.SaslBody.{sasl_body_in}
 use Rattle.amqp_frames.specs.declared.body.FrameBody.{FrameBody}
 use Rattle.amqp_frames.specs.declared.body.FrameBody.TheVariants.{Empty}
 use Rattle.amqp_frames.specs.Body.{framed, SpellsBody, empty', performative'}
-use Rattle.amqp_frames.specs.Sasl.{SpellsSasl}
 use Rattle.amqp_transport.specs.declared.frames.Frame.{Frame}
 use Rattle.amqp_transport.specs.Kinds.{amqp_spells, sasl_spells}
 

@@ -1,5 +1,5 @@
 -- The frames that bytes carry (OASIS AMQP 1.0, part 2, section 2.3).
-use Rattle.std.specs.Prelude.{◌≡◌, ◌<◌, ◌≤◌, ◌⊎◌, ◌+◌, ◌^◌, ℕ, List, [], ◌∷◌, ◌++◌, map, length, drop, flat_map, Option, Some, None, Result, Ok, Err}
+use Rattle.std.specs.Prelude.{◌≡◌, ◌<◌, ◌⊎◌, ◌+◌, ◌^◌, ℕ, List, [], ◌∷◌, ◌++◌, map, length, drop, flat_map, Result, Ok, Err}
 use Rattle.amqp_wire.specs.Size.{size_of}
 use Rattle.amqp_wire.specs.Frame.{HasBody, frame_of}
 use Rattle.amqp_wire.specs.declared.link.Link.{Ghosts}

@@ -1,5 +1,5 @@
 -- What a transport answers (OASIS AMQP 1.0, part 2, sections 2.3 and 2.4.5).
-use Rattle.std.specs.Prelude.{◌≡◌, ◌≢◌, ◌<◌, ◌≤◌, ◌+◌, ◌-◌, ◌^◌, ◌⊎◌, ℕ, List, [], ◌∷◌, ◌++◌, length, take, drop, Option, Some, None, Result, Ok, Err, IsSome}
+use Rattle.std.specs.Prelude.{◌≡◌, ◌≢◌, ◌<◌, ◌≤◌, ◌+◌, ◌^◌, ◌⊎◌, ℕ, List, [], ◌++◌, length, take, drop, Option, Some, None, Result, Ok, Err}
 use Rattle.amqp_wire.specs.declared.link.Link.{Ghosts}
 use Rattle.amqp_wire.specs.declared.link.Stop.{Stop}
 use Rattle.amqp_wire.specs.declared.link.Stop.TheVariants.{Empty, End, Failed}
@@ -15,7 +15,7 @@ use Rattle.amqp_transport.specs.declared.transport.Next.TheVariants.{Frame, Pend
 use Rattle.amqp_transport.specs.declared.transport.Flush.{Flush}
 use Rattle.amqp_transport.specs.declared.transport.Flush.TheVariants.{Empty as Flushed_all, Full as Flushed_full}
 use Rattle.amqp_wire.specs.Frame.{IsFront, frame_of}
-use Rattle.amqp_wire.specs.Steps.{Gave, ReadBy}
+use Rattle.amqp_wire.specs.Steps.{ReadBy}
 use Rattle.amqp_transport.specs.declared.idle_clock.IdleClock.{IdleClock}
 use Rattle.amqp_transport.specs.Clocks.{HasElapsed}
 use Rattle.amqp_transport.specs.Codec.{Codec, Fed, FedTo, Flushed, IsWanted}
