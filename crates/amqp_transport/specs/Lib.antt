@@ -5,3 +5,4 @@ pub mod Wire
 pub mod Stream
 pub mod Exchange
 pub mod Kinds
+pub mod OneItem

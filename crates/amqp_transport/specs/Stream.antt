@@ -1,5 +1,5 @@
--- The frames that bytes carry.
-use Rattle.std.specs.Prelude.{◌≡◌, ◌<◌, ◌≤◌, ◌⊎◌, ℕ, List, [], ◌∷◌, ◌++◌, length, drop, flat_map, Option, Some, None, Result, Ok, Err}
+-- The frames that bytes carry (OASIS AMQP 1.0, part 2, section 2.3).
+use Rattle.std.specs.Prelude.{◌≡◌, ◌<◌, ◌⊎◌, ◌+◌, ◌^◌, ℕ, List, [], ◌∷◌, ◌++◌, map, length, drop, flat_map, Result, Ok, Err}
 use Rattle.amqp_wire.specs.Size.{size_of}
 use Rattle.amqp_wire.specs.Frame.{HasBody, frame_of}
 use Rattle.amqp_wire.specs.declared.link.Link.{Ghosts}
@@ -41,3 +41,17 @@ pub record Grew {L X : Type 0} (link : Ghosts L) (kind : ℕ) (spells : ℕ → 
 -- the frames that are written
 abbrev pub stream_of : {X : Type 0} → ℕ → (X → List ℕ) → (X → ℕ) → List X → List ℕ
 stream_of kind canonical channel xs = flat_map (λ x. frame_of kind (channel x) (canonical x)) xs
+
+-- a frame can hold the item: its size and channel have room (section 2.3.1), and its body spells it as it is read again
+pub record HasFrame {X : Type 0} (spells : ℕ → List ℕ → X → Type 0) (canonical : X → List ℕ) (channel : X → ℕ) (again : X → X) (x : X) : Type 0 where
+  pub size_fits : 8 + length (canonical x) < 2 ^ 32
+  pub channel_fits : channel x < 2 ^ 16
+  pub spelled : spells (channel x) (canonical x) (again x)
+
+-- these are the first of those that were written, as they are read again, and what is left is the stream of the others
+pub record AreFirst {X : Type 0} (kind : ℕ) (canonical : X → List ℕ) (channel : X → ℕ) (again : X → X) (given written : List X) (left : List ℕ) : Type 0 where
+  pub first : List X
+  pub others : List X
+  pub split : written ≡ first ++ others
+  pub items : given ≡ map again first
+  pub stream : left ≡ stream_of kind canonical channel others

@@ -1,5 +1,5 @@
--- What a transport answers.
-use Rattle.std.specs.Prelude.{◌≡◌, ◌≢◌, ◌<◌, ◌≤◌, ◌+◌, ◌-◌, ◌^◌, ◌⊎◌, ℕ, List, [], ◌∷◌, ◌++◌, length, take, drop, Option, Some, None, Result, Ok, Err, IsSome}
+-- What a transport answers (OASIS AMQP 1.0, part 2, sections 2.3 and 2.4.5).
+use Rattle.std.specs.Prelude.{◌≡◌, ◌≢◌, ◌<◌, ◌≤◌, ◌+◌, ◌^◌, ◌⊎◌, ℕ, List, [], ◌++◌, length, take, drop, Option, Some, None, Result, Ok, Err}
 use Rattle.amqp_wire.specs.declared.link.Link.{Ghosts}
 use Rattle.amqp_wire.specs.declared.link.Stop.{Stop}
 use Rattle.amqp_wire.specs.declared.link.Stop.TheVariants.{Empty, End, Failed}
@@ -15,7 +15,7 @@ use Rattle.amqp_transport.specs.declared.transport.Next.TheVariants.{Frame, Pend
 use Rattle.amqp_transport.specs.declared.transport.Flush.{Flush}
 use Rattle.amqp_transport.specs.declared.transport.Flush.TheVariants.{Empty as Flushed_all, Full as Flushed_full}
 use Rattle.amqp_wire.specs.Frame.{IsFront, frame_of}
-use Rattle.amqp_wire.specs.Steps.{Gave, ReadBy}
+use Rattle.amqp_wire.specs.Steps.{ReadBy}
 use Rattle.amqp_transport.specs.declared.idle_clock.IdleClock.{IdleClock}
 use Rattle.amqp_transport.specs.Clocks.{HasElapsed}
 use Rattle.amqp_wire.specs.Codec.{Codec, Fed, Flushed}
@@ -103,12 +103,15 @@ PolledAt None link kind spells old at result new =
 abbrev pub Polled : {L X : Type 0} → Ghosts L → ℕ → (ℕ → List ℕ → X → Type 0) → Wire L → ℕ → Result (Next X) Error → Wire L → Type 0
 Polled link kind spells old at result new = PolledAt old.kept link kind spells old at result new
 
--- the frame is queued whole, or nothing is
+-- the frame is above the limit, its size has no room in 32 bits, or the item has no bytes (part 2, section 2.3.1)
+abbrev pub IsTooLarge : {L X : Type 0} → (X → List ℕ) → (X → Type 0) → Wire L → X → Type 0
+IsTooLarge canonical is_oversized old x = (old.codec.encoder < 8 + length (canonical x)) ⊎ ((2 ^ 32 ≤ 8 + length (canonical x)) ⊎ is_oversized x)
+
+-- the frame is queued whole where it is not too large; else nothing is
 abbrev pub StartedSend : {L X : Type 0} → ℕ → (X → List ℕ) → (X → ℕ) → (X → Type 0) → Wire L → X → Result Unit Error → Wire L → Type 0
 StartedSend kind canonical channel is_oversized old x (Ok u) new =
-    (8 + length (canonical x) ≤ old.codec.encoder) × (new ≡ record old { codec = record old.codec { output = old.codec.output ++ frame_of kind (channel x) (canonical x) } })
-StartedSend kind canonical channel is_oversized old x (Err FramingError) new =
-    ((old.codec.encoder < 8 + length (canonical x)) ⊎ ((2 ^ 32 ≤ 8 + length (canonical x)) ⊎ is_oversized x)) × (new ≡ old)
+    (IsTooLarge canonical is_oversized old x → ⊥) × (new ≡ record old { codec = record old.codec { output = old.codec.output ++ frame_of kind (channel x) (canonical x) } })
+StartedSend kind canonical channel is_oversized old x (Err FramingError) new = IsTooLarge canonical is_oversized old x × (new ≡ old)
 StartedSend kind canonical channel is_oversized old x (Err (Memory a)) new = new ≡ old
 StartedSend kind canonical channel is_oversized old x (Err e) new = ⊥
 

@@ -1,6 +1,7 @@
 //! Frames of AMQP and of SASL (OASIS AMQP 1.0, part 2, section 2.3; part 5, section 5.3).
 ghost use Rattle.std.specs.Prelude.{◌≡◌};
 ghost use Rattle.amqp_transport.specs.Kinds.{no_frame, amqp_spells, amqp_bytes, amqp_oversized, amqp_again, amqp_channel, sasl_spells, sasl_bytes, sasl_oversized, sasl_channel};
+ghost use Rattle.amqp_transport.specs.OneItem.{one_frame, one_sasl};
 
 use crate::kind::{Encoded, FrameKind};
 use amqp_composites::sasl_body::SaslBody;
@@ -52,6 +53,8 @@ impl FrameKind for AmqpFrames {
 
     ghost again = { amqp_again };
 
+    ghost one = { one_frame };
+
     fn decode(alloc: Global, channel: u16, body: &Bytes) -> Result<Frame, BaseError> {
         match decode_body(alloc, body.as_slice()) {
             Ok(body) => Ok(Frame { channel, body }),
@@ -89,6 +92,8 @@ impl FrameKind for SaslFrames {
     ghost is_oversized = { sasl_oversized };
 
     ghost again = { λ x. x };
+
+    ghost one = { one_sasl };
 
     fn decode(alloc: Global, _channel: u16, body: &Bytes) -> Result<SaslBody, BaseError> {
         match decode_sasl(alloc, body.as_slice()) {

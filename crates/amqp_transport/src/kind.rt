@@ -1,5 +1,5 @@
 //! What frames of a kind hold.
-ghost use Rattle.std.specs.Prelude.{◌≡◌, List, ℕ, IfOk, IsErrOf};
+ghost use Rattle.std.specs.Prelude.{◌≡◌, List, ℕ, OnOk, IfOk, IsErrOf};
 
 use amqp_data::Binary;
 use amqp_fields::BaseError;
@@ -45,10 +45,14 @@ pub trait FrameKind {
         ensures none { IsErrOf result BaseError.Decode → (x : Self.Item) → spells channel body.now x → ⊥ }
         ensures size { IsErrOf result BaseError.Size → ⊥ };
 
-    /// The bytes of the item: `Size` only where it is oversized.
+    /// The bytes of the item, and the channel: `Size` exactly where it is oversized, unless memory ran out.
     fn encode(alloc: Global, item: &Self::Item) -> Result<Encoded, BaseError>
         ensures ok { IfOk result (λ b. (b.bytes ≡ canonical item.now) × (b.channel ≡ channel_of item.now)) }
         ensures spelled { IfOk result (λ b. spells b.channel b.bytes (again item.now)) }
+        ensures sized { OnOk result (is_oversized item.now → ⊥) }
         ensures size { IsErrOf result BaseError.Size → is_oversized item.now }
         ensures decode { IsErrOf result BaseError.Decode → ⊥ };
+
+    /// A body on a channel spells one item at most.
+    ghost one: { (channel : ℕ) (bytes : List ℕ) (x y : Self.Item) → spells channel bytes x → spells channel bytes y → x ≡ y };
 }

@@ -8,7 +8,9 @@ pub use header::{ProtocolHeader, ProtocolId};
 pub use heart_beat::HeartBeat;
 pub use idle_clock::IdleClock;
 pub use kind::FrameKind;
-pub use negotiating::{Negotiated, Negotiating};
+pub use negotiating::{
+    Negotiated, Negotiating, negotiate, negotiate_amqp_header, negotiate_sasl_header,
+};
 pub use transport::{Error, Flush, Next, Transport};
 
 pub mod frames;

@@ -1,11 +1,16 @@
-//! The exchange of protocol headers (OASIS AMQP 1.0, part 2, section 2.2).
+//! The exchange of protocol headers (OASIS AMQP 1.0, part 2, section 2.2; part 5, section 5.3.2).
 ghost use Rattle.std.specs.Prelude.{◌≡◌, ◌++◌, ◌≤◌, length, Ok, Err, IfOk, IfErr, IsErr};
 ghost use Rattle.std.specs.Borrow.{Lends, sem};
 ghost use Rattle.amqp_transport.specs.contracts.negotiating.Negotiating.{the_row};
+ghost use Rattle.amqp_frames.specs.declared.shared.ConnectionState.TheVariants.{Start};
 ghost use Rattle.amqp_transport.specs.Exchange.{HeaderPolled, Exchanged, started};
+ghost use Rattle.amqp_transport.specs.Header.{header_bytes, version_1};
+ghost use Rattle.amqp_transport.specs.declared.header.ProtocolId.TheVariants.{Amqp, Sasl};
 
+use crate::header::ProtocolHeader;
 use crate::reading::{HeaderRead, read_header};
 use crate::transport::Error;
+use amqp_frames::ConnectionState;
 use amqp_wire::codec::{FramedCodec, MIN_MAX_FRAME_SIZE};
 use amqp_wire::link::{Held, IoKind, Link, Stop};
 use std::alloc::AllocError;
@@ -34,7 +39,8 @@ impl<L: Link> Model for Negotiating<L> {
     ghost view = { λ n. n.codec };
 }
 
-/// Queues the header. A refusal hands the codec back as it was.
+/// Queues the eight bytes of a header, and sets both limits of frames to 512 bytes. Only memory can be wanting; then the codec
+/// is handed back as it was.
 pub fn negotiate<L: Link>(
     mut codec: FramedCodec<L>,
     header: [u8; 8],
@@ -52,6 +58,30 @@ pub fn negotiate<L: Link>(
     }
 }
 
+/// Queues the header of the SASL layer (part 5, section 5.3.2), as `negotiate`.
+pub fn negotiate_sasl_header<L: Link>(
+    codec: FramedCodec<L>,
+) -> Result<Negotiating<L>, (AllocError, FramedCodec<L>)>
+    ensures ok { IfOk result (λ n. n ≡ started codec (header_bytes (version_1 Sasl))) }
+    ensures err { IfErr result (λ e. e.1 ≡ codec) }
+{
+    negotiate(codec, ProtocolHeader::sasl().to_bytes())
+}
+
+/// Queues the header of AMQP (part 2, section 2.2), as `negotiate`, for a connection of which nothing was sent or received. No
+/// idle time runs while headers are exchanged: it starts where a transport is bound with it (section 2.4.5).
+pub fn negotiate_amqp_header<L: Link>(
+    codec: FramedCodec<L>,
+    state: ConnectionState,
+    _idle_timeout: Option<u64>,
+) -> Result<Negotiating<L>, (AllocError, FramedCodec<L>)>
+    requires { state ≡ Start }
+    ensures ok { IfOk result (λ n. n ≡ started codec (header_bytes (version_1 Amqp))) }
+    ensures err { IfErr result (λ e. e.1 ≡ codec) }
+{
+    negotiate(codec, ProtocolHeader::amqp().to_bytes())
+}
+
 impl<L: Link> Negotiating<L> {
     fn read(&mut self) -> Result<Negotiated, Error>
         ensures { HeaderPolled L.Link self.old result self.new }
@@ -64,7 +94,8 @@ impl<L: Link> Negotiating<L> {
         }
     }
 
-    /// Writes the header, and then waits for eight bytes.
+    /// Writes the header, and then waits for eight bytes, whatever they say. `Io` says that the link failed, or that its input
+    /// ended before them. After `Memory` nothing is lost, and the next poll goes on.
     pub fn poll(&mut self) -> Result<Negotiated, Error>
         ensures { Exchanged L.Link self.old result self.new }
     {

@@ -1,9 +1,16 @@
-use crate::frames::{AmqpFrames, Frame};
+use crate::frames::{AmqpFrames, Frame, SaslFrames};
 use crate::header::{ProtocolHeader, ProtocolId};
 use crate::heart_beat::HeartBeat;
 use crate::idle_clock::IdleClock;
-use crate::negotiating::{Negotiated, negotiate};
+use crate::negotiating::{
+    Negotiated, Negotiating, negotiate, negotiate_amqp_header, negotiate_sasl_header,
+};
 use crate::transport::{Error, Flush, Next, Transport};
+use amqp_composites::sasl::SaslResponse;
+use amqp_composites::sasl_body::SaslBody;
+use amqp_data::Binary;
+use amqp_frames::ConnectionState;
+use amqp_wire::codec::FramedCodec;
 use amqp_wire::pipe::Pipe;
 use std::alloc::{AllocError, Global};
 use std::mem;
@@ -162,5 +169,56 @@ fn headers_are_exchanged(rt: HostRuntime) -> Result<(), Fail> {
         Some(*b"AMQP\x03\x01\x00\x00")
     );
     assert_eq!(rt; header_read(rt.alloc(), b"AMQP")?, None);
+    Ok(())
+}
+
+fn begins_with(
+    negotiating: Result<Negotiating<Pipe>, (AllocError, FramedCodec<Pipe>)>,
+    header: [u8; 8],
+) -> bool {
+    match negotiating {
+        Ok(mut negotiating) => {
+            let polled = negotiating.poll();
+            polled == Ok(Negotiated::Pending) && negotiating.link().output() == header.as_slice()
+        }
+        Err(_) => false,
+    }
+}
+
+#[test]
+fn headers_of_both_layers(rt: HostRuntime) -> Result<(), Fail> {
+    let alloc = rt.alloc();
+    let codec = FramedCodec::new(alloc, Pipe::new(alloc), 512, 512);
+    assert!(rt; begins_with(negotiate_sasl_header(codec), *b"AMQP\x03\x01\x00\x00"));
+    let codec = FramedCodec::new(alloc, Pipe::new(alloc), 512, 512);
+    let negotiating = negotiate_amqp_header(codec, ConnectionState::Start, Some(5));
+    assert!(rt; begins_with(negotiating, *b"AMQP\x00\x01\x00\x00"));
+    Ok(())
+}
+
+/// Sends a SASL response of 256 bytes or more, whose frame has 25 bytes more.
+fn sends_a_response(alloc: Global, text: &[u8]) -> Result<Result<(), Error>, AllocError> {
+    let mut response = Binary::new(alloc);
+    response.append(text)?;
+    let body = SaslBody::Response(SaslResponse { response });
+    let mut transport: Transport<Pipe, SaslFrames> = Transport::bind(
+        alloc,
+        Pipe::new(alloc),
+        512,
+        None,
+        0,
+    );
+    let sent = transport.start_send(alloc, &body);
+    mem::forget(body);
+    Ok(sent)
+}
+
+#[test]
+fn frames_at_the_limit_are_sent(rt: HostRuntime) -> Result<(), Fail> {
+    assert_eq!(rt; sends_a_response(rt.alloc(), &[b'x'; 487])?, Ok(()));
+    assert_eq!(rt;
+        sends_a_response(rt.alloc(), &[b'x'; 488])?,
+        Err(Error::FramingError)
+    );
     Ok(())
 }

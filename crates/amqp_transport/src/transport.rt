@@ -5,7 +5,7 @@ ghost use Rattle.amqp_transport.specs.contracts.transport.Transport.{the_row};
 ghost use Rattle.amqp_wire.specs.Frame.{IsFront, HasBody, frame_of};
 ghost use Rattle.amqp_wire.specs.Codec.{Codec, Flushed};
 ghost use Rattle.amqp_transport.specs.Arrivals.{FedTo, IsWanted};
-ghost use Rattle.amqp_transport.specs.Stream.{Grew};
+ghost use Rattle.amqp_transport.specs.Stream.{Grew, HasFrame};
 ghost use Rattle.amqp_transport.specs.Wire.{Wire, Polled, Answered, idle_of, FlushedTo, StartedSend};
 
 use crate::idle_clock::IdleClock;
@@ -19,7 +19,7 @@ use std::alloc::{AllocError, Global};
 use std::marker::{Model, PhantomData};
 use thiserror::Error as ErrorDerive;
 
-/// Why a transport gives no frame, or takes none.
+/// Why a transport gives no frame, or takes none (part 2, sections 2.3.1 and 2.4.5).
 #[derive(Clone, Copy, Debug, PartialEq, Eq, ErrorDerive)]
 pub enum Error {
     /// There was not enough memory.
@@ -28,16 +28,16 @@ pub enum Error {
     /// The link failed, or its input ended inside a frame.
     #[error("Io")]
     Io(IoKind),
-    /// No frame came for the idle time.
+    /// No frame came for the idle time (part 2, section 2.4.5).
     #[error("IdleTimeoutElapsed")]
     IdleTimeoutElapsed,
-    /// The body of a frame spells nothing that such a frame may hold.
+    /// The body of a frame spells nothing that such a frame may hold (part 2, section 2.3.2; part 5, section 5.3.1).
     #[error("DecodeError")]
     DecodeError,
-    /// A frame of another type came.
+    /// A frame of another type came (part 2, section 2.3.1).
     #[error("NotImplemented")]
     NotImplemented,
-    /// A frame is too large or too small, or its body begins at no place in it.
+    /// A frame is too large or too small, or its body begins at no place in it (part 2, section 2.3.1).
     #[error("FramingError")]
     FramingError,
 }
@@ -53,7 +53,7 @@ impl From<AllocError> for Error {
     }
 }
 
-/// What a poll gives.
+/// What a poll gives where no error is met: at most one frame (part 2, section 2.3).
 #[derive(Debug, Drop)]
 pub enum Next<T> {
     /// A frame.
@@ -64,7 +64,7 @@ pub enum Next<T> {
     Ended,
 }
 
-/// How a flush ends.
+/// How a flush ends where no error is met: frames go out in the order in which they were queued (part 2, section 2.3).
 #[derive(Clone, Copy, Debug, PartialEq, Eq)]
 pub enum Flush {
     /// All is written.
@@ -111,7 +111,8 @@ fn give<L: Link, F: FrameKind>(
 }
 
 impl<L: Link, F: FrameKind> Transport<L, F> {
-    /// Frames over the link, at most so many bytes each, at least 512; an idle time of 0 is none. Times are in milliseconds.
+    /// Frames over the link. None that is read or written may have more bytes than that size, at least 512 (part 2, section
+    /// 2.4.1). The idle time and the moment at which it starts are in milliseconds; an idle time of 0 is none (section 2.4.5).
     pub fn bind(
         alloc: Global,
         link: L,
@@ -128,7 +129,8 @@ impl<L: Link, F: FrameKind> Transport<L, F> {
         Transport::bind_to_framed_codec(codec, idle_timeout, at)
     }
 
-    /// Frames over the codec; nothing that was read is lost.
+    /// Frames over the codec; nothing that was read is lost. The idle time and the moment at which it starts are in
+    /// milliseconds; an idle time of 0 is none (part 2, section 2.4.5).
     pub fn bind_to_framed_codec(codec: FramedCodec<L>, idle_timeout: Option<u64>, at: u64) -> Self
         ensures codec { result.codec ≡ codec }
         ensures clock { result.clock ≡ record { idle = idle_of idle_timeout; since = at } }
@@ -142,7 +144,7 @@ impl<L: Link, F: FrameKind> Transport<L, F> {
         }
     }
 
-    /// The codec, with all that was read and not given.
+    /// The codec, with all that was read and not given, and all that is queued and not written.
     pub fn into_framed_codec(self) -> FramedCodec<L>
         ensures { result ≡ self.codec }
     {
@@ -212,7 +214,11 @@ impl<L: Link, F: FrameKind> Transport<L, F> {
         }
     }
 
-    /// At most one frame.
+    /// At most one frame. The moment is in milliseconds; a frame that is given starts the idle time anew.
+    ///
+    /// The size of a frame is looked at first, then the place of its body, its type, and its body: the first that is wrong is
+    /// answered. An error is answered again by each later poll, but for `Memory`: all that was read is still there then, and
+    /// the next poll goes on.
     pub fn poll_next(&mut self, at: u64) -> Result<Next<F::Item>, Error>
         ensures answer { Polled L.Link F.TYPE F.spells self.old at result self.new }
         ensures joined { Grew L.Link F.TYPE F.spells self.old result self.new }
@@ -232,9 +238,12 @@ impl<L: Link, F: FrameKind> Transport<L, F> {
         }
     }
 
-    /// Queues the whole frame, or nothing.
+    /// Queues the whole frame, or nothing. Unless memory ran out, `FramingError` is answered exactly where the frame would
+    /// have more bytes than the encoder's limit or than 32 bits can count, or where the item has no bytes at all. An `Err`
+    /// changes nothing.
     pub fn start_send(&mut self, alloc: Global, item: &F::Item) -> Result<(), Error>
-        ensures { StartedSend F.TYPE F.canonical F.channel_of F.is_oversized self.old item.now result self.new }
+        ensures answer { StartedSend F.TYPE F.canonical F.channel_of F.is_oversized self.old item.now result self.new }
+        ensures frame { OnOk result (HasFrame F.spells F.canonical F.channel_of F.again item.now) }
     {
         match F::encode(alloc, item) {
             Ok(body) => {
@@ -252,7 +261,8 @@ impl<L: Link, F: FrameKind> Transport<L, F> {
         }
     }
 
-    /// Writes until nothing is left, or the link takes nothing; what was not taken stays queued.
+    /// Writes until nothing is left (`Empty`), or the link takes nothing now (`Full`). `Io` says that the link failed,
+    /// `Memory` that it had no memory. What was not taken stays queued, whatever is answered.
     pub fn poll_flush(&mut self) -> Result<Flush, Error>
         ensures { FlushedTo L.Link self.old result self.new }
     {
@@ -264,14 +274,14 @@ impl<L: Link, F: FrameKind> Transport<L, F> {
         }
     }
 
-    /// The same; a link has no end of its own.
+    /// The same as `poll_flush`, since a link has no end of its own.
     pub fn poll_close(&mut self) -> Result<Flush, Error>
         ensures { FlushedTo L.Link self.old result self.new }
     {
         self.poll_flush()
     }
 
-    /// Frames that are read may have so many bytes, at least 512.
+    /// Frames that are read may have so many bytes, at least 512 (part 2, section 2.4.1): the larger of both is the limit.
     pub fn set_decoder_max_frame_size(&mut self, size: usize) -> &mut Self
         ensures same { result.ghost_name ≡ self.entry.ghost_name }
         ensures value { result.now ≡ record self.old { codec = record self.old.codec { decoder = max 512 size } } }
@@ -280,7 +290,7 @@ impl<L: Link, F: FrameKind> Transport<L, F> {
         self
     }
 
-    /// Frames that are written may have so many bytes, at least 512.
+    /// Frames that are written may have so many bytes, at least 512 (part 2, section 2.4.1): the larger of both is the limit.
     pub fn set_encoder_max_frame_size(&mut self, size: usize) -> &mut Self
         ensures same { result.ghost_name ≡ self.entry.ghost_name }
         ensures value { result.now ≡ record self.old { codec = record self.old.codec { encoder = max 512 size } } }
@@ -289,14 +299,14 @@ impl<L: Link, F: FrameKind> Transport<L, F> {
         self
     }
 
-    /// The most bytes of a frame that is written, less 4.
+    /// The most bytes of a frame that is written, less the 4 of its size (part 2, section 2.3.1).
     pub fn encoder_max_frame_size(&self) -> usize
         ensures { result ≡ self.now.codec.encoder - 4 }
     {
         self.codec.encoder_max_frame_size() - 4
     }
 
-    /// Another idle time, in milliseconds, which starts at that moment; 0 is none.
+    /// Another idle time (part 2, section 2.4.5), which starts at that moment, both in milliseconds; 0 is none.
     pub fn set_idle_timeout(&mut self, duration: u64, at: u64) -> &mut Self
         ensures same { result.ghost_name ≡ self.entry.ghost_name }
         ensures value { result.now ≡ record self.old { clock = record { idle = duration; since = at } } }

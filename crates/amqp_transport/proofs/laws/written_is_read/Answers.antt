@@ -1,0 +1,5 @@
+use Rattle.amqp_transport.proofs.Reading.{written}
+use Rattle.amqp_transport.proofs.laws.written_is_read.Goals as goal
+
+pub returns : goal.returns
+returns g c = written g.F.FrameKind.TYPE g.F.FrameKind.spells g.F.FrameKind.canonical g.F.FrameKind.channel_of g.F.FrameKind.again
