@@ -1,4 +1,4 @@
-use Rattle.amqp_transport.proofs.Reading.{one_reading}
+use Rattle.amqp_transport.proofs.Readings.{one_reading}
 use Rattle.amqp_transport.proofs.laws.one_reading.Goals as goal
 
 pub returns : goal.returns

@@ -1,4 +1,4 @@
-use Rattle.amqp_transport.proofs.Reading.{all_frames}
+use Rattle.amqp_transport.proofs.Readings.{all_frames}
 use Rattle.amqp_transport.proofs.laws.reads_all_that_was_written.Goals as goal
 
 pub returns : goal.returns

@@ -1,4 +1,4 @@
-use Rattle.amqp_transport.proofs.Reading.{first_frames}
+use Rattle.amqp_transport.proofs.Readings.{first_frames}
 use Rattle.amqp_transport.proofs.laws.reads_what_was_written.Goals as goal
 
 pub returns : goal.returns

@@ -1,4 +1,4 @@
-use Rattle.amqp_transport.proofs.Reading.{written}
+use Rattle.amqp_transport.proofs.Readings.{written}
 use Rattle.amqp_transport.proofs.laws.written_is_read.Goals as goal
 
 pub returns : goal.returns
