@@ -1,7 +1,7 @@
-use Rattle.std.proofs.Common.{◌≡◌, ◌≢◌, ◌+◌, ◌*◌, ◌-◌, ◌<◌, ◌≤◌, ◌^◌, ◌⊎◌, inl, inr, ℕ, List, [], ◌∷◌, ◌++◌, length, take, drop, get_or, Option, Some, None, Result, Ok, Err, refl, sym, ap, ◌∙◌, subst, arith, append_assoc, length-append, take-append-drop}
+use Rattle.std.proofs.Common.{◌≡◌, ◌+◌, ◌*◌, ◌≤◌, ◌⊎◌, inl, inr, ℕ, List, [], ◌∷◌, ◌++◌, length, take, drop, Option, Some, None, Result, Ok, Err, refl, sym, ap, ◌∙◌, subst, arith, append_assoc, take-append-drop}
 use Rattle.std.proofs.Math.Path.{ap₂}
 use Rattle.std.proofs.lemmas.Bool.{cases_lt}
-use Rattle.std.proofs.lemmas.List.{append-nil, length-take-le, take_at, drop_at, get_or-take, append_cancel_left}
+use Rattle.std.proofs.lemmas.List.{append-nil, length-take-le, get_or-take}
 use Rattle.amqp_wire.specs.declared.link.Link.{Ghosts}
 use Rattle.amqp_wire.specs.declared.link.Stop.{Stop}
 use Rattle.amqp_wire.specs.declared.link.Stop.TheVariants.{Empty, End, Failed}
@@ -11,13 +11,13 @@ use Rattle.amqp_transport.specs.declared.transport.Error.{Error}
 use Rattle.amqp_transport.specs.declared.transport.Error.TheVariants.{Memory, Io, IdleTimeoutElapsed, DecodeError, NotImplemented, FramingError}
 use Rattle.amqp_transport.specs.declared.transport.Next.{Next}
 use Rattle.amqp_transport.specs.declared.transport.Next.TheVariants.{Frame, Pending, Ended}
-use Rattle.amqp_wire.specs.Size.{size_of, start_of, channel_of}
-use Rattle.amqp_wire.specs.Frame.{HasBody, HasSize, IsWhole, IsFront, frame_of}
-use Rattle.amqp_wire.specs.Steps.{Gave, GaveNone, ReadBy, StoppedBy}
-use Rattle.amqp_wire.specs.Codec.{Codec, Fed}
-use Rattle.amqp_transport.specs.Wire.{Wire, Given, Waits, Ends, Fails, Answered, Answers, Wants, IsMemory, Polled, PolledAt, keeping}
-use Rattle.amqp_transport.specs.Stream.{IsFrame, Joined, IsPart, frames_of, Grew}
-use Rattle.amqp_wire.proofs.Cuts.{size_of-append, size_of-take}
+use Rattle.amqp_wire.specs.Size.{size_of}
+use Rattle.amqp_wire.specs.Frame.{HasBody, IsFront}
+use Rattle.amqp_wire.specs.Steps.{Gave, ReadBy}
+use Rattle.amqp_wire.specs.Codec.{Codec}
+use Rattle.amqp_transport.specs.Wire.{Wire, Waits, Ends, Fails, Answered, IsMemory, Polled, PolledAt}
+use Rattle.amqp_transport.specs.Stream.{IsFrame, Joined, frames_of, Grew}
+use Rattle.amqp_wire.proofs.Cuts.{size_of-take}
 use Rattle.amqp_wire.proofs.Links.{gave_then, gave_nothing}
 
 -- bytes that come later are part of the rest

@@ -1,5 +1,5 @@
 -- Waiting for a frame or a protocol header (OASIS AMQP 1.0, part 2, sections 2.2 and 2.3).
-use Rattle.std.specs.Prelude.{◌≡◌, ◌<◌, ℕ, List, [], ◌++◌, length, Option, Some, None, Result, Ok, Err}
+use Rattle.std.specs.Prelude.{◌≡◌, ◌<◌, ℕ, List, ◌++◌, length, Option, Some, None, Result, Ok, Err}
 use Rattle.amqp_wire.specs.declared.link.Link.{Ghosts}
 use Rattle.amqp_wire.specs.declared.link.Stop.{Stop}
 use Rattle.amqp_wire.specs.declared.frame.Front.{Front}

@@ -1,12 +1,12 @@
 -- The exchange of protocol headers.
-use Rattle.std.specs.Prelude.{◌≡◌, ◌<◌, ◌≤◌, ◌⊎◌, ℕ, List, [], ◌++◌, length, Option, Some, None, Result, Ok, Err}
+use Rattle.std.specs.Prelude.{◌≡◌, ◌<◌, ℕ, List, ◌++◌, length, Option, Some, None, Result, Ok, Err}
 use Rattle.amqp_wire.specs.declared.link.Link.{Ghosts}
 use Rattle.amqp_wire.specs.declared.link.Stop.{Stop}
 use Rattle.amqp_wire.specs.declared.link.Stop.TheVariants.{Empty, End, Failed}
 use Rattle.amqp_wire.specs.declared.link.Held.{Held}
 use Rattle.amqp_wire.specs.declared.link.Held.TheVariants.{Full as HeldFull, Failed as HeldFailed, Memory as HeldMemory}
 use Rattle.amqp_transport.specs.declared.transport.Error.{Error}
-use Rattle.amqp_transport.specs.declared.transport.Error.TheVariants.{Memory, Io, IdleTimeoutElapsed, DecodeError, NotImplemented, FramingError}
+use Rattle.amqp_transport.specs.declared.transport.Error.TheVariants.{Memory, Io}
 use Rattle.amqp_wire.specs.declared.link.IoKind.TheVariants.{Fault, End as EndKind}
 use Rattle.amqp_transport.specs.declared.negotiating.Negotiated.{Negotiated}
 use Rattle.amqp_transport.specs.declared.negotiating.Negotiated.TheVariants.{Pending, Header}

@@ -19,7 +19,7 @@ use Rattle.amqp_wire.specs.Steps.{ReadBy}
 use Rattle.amqp_transport.specs.declared.idle_clock.IdleClock.{IdleClock}
 use Rattle.amqp_transport.specs.Clocks.{HasElapsed}
 use Rattle.amqp_wire.specs.Codec.{Codec, Fed, Flushed}
-use Rattle.amqp_transport.specs.Arrivals.{FedTo, IsWanted}
+use Rattle.amqp_transport.specs.Arrivals.{IsWanted}
 
 -- a codec, an idle clock, and the error that is answered again
 pub record Wire (L : Type 0) : Type 0 where

@@ -1,9 +1,8 @@
-use Rattle.std.proofs.Common.{◌≡◌, ◌+◌, ◌*◌, ◌<◌, ◌≤◌, ◌⊎◌, inl, inr, ℕ, List, [], ◌++◌, length, take, drop, get_or, refl, sym, ap, ◌∙◌, subst, arith, length-append, take-append-drop}
+use Rattle.std.proofs.Common.{◌≡◌, ◌≤◌, ◌⊎◌, inl, inr, ℕ, List, [], ◌++◌, length, take, drop, get_or, sym, ap, ◌∙◌, arith, take-append-drop}
 use Rattle.std.proofs.lemmas.List.{get_or_append_left, length-take-le}
-use Rattle.std.proofs.lemmas.Grind.{common_steps}
-use Rattle.amqp_wire.specs.Size.{size_of, start_of, channel_of}
+use Rattle.amqp_wire.specs.Size.{size_of}
 use Rattle.amqp_wire.specs.Cut.{IsCut}
-use Rattle.amqp_wire.specs.Frame.{HasBody, HasSize, IsWhole}
+use Rattle.amqp_wire.specs.Frame.{HasBody}
 
 -- later bytes change no size
 pub size_of-append : (xs ys : List ℕ) → 4 ≤ length xs → size_of (xs ++ ys) ≡ size_of xs

@@ -1,4 +1,4 @@
-use Rattle.std.proofs.Common.{◌≡◌, refl, Some, None}
+use Rattle.std.proofs.Common.{refl, Some, None}
 use Rattle.amqp_wire.specs.declared.link.Held.TheVariants.{Full, Failed, Memory}
 use Rattle.amqp_transport.proofs.negotiating.Negotiating.poll.Goals as goal
 

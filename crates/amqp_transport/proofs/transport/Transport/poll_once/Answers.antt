@@ -1,4 +1,3 @@
-use Rattle.std.proofs.Common.{◌≡◌, sym}
 use Rattle.amqp_transport.proofs.Polls.{polled}
 use Rattle.amqp_transport.proofs.transport.Transport.poll_once.Goals as goal
 

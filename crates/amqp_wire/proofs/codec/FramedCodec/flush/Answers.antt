@@ -1,4 +1,4 @@
-use Rattle.std.proofs.Common.{◌≡◌, take, drop, ◌++◌, ap, ◌∙◌, sym, take-append-drop}
+use Rattle.std.proofs.Common.{take, ◌++◌, ap, ◌∙◌, sym, take-append-drop}
 use Rattle.amqp_wire.proofs.Links.{took_front, sent_more}
 use Rattle.amqp_wire.proofs.codec.FramedCodec.flush.Goals as goal
 

@@ -1,4 +1,4 @@
-use Rattle.std.proofs.Common.{◌≤◌, ◌-◌, ℕ, List, length}
+use Rattle.std.proofs.Common.{◌≤◌, ℕ, List, length}
 use Rattle.amqp_wire.specs.Codec.{Sent}
 use Rattle.amqp_wire.proofs.codec.FramedCodec.flush.Given as goal
 
