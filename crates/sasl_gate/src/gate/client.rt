@@ -13,9 +13,7 @@ use crate::gate::exchange::{Exchange, Turn, Verdict};
 use crate::gate::negotiation::{GatePoll, Negotiation};
 use crate::scram::client::{ClientPhase, ScramClient};
 use crate::scram::error::ScramErrorKind;
-use amqp_composites::sasl::{
-    SaslChallenge, SaslInit, SaslMechanisms, SaslOutcome, SaslResponse,
-};
+use amqp_composites::sasl::{SaslChallenge, SaslInit, SaslMechanisms, SaslOutcome, SaslResponse};
 use amqp_composites::sasl_body::SaslBody;
 use amqp_composites::sasl_code::SaslCode;
 use amqp_text::symbol::SymbolError;

@@ -15,9 +15,7 @@ use crate::gate::negotiation::{GatePoll, Negotiation};
 use crate::scram::error::ScramErrorKind;
 use crate::scram::provider::ScramCredentialProvider;
 use crate::scram::server::ScramServer;
-use amqp_composites::sasl::{
-    SaslChallenge, SaslInit, SaslMechanisms, SaslOutcome, SaslResponse,
-};
+use amqp_composites::sasl::{SaslChallenge, SaslInit, SaslMechanisms, SaslOutcome, SaslResponse};
 use amqp_composites::sasl_body::SaslBody;
 use amqp_composites::sasl_code::SaslCode;
 use amqp_text::{Binary, SymbolList, Text};
