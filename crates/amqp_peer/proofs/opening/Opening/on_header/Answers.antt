@@ -6,15 +6,15 @@ use Rattle.amqp_peer.proofs.opening.Opening.on_header.Goals as goal
 pub returns-then-not-is_amqp_header : goal.returns-then-not-is_amqp_header
 returns-then-not-is_amqp_header g c =
     let same = ap (λ (o : Opened _ _). o.negotiation.codec.input) c.self.view_is in
-    let front : take 8 c.input.result.now ≡ take 8 c.args.self.now.negotiation.codec.input = ap (λ (u : List ℕ). take 8 u) (c.input.ensures ∙ ap (λ k. k.input) c.codec.ensures ∙ same) in
+    let front : c.header-header.result ≡ take 8 c.args.self.now.negotiation.codec.input = c.header-header.ensures ∙ ap (λ (u : List ℕ). take 8 u) (ap (λ k. k.input) c.codec.ensures ∙ same) in
     rw (c.fail.ensures.ended, c.fail.ensures.result) (ran_mismatch g.L.Link g.X.Exchange c.args.self.now c.args.reads_left.now c.requires.stage (g.met.X.Exchange.same_self c.args.self.now.negotiation.exchange) c.requires.whole
-    (λ e. let bad : false ≡ true = c.if-not-is_amqp_header.ensures.1 (front ∙ e) in cc))
+    (λ e. let bad : false ≡ true = c.if-not-is_amqp_header.ensures.1 (c.as_slice.ensures ∙ front ∙ e) in cc))
 
-pub returns : goal.returns
-returns g c =
+pub returns-in-Ok : goal.returns-in-Ok
+returns-in-Ok g c =
     let stage = rw (← c.self.view_is) at c.requires.stage in
     let front : take 8 c.self.inside.negotiation.codec.input ≡ amqp_header =
-    ap (λ (u : List ℕ). take 8 u) (sym (c.input.ensures ∙ ap (λ k. k.input) c.codec.ensures)) ∙ c.if-not-is_amqp_header.ensures.0 refl in
-    let d = rw (c.take_front.ensures, c.codec_mut.ensures.value) at c.drain.ensures in
+    ap (λ (u : List ℕ). take 8 u) (sym (ap (λ k. k.input) c.codec.ensures)) ∙ sym c.header-header.ensures ∙ sym c.as_slice.ensures ∙ c.if-not-is_amqp_header.ensures.0 refl in
+    let d = rw (c.in-Ok.ensures.ok, c.codec_mut.ensures.value) at c.drain.ensures in
     rw (← c.self.view_is) (ran_after g.L.Link g.X.Exchange _ _ c.drain.new.self c.args.reads_left.now c.args.reads_left.now c.drain.new.reads_left [] c.drain.result d.moves.kept
     (moves_none g.L.Link g.X.Exchange _ _ c.args.reads_left.now (g.met.X.Exchange.same_self c.self.inside.negotiation.exchange) refl) (keeps_header g.X.Exchange _ stage front) d)
