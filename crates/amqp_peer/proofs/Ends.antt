@@ -1,5 +1,5 @@
 -- What the exchanges of an end say of the bytes, and what an end went through, joined.
-use Rattle.std.proofs.Common.{◌≡◌, ◌≢◌, ◌≤◌, ◌+◌, ◌^◌, ◌⊎◌, inl, inr, ℕ, List, [], ◌∷◌, ◌++◌, Option, Some, None, Result, Ok, Err, refl, sym, ap, ◌∙◌, subst, append_assoc, arith}
+use Rattle.std.proofs.Common.{◌≡◌, ◌≤◌, ◌+◌, ◌^◌, inl, inr, ℕ, List, [], ◌∷◌, ◌++◌, Option, Some, None, Result, Ok, Err, refl, sym, ap, ◌∙◌, subst, append_assoc, arith}
 use Rattle.std.specs.Prelude.{OnOk}
 use Rattle.std.proofs.lemmas.List.{append-nil}
 use Rattle.std.specs.declared.alloc.AllocError.{AllocError}
@@ -14,16 +14,13 @@ use Rattle.sasl_gate.specs.declared.gate.error.NegotiationError.{NegotiationErro
 use Rattle.sasl_gate.specs.declared.gate.error.NegotiationError.TheVariants.{Memory, ProtocolHeaderMismatch, NotImplemented, SaslError, ScramError, Io, DecodeError, IllegalState, FramingError}
 use Rattle.sasl_gate.specs.declared.gate.exchange.Turn.TheVariants.{Pass}
 use Rattle.sasl_gate.specs.declared.gate.negotiation.Phase.{Phase}
-use Rattle.sasl_gate.specs.declared.gate.negotiation.Phase.TheVariants.{Header as HeaderPhase}
 use Rattle.sasl_gate.specs.declared.gate.server.ServerStage.{ServerStage}
 use Rattle.sasl_gate.specs.declared.gate.server.ServerStage.TheVariants as server
-use Rattle.sasl_gate.specs.declared.scram.error.ScramErrorKind.TheVariants.{TextNotAllowed}
-use Rattle.sasl_gate.specs.declared.scram.stored.StoredPassword.{StoredPassword}
-use Rattle.sasl_gate.specs.ClientGate.{ClientEnd, turn_in as client_turn_in, holds_in as client_holds_in, HasPassed as ClientHasPassed, ClientSame, ClientPassed}
+use Rattle.sasl_gate.specs.ClientGate.{ClientEnd, turn_in as client_turn_in, holds_in as client_holds_in, HasPassed as ClientHasPassed, ClientPassed}
 use Rattle.sasl_gate.specs.Frames.{Heard, said, sasl_header}
 use Rattle.sasl_gate.specs.Negotiation.{HasIn as NegotiationHasIn, IsHeldUp}
-use Rattle.sasl_gate.specs.ScramBodies.{IsOnlySasl, outcome_body}
-use Rattle.sasl_gate.specs.ServerGate.{ServerEnd, turn_in as server_turn_in, holds_in as server_holds_in, HasProof, ServerSame, ServerPassed}
+use Rattle.sasl_gate.specs.ScramBodies.{outcome_body}
+use Rattle.sasl_gate.specs.ServerGate.{ServerEnd, turn_in as server_turn_in, holds_in as server_holds_in, HasProof, ServerPassed}
 use Rattle.sasl_gate.specs.States.{Account, ServerState}
 use Rattle.amqp_composites.specs.declared.sasl_code.SaslCode.TheVariants as sasl
 use Rattle.sasl_gate.proofs.Gates.{only_sasl}
@@ -37,11 +34,11 @@ use Rattle.amqp_peer.specs.declared.opening.Stage.TheVariants.{Idle, Negotiating
 use Rattle.amqp_peer.specs.declared.peer.PeerKind.{PeerKind}
 use Rattle.amqp_peer.specs.declared.peer.PeerKind.TheVariants as kind
 use Rattle.amqp_peer.specs.declared.reply.NamedReply.{NamedReply}
-use Rattle.amqp_peer.specs.Authentication.{stored_for, peer_mechanism, same_by, holds_by, turn_by, MadeFor, HasAllowedTexts, IsCallRefusal, IsClientFor, IsListenerFor}
+use Rattle.amqp_peer.specs.Authentication.{stored_for, peer_mechanism, same_by, holds_by, MadeFor, IsCallRefusal}
 use Rattle.amqp_peer.specs.Calls.{IsFirstCall, IsAllowedCall}
 use Rattle.amqp_peer.specs.Causes.{IsOpenCause, not_allowed, in_opening}
-use Rattle.amqp_peer.specs.Gated.{IsGatedBy, stored_alone, BeginsHeader}
-use Rattle.amqp_peer.specs.History.{Local, Made, Polled, AtLink, Replied, made_in, link_in, replied_in, at_link}
+use Rattle.amqp_peer.specs.Gated.{IsGatedBy, BeginsHeader}
+use Rattle.amqp_peer.specs.History.{Local, Made, Polled, Replied, made_in, link_in, replied_in, at_link}
 use Rattle.amqp_peer.specs.Opening.{amqp_header, Opened, begun, IsUnderWay, HasPassed, HasAt, HasOpening, IsGuarded, HasEnding, Ran, IsMemoryIn}
 use Rattle.amqp_peer.specs.Peering.{Peering, link_of, HasNothing, HasCalled, HasEnded, HasIn, Has, MayCallIn, MayCall, IsSettled, Stepped, Advanced}
 use Rattle.amqp_peer.specs.Replies.{pending, open_failed}

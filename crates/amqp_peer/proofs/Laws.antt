@@ -1,8 +1,7 @@
 -- Laws of one end: what it says of its history, whatever the other end does.
-use Rattle.std.proofs.Common.{◌≡◌, ◌↔◌, ◌⊎◌, inl, inr, ℕ, List, [], ◌∷◌, ◌++◌, Option, None, refl, sym, ap, ◌∙◌, subst, append_assoc}
+use Rattle.std.proofs.Common.{◌≡◌, ◌↔◌, inl, inr, ℕ, List, [], ◌∷◌, ◌++◌, None, refl, sym, ap, subst}
 use Rattle.amqp_connection.specs.declared.open_error.OpenError.TheVariants.{Negotiation}
-use Rattle.amqp_wire.specs.Events.{LinkEvent, read_of, wrote_of}
-use Rattle.amqp_composites.specs.declared.sasl_body.SaslBody.{SaslBody}
+use Rattle.amqp_wire.specs.Events.{LinkEvent, wrote_of}
 use Rattle.sasl_gate.specs.declared.gate.client.SaslProfile.TheVariants as profile
 use Rattle.sasl_gate.specs.ClientGate.{ClientPassed}
 use Rattle.sasl_gate.specs.ServerGate.{ServerPassed}
@@ -21,11 +20,11 @@ use Rattle.amqp_peer.specs.declared.reply.NamedReply.{NamedReply}
 use Rattle.amqp_peer.specs.Authentication.{peer_mechanism}
 use Rattle.amqp_peer.specs.History.{Local, made_in, link_in, replied_in, read_in, wrote_in}
 use Rattle.amqp_peer.specs.Calls.{IsFirstCall, IsValidCall}
-use Rattle.amqp_peer.specs.Replies.{AreReplies, pending, open_failed}
-use Rattle.amqp_peer.specs.Gated.{IsGatedBy, IsGated, stored_alone, BeginsHeader}
+use Rattle.amqp_peer.specs.Replies.{AreReplies}
+use Rattle.amqp_peer.specs.Gated.{IsGatedBy, IsGated, stored_alone}
 use Rattle.amqp_peer.specs.Causes.{HaveCauses}
 use Rattle.amqp_peer.specs.Opening.{Opened, HasAt}
-use Rattle.amqp_peer.specs.Peering.{Peering, fresh, link_of, with_link, HasNothing, HasCalled, HasEnded, HasIn, Has, MayCall, MayCallIn}
+use Rattle.amqp_peer.specs.Peering.{Peering, fresh, link_of, with_link, HasCalled, HasIn, Has, MayCall, MayCallIn}
 use Rattle.amqp_peer.proofs.Histories.{made_in-append as made_append, link_in-append as link_append, replied_in-append as replied_append}
 use Rattle.amqp_peer.proofs.Ends.{gated_called}
 

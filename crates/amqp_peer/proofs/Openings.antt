@@ -1,5 +1,5 @@
 -- What an opening went through, joined.
-use Rattle.std.proofs.Common.{◌≡◌, ◌≢◌, ◌<◌, ◌≤◌, ◌+◌, ◌-◌, ◌⊎◌, inl, inr, ℕ, List, [], ◌∷◌, ◌++◌, length, take, drop, Option, Some, None, Result, Ok, Err, refl, sym, ap, ◌∙◌, subst, append_assoc, arith}
+use Rattle.std.proofs.Common.{◌≡◌, ◌≤◌, inl, inr, ℕ, List, [], ◌++◌, length, take, drop, Option, Some, None, Result, Ok, Err, refl, sym, ap, ◌∙◌, subst, append_assoc, arith}
 use Rattle.std.specs.Prelude.{⊤}
 use Rattle.std.proofs.lemmas.List.{append-nil, take-append-drop}
 use Rattle.std.specs.declared.alloc.AllocError.{AllocError}
@@ -7,12 +7,12 @@ use Rattle.amqp_wire.specs.declared.link.Link.{Ghosts}
 use Rattle.amqp_wire.specs.declared.link.Stop.{Stop}
 use Rattle.amqp_wire.specs.declared.link.Stop.TheVariants.{Empty, End, Failed as FailedRead}
 use Rattle.amqp_wire.specs.declared.link.Held.{Held}
-use Rattle.amqp_wire.specs.declared.link.Held.TheVariants.{Full, Failed as FailedWrite, Memory as HeldMemory}
+use Rattle.amqp_wire.specs.declared.link.Held.TheVariants.{Full, Failed as FailedWrite}
 use Rattle.amqp_wire.specs.declared.link.IoKind.TheVariants.{Fault, End as InputEnd}
 use Rattle.amqp_wire.specs.declared.reading.Wait.{Wait}
-use Rattle.amqp_wire.specs.declared.reading.Wait.TheVariants.{Over, Stopped, Spent}
+use Rattle.amqp_wire.specs.declared.reading.Wait.TheVariants.{Stopped, Spent}
 use Rattle.amqp_wire.specs.Codec.{Codec, Flushed}
-use Rattle.amqp_wire.specs.Events.{LinkEvent, Wrote, NotRead, NotWritten, Went, read_of, wrote_of, reads_in, Includes}
+use Rattle.amqp_wire.specs.Events.{LinkEvent, NotRead, read_of, wrote_of}
 use Rattle.amqp_wire.specs.Reading.{ReadOn}
 use Rattle.amqp_wire.proofs.Events.{went_then, read_of-append, wrote_of-append, reads_in-append, includes_left}
 use Rattle.sasl_gate.specs.declared.gate.error.NegotiationError.{NegotiationError}
@@ -22,11 +22,11 @@ use Rattle.sasl_gate.specs.declared.gate.negotiation.GatePoll.TheVariants as pol
 use Rattle.sasl_gate.specs.declared.gate.negotiation.Phase.{Phase}
 use Rattle.sasl_gate.specs.declared.gate.negotiation.Phase.TheVariants.{Frames, Failed}
 use Rattle.sasl_gate.specs.Frames.{Heard, said}
-use Rattle.sasl_gate.specs.Negotiation.{Negotiating, IsCaused, at_link, HasFrames, HasFailure, HasIn, Has, IsHeldUp, IsMemoryOr, GoesOn, IsPassed, Polled}
+use Rattle.sasl_gate.specs.Negotiation.{Negotiating, at_link, HasFrames, HasFailure, HasIn, Has, IsHeldUp, IsMemoryOr, GoesOn, IsPassed, Polled}
 use Rattle.sasl_gate.proofs.Negotiations.{flush_events, goes_flushed, heard_more}
 use Rattle.amqp_peer.specs.declared.opening.Stage.{Stage}
 use Rattle.amqp_peer.specs.declared.opening.Stage.TheVariants.{Idle, Negotiating as NegotiatingStage, Header, Exchanged, Ended}
-use Rattle.amqp_peer.specs.Opening.{amqp_header, Opened, IsUnderWay, HasPassed, HasAt, HasOpening, IsGuarded, IsOpeningCause, in_negotiation, at_amqp_header, HasEnding, Moves, ComesTo, Ran, IsStopEnd, IsMemoryIn}
+use Rattle.amqp_peer.specs.Opening.{amqp_header, Opened, IsUnderWay, HasPassed, HasAt, HasOpening, IsGuarded, in_negotiation, at_amqp_header, HasEnding, Moves, ComesTo, Ran, IsStopEnd, IsMemoryIn}
 
 -- the negotiation has passed
 abbrev pub IsBehind : Stage → Type 0

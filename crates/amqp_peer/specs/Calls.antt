@@ -1,5 +1,5 @@
 -- Which calls may be made (docs/SPECIFICATION.md, "Valid steps").
-use Rattle.std.specs.Prelude.{◌≡◌, ◌≤◌, ℕ, List, [], ◌∷◌, length, ⊤}
+use Rattle.std.specs.Prelude.{◌≤◌, ℕ, List, [], ◌∷◌, length}
 use Rattle.sasl_gate.specs.declared.gate.client.SaslProfile.{SaslProfile}
 use Rattle.sasl_gate.specs.declared.gate.client.SaslProfile.TheVariants as profile
 use Rattle.sasl_gate.specs.Profile.{IsNonce, IsAllowedCount}

@@ -1,6 +1,5 @@
 -- Why an error was replied, by the calls and by what passed at the link.
 use Rattle.std.specs.Prelude.{◌≡◌, ℕ, List, [], ◌∷◌, ⊤}
-use Rattle.amqp_connection.specs.declared.open_error.OpenError.{OpenError}
 use Rattle.amqp_connection.specs.declared.open_error.OpenError.TheVariants.{Negotiation}
 use Rattle.amqp_wire.specs.Events.{LinkEvent}
 use Rattle.sasl_gate.specs.declared.gate.error.NegotiationError.{NegotiationError}

@@ -1,5 +1,5 @@
 -- What happens at one end, event by event, the newest first.
-use Rattle.std.specs.Prelude.{◌≡◌, ℕ, List, [], ◌∷◌, ◌++◌}
+use Rattle.std.specs.Prelude.{ℕ, List, [], ◌∷◌, ◌++◌}
 use Rattle.amqp_wire.specs.Events.{LinkEvent, read_of, wrote_of}
 use Rattle.amqp_peer.specs.declared.call.Call.{Call}
 use Rattle.amqp_peer.specs.declared.reply.NamedReply.{NamedReply}

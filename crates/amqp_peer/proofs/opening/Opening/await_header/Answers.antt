@@ -1,4 +1,3 @@
-use Rattle.std.proofs.Common.{◌≡◌, refl}
 use Rattle.amqp_wire.specs.declared.reading.Wait.TheVariants.{Over}
 use Rattle.amqp_peer.proofs.Openings.{behind_header, ran_spent, ran_stopped, ran_after, moves_read, keeps_read}
 use Rattle.amqp_peer.proofs.opening.Opening.await_header.Goals as goal

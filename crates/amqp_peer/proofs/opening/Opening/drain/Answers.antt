@@ -1,4 +1,3 @@
-use Rattle.std.proofs.Common.{◌≡◌, refl}
 use Rattle.amqp_peer.proofs.Openings.{behind_exchanged, ran_spent, ran_stopped}
 use Rattle.amqp_peer.proofs.opening.Opening.drain.Goals as goal
 

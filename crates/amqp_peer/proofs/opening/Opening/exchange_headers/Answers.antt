@@ -1,4 +1,4 @@
-use Rattle.std.proofs.Common.{◌≡◌, refl, None, Some}
+use Rattle.std.proofs.Common.{None, Some}
 use Rattle.amqp_wire.specs.declared.link.Held.TheVariants.{Memory}
 use Rattle.sasl_gate.proofs.Negotiations.{flush_events}
 use Rattle.amqp_peer.proofs.Openings.{behind_header, ran_full, ran_failed, ran_after, ran_memory, moves_flushed, keeps_flushed}

@@ -1,4 +1,3 @@
-use Rattle.std.proofs.Common.{◌≡◌, refl}
 use Rattle.amqp_peer.proofs.Openings.{ran_after, ran_error, moves_polled, keeps_polled}
 use Rattle.amqp_peer.proofs.opening.Opening.negotiate.Goals as goal
 

@@ -1,4 +1,4 @@
-use Rattle.std.proofs.Common.{◌≡◌, refl, []}
+use Rattle.std.proofs.Common.{refl, []}
 use Rattle.amqp_peer.proofs.Openings.{ran_after, moves_none, keeps_passed}
 use Rattle.amqp_peer.proofs.opening.Opening.on_passed.Goals as goal
 

@@ -1,6 +1,4 @@
-use Rattle.std.proofs.Common.{◌∙◌, refl, ap, subst}
-use Rattle.amqp_peer.specs.Opening.{IsUnderWay}
-use Rattle.amqp_peer.specs.Peering.{Peering}
+use Rattle.std.proofs.Common.{refl}
 use Rattle.amqp_peer.proofs.Ends.{stepped_idle}
 use Rattle.amqp_peer.proofs.peer.Peer.go_on.Goals as goal
 
