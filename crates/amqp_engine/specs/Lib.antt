@@ -1,0 +1,6 @@
+pub mod Settings
+pub mod Errors
+pub mod Phases
+pub mod State
+pub mod Machine
+pub mod Calls
