@@ -21,6 +21,8 @@ use Rattle.amqp_engine.specs.declared.error.Error.{Error}
 use Rattle.amqp_engine.specs.declared.error.Error.TheVariants as error
 use Rattle.amqp_engine.specs.declared.phase.Phase.{Phase}
 use Rattle.amqp_engine.specs.declared.phase.Phase.TheVariants as p
+use Rattle.amqp_engine.specs.declared.phase.Rejection.{Rejection}
+use Rattle.amqp_engine.specs.Errors.{error_of}
 use Rattle.amqp_engine.specs.Machine.{received, answer_to}
 use Rattle.amqp_engine.specs.Phases.{has_failed, is_open}
 use Rattle.amqp_engine.specs.State.{State, bytes_of, queueing, failing, closing, close_frame, error_for, beating, opened, open_frame, limited, own_reason}
@@ -44,6 +46,11 @@ Puts old x after value (Err (error.Memory a)) new = new ≡ old
 Puts old x after value (Err (error.TransportError fault.FramingError)) new = IsTooLarge old.wire.codec.encoder x × (new ≡ failing old)
 Puts old x after value (Err e) new = ⊥
 
+-- want of memory changes nothing, and another error of the transport ends the engine
+abbrev pub failing_by : {L : Type 0} → TransportFault → State L → State L
+failing_by (fault.Memory a) s = s
+failing_by e s = failing s
+
 abbrev pub IsMemory : {A : Type 0} → Result A Error → Type 0
 IsMemory (Err (error.Memory a)) = Unit {0}
 IsMemory result = ⊥
@@ -53,8 +60,7 @@ abbrev pub After : {L : Type 0} → ℕ → State L → Result (Next Frame) Tran
 After at s (Ok (next.Frame x)) result new = (result ≡ answer_to s.phase x) × (new ≡ received s.phase at s x)
 After at s (Ok next.Pending) result new = (result ≡ Ok step.Pending) × (new ≡ s)
 After at s (Ok next.Ended) result new = (result ≡ Err (error.TransportError (fault.Io End))) × (new ≡ failing s)
-After at s (Err (fault.Memory a)) result new = (result ≡ Err (error.Memory a)) × (new ≡ s)
-After at s (Err e) result new = (result ≡ Err (error.TransportError e)) × (new ≡ failing s)
+After at s (Err e) result new = (result ≡ Err (error_of e)) × (new ≡ failing_by e s)
 
 -- the transport is asked for a frame
 pub record Reads {L : Type 0} (link : Ghosts L) (at : ℕ) (old : State L) (result : Result EngineStep Error) (new : State L) : Type 0 where
@@ -64,14 +70,22 @@ pub record Reads {L : Type 0} (link : Ghosts L) (at : ℕ) (old : State L) (resu
   pub joined : Grew link 0 amqp_spells old.wire answer wire
   pub does : After at (record old { wire = wire }) answer result new
 
--- while the connection is open: the beat that is due, or at most one frame; memory for it may be wanting before
+-- the same, or memory for the frame was wanting before
+abbrev pub ReadsOrWants : {L : Type 0} → Ghosts L → ℕ → State L → Result EngineStep Error → State L → Type 0
+ReadsOrWants link at old result new = Reads link at old result new ⊎ (IsMemory result × (new ≡ old))
+
+-- while the connection is open: the beat that is due, or at most one frame
 pub record Works {L : Type 0} (link : Ghosts L) (at : ℕ) (old : State L) (result : Result EngineStep Error) (new : State L) : Type 0 where
   pub due : IsDue old.beat at → Puts old no_frame (beating old no_frame at) step.Worked result new
-  pub other : (IsDue old.beat at → ⊥) → Reads link at old result new ⊎ (IsMemory result × (new ≡ old))
+  pub other : (IsDue old.beat at → ⊥) → ReadsOrWants link at old result new
 
 -- a Close that is owed without an error
 abbrev pub Answers : {L : Type 0} → State L → Result EngineStep Error → State L → Type 0
 Answers old result new = Puts old (close_frame None) (record (queueing old (close_frame None)) { phase = p.Ended }) step.Worked result new
+
+-- a Close that is owed with the error of a rejection; memory for it may be wanting before
+abbrev pub Rejects : {L : Type 0} → State L → Rejection → Result EngineStep Error → State L → Type 0
+Rejects old why result new = Puts old (close_frame (Some (error_for why))) (closing old (Some (error_for why))) step.Worked result new ⊎ (IsMemory result × (new ≡ old))
 
 -- what is done in that phase
 abbrev pub Acts : {L : Type 0} → Phase → Ghosts L → ℕ → State L → Result EngineStep Error → State L → Type 0
@@ -79,7 +93,7 @@ Acts p.OpenSent link at old result new = Reads link at old result new
 Acts p.Opened link at old result new = Works link at old result new
 Acts p.CloseReceived link at old result new = Answers old result new
 Acts p.Refused link at old result new = Answers old result new
-Acts (p.Rejected why) link at old result new = Puts old (close_frame (Some (error_for why))) (closing old (Some (error_for why))) step.Worked result new ⊎ (IsMemory result × (new ≡ old))
+Acts (p.Rejected why) link at old result new = Rejects old why result new
 Acts p.CloseSent link at old result new = Reads link at old result new
 Acts p.Discarding link at old result new = Reads link at old result new
 Acts p.Ended link at old result new = (result ≡ Ok step.Stopped) × (new ≡ old)
@@ -88,8 +102,7 @@ Acts p.Failed link at old result new = (result ≡ Ok step.Stopped) × (new ≡ 
 -- what is done where the transport's flush answers this
 abbrev pub AfterFlush : {L : Type 0} → State L → Result Flush TransportFault → Result Flush Error → State L → Type 0
 AfterFlush s (Ok f) result new = (result ≡ Ok f) × (new ≡ s)
-AfterFlush s (Err (fault.Memory a)) result new = (result ≡ Err (error.Memory a)) × (new ≡ s)
-AfterFlush s (Err e) result new = (result ≡ Err (error.TransportError e)) × (new ≡ failing s)
+AfterFlush s (Err e) result new = (result ≡ Err (error_of e)) × (new ≡ failing_by e s)
 
 -- what is queued is written
 pub record Writes {L : Type 0} (link : Ghosts L) (old : State L) (result : Result Flush Error) (new : State L) : Type 0 where

@@ -43,3 +43,10 @@ state_of p.CloseSent = state.CloseSent
 state_of p.Discarding = state.Discarding
 state_of p.Ended = state.End
 state_of p.Failed = state.End
+
+-- a frame of the connection itself is awaited
+abbrev pub awaits : Phase → Bool
+awaits p.OpenSent = true
+awaits p.CloseSent = true
+awaits p.Discarding = true
+awaits phase = false

@@ -1,5 +1,5 @@
 -- What an engine is, and what a frame that it reads or writes makes of it.
-use Rattle.std.specs.Prelude.{◌≡◌, ℕ, List, [], ◌∷◌, ◌++◌, codes, map, max, Option, Some, None}
+use Rattle.std.specs.Prelude.{◌≡◌, ℕ, List, [], ◌∷◌, ◌++◌, codes, map, max, Option, Some, None, if◌then◌else◌}
 use Rattle.amqp_composites.specs.declared.close.Close.{Close}
 use Rattle.amqp_composites.specs.declared.error.Error.{Error as AmqpError}
 use Rattle.amqp_composites.specs.declared.open.Open.{Open}
@@ -20,6 +20,7 @@ use Rattle.amqp_engine.specs.declared.phase.Phase.{Phase}
 use Rattle.amqp_engine.specs.declared.phase.Phase.TheVariants as p
 use Rattle.amqp_engine.specs.declared.phase.Rejection.{Rejection}
 use Rattle.amqp_engine.specs.declared.phase.Rejection.TheVariants as rejection
+use Rattle.amqp_engine.specs.Phases.{is_stopped}
 use Rattle.amqp_engine.specs.Settings.{settings_of_end, open_of, agreed}
 
 -- the transport, how far the connection is, the heartbeat, why it stops, what is kept of the Opens, and the session frames that were read
@@ -118,3 +119,12 @@ error_for r = record { condition = condition_of r; description = None; info = No
 -- an empty frame is queued, as a beat is due
 abbrev pub beating : {L : Type 0} → State L → Frame → ℕ → State L
 beating s x at = record (queueing s x) { beat = record s.beat { last = Some (periods s.beat at) } }
+
+-- a Close was queued
+abbrev pub closed_for : {L : Type 0} → State L → FrameBody → State L
+closed_for s (b.Close x) = record s { phase = close_phase x.error; reason = own_reason x.error }
+closed_for s body = s
+
+-- it is told where the connection has stopped
+abbrev pub stop_reason_of : {L : Type 0} → State L → Option ConnectionStopReason
+stop_reason_of s = if is_stopped s.phase then Some s.reason else None

@@ -1,6 +1,6 @@
 //! How far an engine is.
 ghost use Rattle.std.specs.Prelude.{◌≡◌};
-ghost use Rattle.amqp_engine.specs.Phases.{kind_of, state_of, is_stopped};
+ghost use Rattle.amqp_engine.specs.Phases.{kind_of, state_of, is_stopped, has_failed, is_open};
 
 use amqp_frames::{ConnectionState, FrameBody};
 
@@ -70,6 +70,26 @@ impl Phase {
     {
         match self {
             Phase::Ended | Phase::Failed => true,
+            _ => false,
+        }
+    }
+
+    /// Whether the transport failed, or an own frame was too large.
+    pub(crate) fn has_failed(self) -> bool
+        ensures { result ≡ has_failed self }
+    {
+        match self {
+            Phase::Failed => true,
+            _ => false,
+        }
+    }
+
+    /// Whether frames of sessions may be written.
+    pub(crate) fn is_open(self) -> bool
+        ensures { result ≡ is_open self }
+    {
+        match self {
+            Phase::Opened => true,
             _ => false,
         }
     }
