@@ -1,1 +1,4 @@
 pub mod Reading
+pub mod Said
+pub mod Runs
+pub mod Steps

@@ -75,9 +75,9 @@ abbrev pub ReadsOrWants : {L : Type 0} → Ghosts L → ℕ → State L → Resu
 ReadsOrWants link at old result new = Reads link at old result new ⊎ (IsMemory result × (new ≡ old))
 
 -- while the connection is open: the beat that is due, or at most one frame
-pub record Works {L : Type 0} (link : Ghosts L) (at : ℕ) (old : State L) (result : Result EngineStep Error) (new : State L) : Type 0 where
-  pub due : IsDue old.beat at → Puts old no_frame (beating old no_frame at) step.Worked result new
-  pub other : (IsDue old.beat at → ⊥) → ReadsOrWants link at old result new
+abbrev pub Works : {L : Type 0} → Ghosts L → ℕ → State L → Result EngineStep Error → State L → Type 0
+Works link at old result new =
+    (IsDue old.beat at × Puts old no_frame (beating old no_frame at) step.Worked result new) ⊎ ((IsDue old.beat at → ⊥) × ReadsOrWants link at old result new)
 
 -- a Close that is owed without an error
 abbrev pub Answers : {L : Type 0} → State L → Result EngineStep Error → State L → Type 0

@@ -4,3 +4,4 @@ pub mod Phases
 pub mod State
 pub mod Machine
 pub mod Calls
+pub mod Sentence
