@@ -1,4 +1,5 @@
 pub mod Reading
 pub mod Said
+pub mod Limits
 pub mod Runs
 pub mod Steps

@@ -9,8 +9,7 @@ use Rattle.amqp_engine.specs.declared.phase.Phase.TheVariants as p
 use Rattle.amqp_engine.specs.declared.phase.BodyKind.TheVariants as kind
 use Rattle.amqp_composites.specs.declared.error.Error.{Error as AmqpError}
 use Rattle.amqp_engine.specs.Phases.{kind_of}
-use Rattle.amqp_engine.specs.State.{State, close_phase}
-use Rattle.amqp_engine.specs.Machine.{received, awaited, arrived, outlasted}
+use Rattle.amqp_engine.specs.State.{close_phase}
 use Rattle.amqp_engine.specs.Sentence.{IsSaid, IsBegun, IsClosed, IsInner, IsClose, AllInner}
 
 pub said_failed : (q : Phase) (sent : List Frame) → IsSaid q sent → IsSaid p.Failed sent
@@ -53,51 +52,3 @@ session_is_inner (b.Disposition y) e = tt
 session_is_inner (b.Detach y) e = tt
 session_is_inner (b.End y) e = tt
 
--- a phase in which no Close was queued
-said_awaited : {L : Type 0} (at : ℕ) (s : State L) (body : FrameBody) (sent : List Frame) → IsBegun sent → IsSaid (awaited at s body).phase sent
-said_awaited at s (b.Open y) sent i = i
-said_awaited at s (b.Close y) sent i = i
-said_awaited at s b.Empty sent i = i
-said_awaited at s (b.Begin y) sent i = i
-said_awaited at s (b.Attach y) sent i = i
-said_awaited at s (b.Flow y) sent i = i
-said_awaited at s (b.Transfer y z) sent i = i
-said_awaited at s (b.Disposition y) sent i = i
-said_awaited at s (b.Detach y) sent i = i
-said_awaited at s (b.End y) sent i = i
-
-said_arrived : {L : Type 0} (s : State L) (x : Frame) (body : FrameBody) (sent : List Frame) → s.phase ≡ p.Opened → IsBegun sent → IsSaid (arrived s x body).phase sent
-said_arrived s x (b.Open y) sent e i = i
-said_arrived s x (b.Close y) sent e i = i
-said_arrived s x b.Empty sent e i = subst (λ (q : Phase). IsSaid q sent) (sym e) i
-said_arrived s x (b.Begin y) sent e i = subst (λ (q : Phase). IsSaid q sent) (sym e) i
-said_arrived s x (b.Attach y) sent e i = subst (λ (q : Phase). IsSaid q sent) (sym e) i
-said_arrived s x (b.Flow y) sent e i = subst (λ (q : Phase). IsSaid q sent) (sym e) i
-said_arrived s x (b.Transfer y z) sent e i = subst (λ (q : Phase). IsSaid q sent) (sym e) i
-said_arrived s x (b.Disposition y) sent e i = subst (λ (q : Phase). IsSaid q sent) (sym e) i
-said_arrived s x (b.Detach y) sent e i = subst (λ (q : Phase). IsSaid q sent) (sym e) i
-said_arrived s x (b.End y) sent e i = subst (λ (q : Phase). IsSaid q sent) (sym e) i
-
-said_outlasted : {L : Type 0} (s : State L) (q : Phase) (body : FrameBody) (sent : List Frame) → s.phase ≡ q → IsSaid q sent → IsClosed sent → IsSaid (outlasted s body).phase sent
-said_outlasted s q (b.Close y) sent e i c = c
-said_outlasted s q (b.Open y) sent e i c = subst (λ (r : Phase). IsSaid r sent) (sym e) i
-said_outlasted s q b.Empty sent e i c = subst (λ (r : Phase). IsSaid r sent) (sym e) i
-said_outlasted s q (b.Begin y) sent e i c = subst (λ (r : Phase). IsSaid r sent) (sym e) i
-said_outlasted s q (b.Attach y) sent e i c = subst (λ (r : Phase). IsSaid r sent) (sym e) i
-said_outlasted s q (b.Flow y) sent e i c = subst (λ (r : Phase). IsSaid r sent) (sym e) i
-said_outlasted s q (b.Transfer y z) sent e i c = subst (λ (r : Phase). IsSaid r sent) (sym e) i
-said_outlasted s q (b.Disposition y) sent e i c = subst (λ (r : Phase). IsSaid r sent) (sym e) i
-said_outlasted s q (b.Detach y) sent e i c = subst (λ (r : Phase). IsSaid r sent) (sym e) i
-said_outlasted s q (b.End y) sent e i c = subst (λ (r : Phase). IsSaid r sent) (sym e) i
-
--- a frame that is read says nothing
-pub said_received : {L : Type 0} (q : Phase) (at : ℕ) (s : State L) (x : Frame) (sent : List Frame) → s.phase ≡ q → IsSaid q sent → IsSaid (received q at s x).phase sent
-said_received p.OpenSent at s x sent e i = said_awaited at s x.body sent i
-said_received p.Opened at s x sent e i = said_arrived s x x.body sent e i
-said_received p.CloseSent at s x sent e i = said_outlasted s p.CloseSent x.body sent e i i
-said_received p.Discarding at s x sent e i = said_outlasted s p.Discarding x.body sent e i i
-said_received p.CloseReceived at s x sent e i = subst (λ (r : Phase). IsSaid r sent) (sym e) i
-said_received p.Refused at s x sent e i = subst (λ (r : Phase). IsSaid r sent) (sym e) i
-said_received (p.Rejected why) at s x sent e i = subst (λ (r : Phase). IsSaid r sent) (sym e) i
-said_received p.Ended at s x sent e i = subst (λ (r : Phase). IsSaid r sent) (sym e) i
-said_received p.Failed at s x sent e i = subst (λ (r : Phase). IsSaid r sent) (sym e) i

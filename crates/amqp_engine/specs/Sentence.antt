@@ -1,6 +1,6 @@
 -- What an end says on its connection (OASIS AMQP 1.0, part 2, section 2.4): Open, then frames of sessions and empty frames, then at
 -- most one Close, and nothing after it.
-use Rattle.std.specs.Prelude.{◌≡◌, ◌≤◌, ◌+◌, ℕ, List, [], ◌∷◌, ◌++◌, length, Option, Some, None, ◌⊎◌}
+use Rattle.std.specs.Prelude.{◌≡◌, ◌≤◌, ◌+◌, ℕ, List, [], ◌∷◌, ◌++◌, length, true, ◌⊎◌}
 use Rattle.list_laws.specs.Told.{Loses, Gains}
 use Rattle.amqp_wire.specs.declared.link.Link.{Ghosts}
 use Rattle.amqp_composites.specs.declared.open.Open.{Open}
@@ -14,7 +14,7 @@ use Rattle.amqp_engine.specs.declared.phase.BodyKind.{BodyKind}
 use Rattle.amqp_engine.specs.declared.phase.BodyKind.TheVariants as kind
 use Rattle.amqp_engine.specs.declared.phase.Phase.{Phase}
 use Rattle.amqp_engine.specs.declared.phase.Phase.TheVariants as p
-use Rattle.amqp_engine.specs.Phases.{kind_of}
+use Rattle.amqp_engine.specs.Phases.{kind_of, is_stopped}
 use Rattle.amqp_engine.specs.State.{State, open_frame}
 
 -- the bytes of frames, one after another
@@ -69,6 +69,23 @@ IsSaid p.Discarding sent = IsClosed sent
 IsSaid p.Ended sent = IsClosed sent
 IsSaid p.Failed sent = IsBegun sent ⊎ IsClosed sent
 
+-- each is within that size
+abbrev pub AllWithin : ℕ → List Frame → Type 0
+AllWithin limit [] = Unit {0}
+AllWithin limit (x ∷ xs) = (size_of_frame x ≤ limit) × AllWithin limit xs
+
+-- the limit that is told is the limit of what is written: 512 until the peer's Open was read, and never less
+pub record IsLimited {L : Type 0} (s : State L) : Type 0 where
+  pub told : s.settings.largest_written ≡ s.wire.codec.encoder
+  pub least : 512 ≤ s.wire.codec.encoder
+  pub first : s.phase ≡ p.OpenSent → s.wire.codec.encoder ≡ 512
+
+-- a connection that has stopped stays so, and its reason too
+pub record HasStopped {L : Type 0} (old new : State L) (queued : List Frame) : Type 0 where
+  pub phase : is_stopped new.phase ≡ true
+  pub reason : new.reason ≡ old.reason
+  pub none : queued ≡ []
+
 -- Bytes were read and written, frames queued and given: what is queued and not yet written, and what is read and not yet given, stays.
 pub record Ran {L : Type 0} (link : Ghosts L) (old new : State L) : Type 0 where
   pub read : List ℕ
@@ -82,6 +99,8 @@ pub record Ran {L : Type 0} (link : Ghosts L) (old new : State L) : Type 0 where
   pub goes_out : old.wire.codec.output ++ bytes_of_all queued ≡ wrote ++ new.wire.codec.output
   pub joined : (bytes : List ℕ) (frames : List Frame) → Joined 0 amqp_spells bytes frames old.wire.codec.input → Joined 0 amqp_spells (bytes ++ read) (frames ++ given) new.wire.codec.input
   pub said : (sent : List Frame) → IsSaid old.phase sent → IsSaid new.phase (sent ++ queued)
+  pub stays : is_stopped old.phase ≡ true → HasStopped old new queued
+  pub limits : IsLimited old → IsLimited new × (old.wire.codec.encoder ≤ new.wire.codec.encoder) × AllWithin new.wire.codec.encoder queued
 
 -- what has happened at an end: the bytes read and written, the frames given and queued
 pub record History : Type 0 where
@@ -101,10 +120,13 @@ pub record Has {L : Type 0} (before arrived : List ℕ) (s : State L) (h : Histo
   pub out : h.wrote ++ s.wire.codec.output ≡ before ++ bytes_of_all h.sent
   pub joined : Joined 0 amqp_spells (arrived ++ h.read) h.given s.wire.codec.input
   pub said : IsSaid s.phase h.sent
+  pub limited : IsLimited s
+  pub sized : AllWithin s.settings.largest_written h.sent
 
--- bytes that begin a sentence: what was before, Open, frames of sessions and empty frames, at most one Close, and nothing after it
-pub record IsSentence (before wrote : List ℕ) : Type 0 where
+-- bytes that begin a sentence of frames within the limit: what was before, Open, frames of sessions and empty frames, at most one Close, and nothing after it
+pub record IsSentence (limit : ℕ) (before wrote : List ℕ) : Type 0 where
   pub frames : List Frame
   pub rest : List ℕ
   pub is : wrote ++ rest ≡ before ++ bytes_of_all frames
   pub form : IsBegun frames ⊎ IsClosed frames
+  pub sized : AllWithin limit frames
