@@ -3,3 +3,4 @@ pub mod Said
 pub mod Limits
 pub mod Runs
 pub mod Steps
+pub mod Says

@@ -105,16 +105,13 @@ ran_none {L} link old new e =
       limits = λ l. let m = e.limits l in (m.0, m.1, tt);
     }
 
-within_more : (m n : ℕ) (xs : List Frame) → m ≤ n → AllWithin m xs → AllWithin n xs
+pub within_more : (m n : ℕ) (xs : List Frame) → m ≤ n → AllWithin m xs → AllWithin n xs
 within_more m n [] e a = tt
 within_more m n (x ∷ xs) e a = (omega (arith, e, a.0), within_more m n xs e a.1)
 
 pub within_append : (n : ℕ) (xs ys : List Frame) → AllWithin n xs → AllWithin n ys → AllWithin n (xs ++ ys)
 within_append n [] ys a c = c
 within_append n (x ∷ xs) ys a c = (a.0, within_append n xs ys a.1 c)
-
-pub within_grown : (m n : ℕ) (xs : List Frame) → m ≤ n → AllWithin m xs → AllWithin n xs
-within_grown m n xs e a = within_more m n xs e a
 
 -- one run after another
 pub ran_then : {L : Type 0} (link : Ghosts L) (a b c : State L) → Ran link a b → Ran link b c → Ran link a c

@@ -16,9 +16,13 @@ abbrev pub open_of : EndKind → Open
 open_of (Client end) = end.local_open
 open_of (Listener end) = end.local_open
 
+-- its peer may begin sessions
+abbrev pub takes_sessions : EndKind → Bool
+takes_sessions (Client end) = false
+takes_sessions (Listener end) = true
+
 abbrev pub settings_of_end : EndKind → Settings
-settings_of_end (Client end) = settings_of false end.local_open
-settings_of_end (Listener end) = settings_of true end.local_open
+settings_of_end end = settings_of (takes_sessions end) (open_of end)
 
 -- after it was read
 abbrev pub agreed : Settings → Open → Settings

@@ -7,6 +7,7 @@ ghost use Rattle.amqp_transport.specs.Kinds.{no_frame};
 ghost use Rattle.amqp_engine.specs.Phases.{awaits, is_open, is_stopped, has_failed, state_of};
 ghost use Rattle.amqp_engine.specs.State.{State, frame_in, frames_in, queueing, failing, closing, close_frame, beating, own_reason, remote_reason, answered_reason, error_for, limited, idle_time, entered, close_phase, closed_for, stop_reason_of};
 ghost use Rattle.amqp_engine.specs.Machine.{awaited, awaited_answer, arrived, arrived_answer, outlasted, received, answer_to};
+ghost use Rattle.amqp_engine.specs.Sentence.{Ran};
 ghost use Rattle.amqp_engine.specs.Errors.{error_of};
 ghost use Rattle.amqp_frames.specs.Session.{of_session};
 ghost use Rattle.amqp_engine.specs.Calls.{OpensTo, Writes, failing_by, Puts, Reads, ReadsOrWants, Rejects, Works, Answers, Acts, Flushes, Steps, Sends, Takes};
@@ -203,6 +204,13 @@ impl<L: Link> ConnectionEngine<L> {
 
     /// Writes what is queued, until the link takes nothing more. After a failure nothing is written.
     pub fn flush(&mut self) -> Result<Flush, Error>
+        ensures ran { Ran L.Link self.old self.new }
+        ensures does { Flushes L.Link self.old result self.new }
+    {
+        self.flush_once()
+    }
+
+    fn flush_once(&mut self) -> Result<Flush, Error>
         ensures { Flushes L.Link self.old result self.new }
     {
         if self.phase.has_failed() {
@@ -461,9 +469,16 @@ impl<L: Link> ConnectionEngine<L> {
     /// Writes what is queued, and then does one thing: it queues a Close that is owed, or the empty frame that is due, or reads
     /// at most one frame. `Stopped` exactly where the stop reason is told.
     pub fn step(&mut self, at: u64) -> Result<EngineStep, Error>
+        ensures ran { Ran L.Link self.old self.new }
+        ensures does { Steps L.Link at self.old result self.new }
+    {
+        self.step_once(at)
+    }
+
+    fn step_once(&mut self, at: u64) -> Result<EngineStep, Error>
         ensures { Steps L.Link at self.old result self.new }
     {
-        match self.flush() {
+        match self.flush_once() {
             Ok(_) => self.act(at),
             Err(error) => Err(error),
         }
@@ -471,7 +486,8 @@ impl<L: Link> ConnectionEngine<L> {
 
     /// Queues a frame of a session, behind all that was queued.
     pub fn send(&mut self, frame: SessionFrame) -> Result<(), Error>
-        ensures { Sends self.old (frame_in frame) (queueing self.old (frame_in frame)) result self.new }
+        ensures ran { Ran L.Link self.old self.new }
+        ensures does { Sends self.old (frame_in frame) (queueing self.old (frame_in frame)) result self.new }
     {
         let (channel, body) = frame.into_parts();
         let frame = Frame { channel, body };
@@ -491,6 +507,13 @@ impl<L: Link> ConnectionEngine<L> {
 
     /// Queues a Close, behind all that was queued; it goes out with the next steps.
     pub fn close(&mut self, error: Option<AmqpError>) -> Result<(), Error>
+        ensures ran { Ran L.Link self.old self.new }
+        ensures does { Sends self.old (close_frame error) (closing self.old error) result self.new }
+    {
+        self.close_if_open(error)
+    }
+
+    fn close_if_open(&mut self, error: Option<AmqpError>) -> Result<(), Error>
         ensures { Sends self.old (close_frame error) (closing self.old error) result self.new }
     {
         if !self.phase.is_open() {
@@ -534,6 +557,13 @@ impl<L: Link> ConnectionEngine<L> {
 
     /// Takes the first session frame off that was read and waits.
     pub fn take_incoming(&mut self) -> Option<SessionFrame>
+        ensures ran { Ran L.Link self.old self.new }
+        ensures does { Takes self.old (option_map frame_in result) self.new }
+    {
+        self.pop_incoming()
+    }
+
+    fn pop_incoming(&mut self) -> Option<SessionFrame>
         ensures { Takes self.old (option_map frame_in result) self.new }
     {
         self.incoming.pop_front()

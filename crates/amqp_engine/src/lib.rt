@@ -9,4 +9,5 @@ pub use phase::Phase;
 pub mod connection;
 pub mod engine;
 pub mod error;
+pub mod laws;
 pub mod phase;

@@ -1,8 +1,5 @@
-use Rattle.std.proofs.Common.{refl, Ok, Err}
+use Rattle.amqp_engine.proofs.Steps.{ran_steps}
 use Rattle.amqp_engine.proofs.engine.ConnectionEngine.step.Goals as goal
 
-pub returns-in-Ok : goal.returns-in-Ok
-returns-in-Ok g c = record { mid = c.flush.new.self; flush = Ok c.in-Ok.field-0; flushes = c.in-Ok.ensures; acts = c.act.ensures }
-
-pub returns-in-Err : goal.returns-in-Err
-returns-in-Err g c = record { mid = c.flush.new.self; flush = Err c.in-Err.error; flushes = c.in-Err.ensures; acts = (refl, refl) }
+pub returns-clause-ran : goal.returns-clause-ran
+returns-clause-ran g c = ran_steps g.L.Link c.args.at _ _ _ c.step_once.ensures
