@@ -52,8 +52,13 @@ pub struct ConnectionEngine<L: Link> {
 
 impl<L: Link> Model for ConnectionEngine<L> {
     ghost use Rattle.amqp_engine.specs.State.{State, frames_in};
+    ghost use Rattle.amqp_frames.specs.contracts.shared.ConnectionStopReason as stop_reason;
+    ghost use Rattle.amqp_transport.specs.contracts.frames.Frame as frame;
+    ghost use Rattle.std.specs.Coded.{codes};
 
     ghost Value = { State L };
+
+    ghost coded = { Prim.hlevel (codes, stop_reason.the_row.coded, frame.the_row.coded) };
 
     ghost view = { λ e. record { wire = e.transport; phase = e.phase; beat = e.beat; reason = e.reason; settings = e.settings; incoming = frames_in e.incoming.items } };
 }
