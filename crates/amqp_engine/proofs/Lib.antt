@@ -4,3 +4,4 @@ pub mod Limits
 pub mod Runs
 pub mod Steps
 pub mod Says
+pub mod Seats

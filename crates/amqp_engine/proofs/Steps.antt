@@ -26,8 +26,13 @@ use Rattle.amqp_engine.specs.declared.phase.Phase.{Phase}
 use Rattle.amqp_engine.specs.declared.phase.Phase.TheVariants as p
 use Rattle.amqp_engine.specs.Phases.{has_failed, is_open, is_stopped, kind_of}
 use Rattle.amqp_engine.specs.State.{State, queueing, failing, closing, close_frame, close_phase, error_for, entered, beating, remote_reason, answered_reason}
-use Rattle.amqp_engine.specs.Machine.{received, awaited, arrived, outlasted}
-use Rattle.amqp_engine.specs.Calls.{Puts, After, AfterFlush, failing_by, Reads, ReadsOrWants, Works, Answers, Rejects, Acts, Writes, FlushesIf, Flushes, ThenActs, Steps, SendsIf, Sends, Takes}
+use Rattle.amqp_engine.specs.declared.sessions.Plan.{Plan}
+use Rattle.amqp_engine.specs.declared.sessions.Plan.TheVariants as plan
+use Rattle.amqp_engine.specs.declared.error.AllocSessionError.{AllocSessionError}
+use Rattle.amqp_engine.specs.declared.error.AllocSessionError.TheVariants as alloc
+use Rattle.amqp_engine.specs.Channels.{Channels, taken_in}
+use Rattle.amqp_engine.specs.Machine.{received, awaited, arrived, outlasted, admitted, plan_of}
+use Rattle.amqp_engine.specs.Calls.{Puts, After, AfterFlush, failing_by, Reads, ReadsOrWants, Works, Answers, Rejects, Acts, Writes, FlushesIf, Flushes, ThenActs, Steps, SendsIf, Sends, Takes, with_channels, Allocates}
 use Rattle.amqp_engine.specs.Sentence.{Ran, IsSaid, IsBegun, IsClosed, IsInner}
 use Rattle.amqp_engine.proofs.Said.{said_closing, closed_push, begun_push, session_is_inner}
 use Rattle.amqp_engine.proofs.Runs.{Alike, alike_refl, alike_same, alike_moves, alike_failing, ran_none, ran_then, ran_put, ran_grew, ran_flushed}
@@ -118,9 +123,9 @@ alike_awaited at s (b.Disposition y) e = awaited_moves s p.Refused s.reason e (�
 alike_awaited at s (b.Detach y) e = awaited_moves s p.Refused s.reason e (λ sent i. i) refused_not
 alike_awaited at s (b.End y) e = awaited_moves s p.Refused s.reason e (λ sent i. i) refused_not
 
--- a session frame waits
-alike_queued : {L : Type 0} (s : State L) (xs : List Frame) → Alike s (record s { incoming = xs })
-alike_queued s xs =
+-- only the channels change
+pub alike_channels : {L : Type 0} (s : State L) (c : Channels) → Alike s (with_channels s c)
+alike_channels s c =
     record {
       link = refl;
       input = refl;
@@ -133,17 +138,24 @@ alike_queued s xs =
 arrived_moves : {L : Type 0} (s : State L) (q : Phase) (reason : ConnectionStopReason) → s.phase ≡ p.Opened → ((sent : List Frame) → IsBegun sent → IsSaid q sent) → (q ≡ p.OpenSent → ⊥) → Alike s (record s { phase = q; reason = reason })
 arrived_moves s q reason e i n = alike_moves s q reason (λ sent j. i sent (in_phase s p.Opened sent e j)) n (ap is_stopped e)
 
+alike_admitted : {L : Type 0} (s : State L) (x : Frame) (q : Plan) → s.phase ≡ p.Opened → Alike s (admitted q s x)
+alike_admitted s x (plan.Reject why) e = arrived_moves s (p.Rejected why) s.reason e (λ sent i. i) rejected_not
+alike_admitted s x plan.Deliver e = alike_channels s (taken_in plan.Deliver s.channels x)
+alike_admitted s x plan.Answer e = alike_channels s (taken_in plan.Answer s.channels x)
+alike_admitted s x plan.End e = alike_channels s (taken_in plan.End s.channels x)
+alike_admitted s x plan.Ask e = alike_channels s (taken_in plan.Ask s.channels x)
+
 alike_arrived : {L : Type 0} (s : State L) (x : Frame) (body : FrameBody) → s.phase ≡ p.Opened → Alike s (arrived s x body)
 alike_arrived s x (b.Open y) e = arrived_moves s (p.Rejected rejection.IllegalState) s.reason e (λ sent i. i) rejected_not
 alike_arrived s x (b.Close y) e = arrived_moves s p.CloseReceived (remote_reason y.error) e (λ sent i. i) received_not
 alike_arrived s x b.Empty e = alike_refl s
-alike_arrived s x (b.Begin y) e = alike_queued s (s.incoming ++ x ∷ [])
-alike_arrived s x (b.Attach y) e = alike_queued s (s.incoming ++ x ∷ [])
-alike_arrived s x (b.Flow y) e = alike_queued s (s.incoming ++ x ∷ [])
-alike_arrived s x (b.Transfer y z) e = alike_queued s (s.incoming ++ x ∷ [])
-alike_arrived s x (b.Disposition y) e = alike_queued s (s.incoming ++ x ∷ [])
-alike_arrived s x (b.Detach y) e = alike_queued s (s.incoming ++ x ∷ [])
-alike_arrived s x (b.End y) e = alike_queued s (s.incoming ++ x ∷ [])
+alike_arrived s x (b.Begin y) e = alike_admitted s x (plan_of s x) e
+alike_arrived s x (b.Attach y) e = alike_admitted s x (plan_of s x) e
+alike_arrived s x (b.Flow y) e = alike_admitted s x (plan_of s x) e
+alike_arrived s x (b.Transfer y z) e = alike_admitted s x (plan_of s x) e
+alike_arrived s x (b.Disposition y) e = alike_admitted s x (plan_of s x) e
+alike_arrived s x (b.Detach y) e = alike_admitted s x (plan_of s x) e
+alike_arrived s x (b.End y) e = alike_admitted s x (plan_of s x) e
 
 alike_outlasted : {L : Type 0} (s : State L) (body : FrameBody) → ((sent : List Frame) → IsSaid s.phase sent → IsClosed sent) → is_stopped s.phase ≡ false → Alike s (outlasted s body)
 alike_outlasted s (b.Close y) i e = alike_moves s p.Ended (answered_reason s.reason y.error) i ended_not e
@@ -266,6 +278,11 @@ ran_session p.Failed link old x result new e o a = ran_same link old new a.1
 pub ran_sends : {L : Type 0} (link : Ghosts L) (old : State L) (x : Frame) (result : Result Unit Error) (new : State L) → of_session x.body ≡ true → Sends old x (queueing old x) result new → Ran link old new
 ran_sends link old x result new o a = ran_session old.phase link old x result new refl o a
 
-pub ran_takes : {L : Type 0} (link : Ghosts L) (old : State L) (result : Option Frame) (new : State L) → Takes old result new → Ran link old new
-ran_takes link old None new t = ran_same link old new t.1
-ran_takes {L} link old (Some x) new t = ran_none link old new (subst (λ (s : State L). Alike old s) (sym t.1) (alike_queued old new.incoming))
+-- only the channels changed
+pub ran_channels : {L : Type 0} (link : Ghosts L) (old new : State L) (c : Channels) → new ≡ with_channels old c → Ran link old new
+ran_channels {L} link old new c e = ran_none link old new (subst (λ (s : State L). Alike old s) (sym e) (alike_channels old c))
+
+pub ran_allocates : {L : Type 0} (link : Ghosts L) (old : State L) (result : Result ℕ AllocSessionError) (new : State L) → Allocates old result new → Ran link old new
+ran_allocates link old (Ok channel) new a = ran_channels link old new _ a.2
+ran_allocates link old (Err alloc.ChannelMaxReached) new a = ran_same link old new a.1
+ran_allocates link old (Err (alloc.Memory e)) new a = ran_same link old new a

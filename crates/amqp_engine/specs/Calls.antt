@@ -1,5 +1,5 @@
 -- What each call of an engine does, by what the link and the transport answer in it.
-use Rattle.std.specs.Prelude.{◌≡◌, ◌<◌, ◌≤◌, ◌+◌, ◌^◌, ◌⊎◌, ℕ, Bool, true, false, List, [], ◌∷◌, ◌++◌, length, Option, Some, None, Result, Ok, Err}
+use Rattle.std.specs.Prelude.{◌≡◌, ◌<◌, ◌≤◌, ◌+◌, ◌^◌, ◌⊎◌, ℕ, Bool, true, false, List, [], ◌∷◌, ◌++◌, length, slice_set, Option, Some, None, Result, Ok, Err}
 use Rattle.amqp_wire.specs.declared.link.Link.{Ghosts}
 use Rattle.amqp_wire.specs.declared.link.IoKind.TheVariants.{End}
 use Rattle.amqp_composites.specs.declared.error.Error.{Error as AmqpError}
@@ -22,6 +22,10 @@ use Rattle.amqp_engine.specs.declared.error.Error.TheVariants as error
 use Rattle.amqp_engine.specs.declared.phase.Phase.{Phase}
 use Rattle.amqp_engine.specs.declared.phase.Phase.TheVariants as p
 use Rattle.amqp_engine.specs.declared.phase.Rejection.{Rejection}
+use Rattle.amqp_frames.specs.declared.shared.IncomingSession.{IncomingSession}
+use Rattle.amqp_engine.specs.declared.error.AllocSessionError.{AllocSessionError}
+use Rattle.amqp_engine.specs.declared.error.AllocSessionError.TheVariants as alloc
+use Rattle.amqp_engine.specs.Channels.{Channels, TakesFrame, TakesSession, first_free, seat_taken}
 use Rattle.amqp_engine.specs.Errors.{error_of}
 use Rattle.amqp_engine.specs.Machine.{received, answer_to}
 use Rattle.amqp_engine.specs.Phases.{has_failed, is_open}
@@ -57,7 +61,7 @@ IsMemory result = ⊥
 
 -- what is done where the transport gives this
 abbrev pub After : {L : Type 0} → ℕ → State L → Result (Next Frame) TransportFault → Result EngineStep Error → State L → Type 0
-After at s (Ok (next.Frame x)) result new = (result ≡ answer_to s.phase x) × (new ≡ received s.phase at s x)
+After at s (Ok (next.Frame x)) result new = (result ≡ answer_to s.phase s x) × (new ≡ received s.phase at s x)
 After at s (Ok next.Pending) result new = (result ≡ Ok step.Pending) × (new ≡ s)
 After at s (Ok next.Ended) result new = (result ≡ Err (error.TransportError (fault.Io End))) × (new ≡ failing s)
 After at s (Err e) result new = (result ≡ Err (error_of e)) × (new ≡ failing_by e s)
@@ -139,7 +143,26 @@ SendsIf false old x after result new = (result ≡ Err error.IllegalState) × (n
 abbrev pub Sends : {L : Type 0} → State L → Frame → State L → Result Unit Error → State L → Type 0
 Sends old x after result new = SendsIf (is_open old.phase) old x after result new
 
+-- the channels change, and nothing else
+abbrev pub with_channels : {L : Type 0} → State L → Channels → State L
+with_channels s c = record s { channels = c }
+
 -- the first session frame that waits is taken off
-abbrev pub Takes : {L : Type 0} → State L → Option Frame → State L → Type 0
-Takes old None new = (old.incoming ≡ []) × (new ≡ old)
-Takes old (Some x) new = (old.incoming ≡ x ∷ new.incoming) × (new ≡ record old { incoming = new.incoming })
+pub record Takes {L : Type 0} (old : State L) (result : Option Frame) (new : State L) : Type 0 where
+  pub channels : TakesFrame old.channels result new.channels
+  pub rest : new ≡ with_channels old new.channels
+
+-- the first session that the peer asks for is taken off
+pub record TakesAsked {L : Type 0} (old : State L) (result : Option IncomingSession) (new : State L) : Type 0 where
+  pub channels : TakesSession old.channels result new.channels
+  pub rest : new ≡ with_channels old new.channels
+
+-- the first channel that no session has is taken, unless it is above the highest
+abbrev pub Allocates : {L : Type 0} → State L → Result ℕ AllocSessionError → State L → Type 0
+Allocates old (Ok channel) new = (channel ≡ first_free old.channels.seats) × (channel ≤ old.settings.channel_max) × (new ≡ with_channels old (record old.channels { seats = seat_taken old.channels.seats channel }))
+Allocates old (Err alloc.ChannelMaxReached) new = (old.settings.channel_max < first_free old.channels.seats) × (new ≡ old)
+Allocates old (Err (alloc.Memory a)) new = new ≡ old
+
+-- a channel is free again
+abbrev pub freed : {L : Type 0} → State L → ℕ → State L
+freed s channel = with_channels s (record s.channels { seats = slice_set s.channels.seats channel false })

@@ -1,6 +1,8 @@
 pub mod Settings
 pub mod Errors
 pub mod Phases
+pub mod Plans
+pub mod Channels
 pub mod State
 pub mod Machine
 pub mod Calls

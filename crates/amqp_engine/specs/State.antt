@@ -7,7 +7,6 @@ use Rattle.amqp_frames.specs.declared.body.FrameBody.{FrameBody}
 use Rattle.amqp_frames.specs.declared.body.FrameBody.TheVariants as b
 use Rattle.amqp_frames.specs.declared.shared.ConnectionStopReason.{ConnectionStopReason}
 use Rattle.amqp_frames.specs.declared.shared.ConnectionStopReason.TheVariants as why
-use Rattle.amqp_frames.specs.declared.shared.SessionFrame.{SessionFrame}
 use Rattle.amqp_transport.specs.declared.frames.Frame.{Frame}
 use Rattle.amqp_transport.specs.declared.heart_beat.HeartBeat.{HeartBeat}
 use Rattle.amqp_transport.specs.Clocks.{periods}
@@ -20,24 +19,18 @@ use Rattle.amqp_engine.specs.declared.phase.Phase.{Phase}
 use Rattle.amqp_engine.specs.declared.phase.Phase.TheVariants as p
 use Rattle.amqp_engine.specs.declared.phase.Rejection.{Rejection}
 use Rattle.amqp_engine.specs.declared.phase.Rejection.TheVariants as rejection
+use Rattle.amqp_engine.specs.Channels.{Channels, no_channels}
 use Rattle.amqp_engine.specs.Phases.{is_stopped}
 use Rattle.amqp_engine.specs.Settings.{settings_of_end, open_of, agreed}
 
--- the transport, how far the connection is, the heartbeat, why it stops, what is kept of the Opens, and the session frames that were read
+-- the transport, how far the connection is, the heartbeat, why it stops, what is kept of the Opens, and the channels of sessions
 pub record State (L : Type 0) : Type 0 where
   pub wire : Wire L
   pub phase : Phase
   pub beat : HeartBeat
   pub reason : ConnectionStopReason
   pub settings : Settings
-  pub incoming : List Frame
-
--- a session's frame, with its channel
-abbrev pub frame_in : SessionFrame → Frame
-frame_in x = record { channel = x.channel; body = x.body }
-
-abbrev pub frames_in : List SessionFrame → List Frame
-frames_in xs = map frame_in xs
+  pub channels : Channels
 
 -- the bytes of a frame
 abbrev pub bytes_of : Frame → List ℕ
@@ -64,7 +57,7 @@ no_beat = record { period = 0; start = 0; last = None }
 
 -- Open is queued
 abbrev pub opened : {L : Type 0} → Wire L → EndKind → State L
-opened w end = queueing (record { wire = limited w 512 512; phase = p.OpenSent; beat = no_beat; reason = why.Closed; settings = settings_of_end end; incoming = [] }) (open_frame end)
+opened w end = queueing (record { wire = limited w 512 512; phase = p.OpenSent; beat = no_beat; reason = why.Closed; settings = settings_of_end end; channels = no_channels }) (open_frame end)
 
 -- the idle time of an Open, 0 where it has none
 abbrev pub idle_time : Option ℕ → ℕ

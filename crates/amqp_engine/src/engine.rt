@@ -5,25 +5,26 @@ ghost use Rattle.amqp_engine.specs.contracts.engine.ConnectionEngine.{the_row};
 ghost use Rattle.amqp_transport.specs.Clocks.{IsDue};
 ghost use Rattle.amqp_transport.specs.Kinds.{no_frame};
 ghost use Rattle.amqp_engine.specs.Phases.{awaits, is_open, is_stopped, has_failed, state_of};
-ghost use Rattle.amqp_engine.specs.State.{State, frame_in, frames_in, queueing, failing, closing, close_frame, beating, own_reason, remote_reason, answered_reason, error_for, limited, idle_time, entered, close_phase, closed_for, stop_reason_of};
-ghost use Rattle.amqp_engine.specs.Machine.{awaited, awaited_answer, arrived, arrived_answer, outlasted, received, answer_to};
+ghost use Rattle.amqp_engine.specs.Channels.{frame_in, first_of};
+ghost use Rattle.amqp_engine.specs.State.{State, queueing, failing, closing, close_frame, beating, own_reason, remote_reason, answered_reason, error_for, limited, idle_time, entered, close_phase, closed_for, stop_reason_of};
+ghost use Rattle.amqp_engine.specs.Machine.{awaited, awaited_answer, arrived, arrived_answer, outlasted, received, answer_to, admitted_answer, phase_after};
 ghost use Rattle.amqp_engine.specs.Sentence.{Ran};
 ghost use Rattle.amqp_engine.specs.Errors.{error_of};
 ghost use Rattle.amqp_frames.specs.Session.{of_session};
-ghost use Rattle.amqp_engine.specs.Calls.{OpensTo, Writes, failing_by, Puts, Reads, ReadsOrWants, Rejects, Works, Answers, Acts, Flushes, Steps, Sends, Takes};
+ghost use Rattle.amqp_engine.specs.Calls.{OpensTo, Writes, failing_by, Puts, Reads, ReadsOrWants, Rejects, Works, Answers, Acts, Flushes, Steps, Sends, Takes, TakesAsked, Allocates, freed};
 
 use crate::connection::{EndKind, Settings};
-use crate::error::Error;
+use crate::error::{AllocSessionError, Error};
 use crate::phase::{Phase, Rejection};
+use crate::sessions::{Plan, Sessions};
 use amqp_composites::close::Close;
 use amqp_composites::error::Error as AmqpError;
 use amqp_composites::open::Open;
-use amqp_frames::{ConnectionState, ConnectionStopReason, FrameBody, SessionFrame};
+use amqp_frames::{ConnectionState, ConnectionStopReason, FrameBody, IncomingSession, SessionFrame};
 use amqp_text::Symbol;
 use amqp_transport::{AmqpFrames, Flush, Frame, HeartBeat, Next, Transport, transport};
 use amqp_wire::link::{IoKind, Link};
 use std::alloc::{AllocError, Global};
-use std::collections::VecDeque;
 use std::marker::Model;
 use std::mem;
 
@@ -46,12 +47,13 @@ pub struct ConnectionEngine<L: Link> {
     beat: HeartBeat,
     reason: ConnectionStopReason,
     settings: Settings,
-    incoming: VecDeque<SessionFrame>,
+    sessions: Sessions,
     alloc: Global,
 }
 
 impl<L: Link> Model for ConnectionEngine<L> {
-    ghost use Rattle.amqp_engine.specs.State.{State, frames_in};
+    ghost use Rattle.amqp_engine.specs.State.{State};
+    ghost use Rattle.amqp_engine.specs.Channels.{channels_of};
     ghost use Rattle.amqp_frames.specs.contracts.shared.ConnectionStopReason as stop_reason;
     ghost use Rattle.amqp_transport.specs.contracts.frames.Frame as frame;
     ghost use Rattle.std.specs.Coded.{codes};
@@ -60,7 +62,7 @@ impl<L: Link> Model for ConnectionEngine<L> {
 
     ghost coded = { Prim.hlevel (codes, stop_reason.the_row.coded, frame.the_row.coded) };
 
-    ghost view = { λ e. record { wire = e.transport; phase = e.phase; beat = e.beat; reason = e.reason; settings = e.settings; incoming = frames_in e.incoming.items } };
+    ghost view = { λ e. record { wire = e.transport; phase = e.phase; beat = e.beat; reason = e.reason; settings = e.settings; channels = channels_of e.sessions } };
 }
 
 fn discard<T: Drop>(_value: T) {}
@@ -156,7 +158,7 @@ impl<L: Link> ConnectionEngine<L> {
                 beat: HeartBeat::never(),
                 reason: ConnectionStopReason::Closed,
                 settings,
-                incoming: VecDeque::new(alloc),
+                sessions: Sessions::new(alloc),
                 alloc,
             }),
             Err(error) => Err((Error::from(error), transport)),
@@ -273,7 +275,7 @@ impl<L: Link> ConnectionEngine<L> {
     /// A frame of no session is read while the connection is open.
     fn arrive(&mut self, body: FrameBody) -> Result<EngineStep, Error>
         requires { of_session body ≡ false }
-        ensures answer { result ≡ arrived_answer body }
+        ensures answer { result ≡ arrived_answer Plan.Deliver body }
         ensures state { self.new ≡ arrived self.old no_frame body }
     {
         match body {
@@ -327,7 +329,7 @@ impl<L: Link> ConnectionEngine<L> {
 
     fn receive(&mut self, at: u64, frame: Frame) -> Result<EngineStep, Error>
         requires { awaits self.old.phase ≡ true }
-        ensures answer { result ≡ answer_to self.old.phase frame }
+        ensures answer { result ≡ answer_to self.old.phase self.old frame }
         ensures state { self.new ≡ received self.old.phase at self.old frame }
     {
         match self.phase {
@@ -348,14 +350,15 @@ impl<L: Link> ConnectionEngine<L> {
         requires { self.old.phase ≡ Phase.Opened }
         ensures { ReadsOrWants L.Link at self.old result self.new }
     {
-        if let Err(error) = self.incoming.reserve(1) {
+        if let Err(error) = self.sessions.make_room() {
             return Err(Error::Memory(error));
         }
         match self.transport.poll_next(at) {
             Ok(Next::Frame(frame)) => match SessionFrame::new(frame.channel, frame.body) {
                 Ok(frame) => {
-                    self.incoming.push_back_reserved(frame);
-                    Ok(EngineStep::Worked)
+                    let plan = self.sessions.plan(self.settings.is_listener, &frame);
+                    self.sessions.take(plan, frame);
+                    self.follow(plan)
                 }
                 Err(body) => self.arrive(body),
             },
@@ -365,6 +368,20 @@ impl<L: Link> ConnectionEngine<L> {
                 Err(Error::TransportError(transport::Error::Io(IoKind::End)))
             }
             Err(error) => Err(self.fail_by(error)),
+        }
+    }
+
+    /// Goes on where a frame of a session was taken in as was planned.
+    fn follow(&mut self, plan: Plan) -> Result<EngineStep, Error>
+        ensures answer { result ≡ admitted_answer plan }
+        ensures state { self.new ≡ record self.old { phase = phase_after plan self.old.phase } }
+    {
+        match plan {
+            Plan::Reject(rejection) => {
+                self.phase = Phase::Rejected(rejection);
+                Err(rejection.told())
+            }
+            _ => Ok(EngineStep::Worked),
         }
     }
 
@@ -560,7 +577,7 @@ impl<L: Link> ConnectionEngine<L> {
         self.settings.largest_written
     }
 
-    /// Takes the first session frame off that was read and waits.
+    /// Takes the first frame of a session off that was read and waits. Its channel is the peer's.
     pub fn take_incoming(&mut self) -> Option<SessionFrame>
         ensures ran { Ran L.Link self.old self.new }
         ensures does { Takes self.old (option_map frame_in result) self.new }
@@ -571,6 +588,63 @@ impl<L: Link> ConnectionEngine<L> {
     fn pop_incoming(&mut self) -> Option<SessionFrame>
         ensures { Takes self.old (option_map frame_in result) self.new }
     {
-        self.incoming.pop_front()
+        self.sessions.pop_incoming()
+    }
+
+    /// Takes the first session off that the peer asks for and that waits.
+    pub fn next_incoming_session(&mut self) -> Option<IncomingSession>
+        ensures ran { Ran L.Link self.old self.new }
+        ensures does { TakesAsked self.old result self.new }
+    {
+        self.pop_asked()
+    }
+
+    fn pop_asked(&mut self) -> Option<IncomingSession>
+        ensures { TakesAsked self.old result self.new }
+    {
+        self.sessions.pop_begun()
+    }
+
+    /// The first session that the peer asks for and that waits, lent.
+    pub fn incoming_session(&self) -> Option<&IncomingSession>
+        ensures { option_map (λ x. x.now) result ≡ first_of self.now.channels.begun }
+    {
+        self.sessions.first_begun()
+    }
+
+    /// Gives the lowest channel that is free to a session. `ChannelMaxReached` exactly where the sessions on channels up to the
+    /// agreed channel-max number channel-max + 1.
+    pub fn allocate_session(&mut self) -> Result<u16, AllocSessionError>
+        ensures ran { Ran L.Link self.old self.new }
+        ensures does { Allocates self.old result self.new }
+    {
+        self.allocate()
+    }
+
+    fn allocate(&mut self) -> Result<u16, AllocSessionError>
+        ensures { Allocates self.old result self.new }
+    {
+        let channel = self.sessions.lowest_free();
+        if channel > usize::from(self.settings.channel_max) {
+            return Err(AllocSessionError::ChannelMaxReached);
+        }
+        match self.sessions.seat(channel) {
+            Ok(()) => Ok(channel as u16),
+            Err(error) => Err(AllocSessionError::Memory(error)),
+        }
+    }
+
+    /// Frees the channel of a session.
+    pub fn deallocate_session(&mut self, channel: u16)
+        ensures ran { Ran L.Link self.old self.new }
+        ensures does { self.new ≡ freed self.old channel }
+    {
+        self.free(channel);
+    }
+
+    fn free(&mut self, channel: u16)
+        ensures { self.new ≡ freed self.old channel }
+    {
+        self.sessions.free(channel);
     }
 }

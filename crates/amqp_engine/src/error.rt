@@ -56,3 +56,14 @@ impl From<AllocError> for Error {
         Error::Memory(error)
     }
 }
+
+/// Why no session gets a channel.
+#[derive(Clone, Copy, Debug, PartialEq, Eq, ErrorDerive)]
+pub enum AllocSessionError {
+    /// There was not enough memory.
+    #[error("Memory")]
+    Memory(AllocError),
+    /// Each channel up to the highest has a session.
+    #[error("ChannelMaxReached")]
+    ChannelMaxReached,
+}

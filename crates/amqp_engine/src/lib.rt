@@ -3,7 +3,7 @@
 
 pub use connection::{Connection, EndKind, ListenerConnection};
 pub use engine::{ConnectionEngine, EngineStep};
-pub use error::Error;
+pub use error::{AllocSessionError, Error};
 pub use phase::Phase;
 
 pub mod connection;
@@ -11,3 +11,4 @@ pub mod engine;
 pub mod error;
 pub mod laws;
 pub mod phase;
+mod sessions;
