@@ -5,3 +5,4 @@ pub mod Runs
 pub mod Steps
 pub mod Says
 pub mod Seats
+pub mod Outcomes

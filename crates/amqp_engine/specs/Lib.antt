@@ -7,3 +7,4 @@ pub mod State
 pub mod Machine
 pub mod Calls
 pub mod Sentence
+pub mod Outcomes

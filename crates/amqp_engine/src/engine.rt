@@ -55,12 +55,13 @@ impl<L: Link> Model for ConnectionEngine<L> {
     ghost use Rattle.amqp_engine.specs.State.{State};
     ghost use Rattle.amqp_engine.specs.Channels.{channels_of};
     ghost use Rattle.amqp_frames.specs.contracts.shared.ConnectionStopReason as stop_reason;
+    ghost use Rattle.amqp_frames.specs.contracts.shared.IncomingSession as asked;
     ghost use Rattle.amqp_transport.specs.contracts.frames.Frame as frame;
     ghost use Rattle.std.specs.Coded.{codes};
 
     ghost Value = { State L };
 
-    ghost coded = { Prim.hlevel (codes, stop_reason.the_row.coded, frame.the_row.coded) };
+    ghost coded = { Prim.hlevel (codes, stop_reason.the_row.coded, asked.the_row.coded, frame.the_row.coded) };
 
     ghost view = { λ e. record { wire = e.transport; phase = e.phase; beat = e.beat; reason = e.reason; settings = e.settings; channels = channels_of e.sessions } };
 }

@@ -12,3 +12,5 @@ pub mod error;
 pub mod laws;
 pub mod phase;
 mod sessions;
+#[cfg(test)]
+mod tests;
