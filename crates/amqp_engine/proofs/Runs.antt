@@ -169,7 +169,8 @@ ran_put {L} link old new x e set s live n fits =
       stays = λ f. absurd (cc (live, f));
       limits = λ l. (
         record { told = ap (λ (t : Settings). t.largest_written) set ∙ l.told ∙ sym lim; least = omega (arith, lim, l.least); first = λ f. absurd (n f) },
-        omega (arith, lim), (omega (arith, lim, fits), tt),
+        omega (arith, lim),
+        (omega (arith, lim, fits), tt),
       );
     }
 

@@ -51,4 +51,3 @@ session_is_inner (b.Transfer y z) e = tt
 session_is_inner (b.Disposition y) e = tt
 session_is_inner (b.Detach y) e = tt
 session_is_inner (b.End y) e = tt
-

@@ -194,7 +194,6 @@ ran_reads_or : {L : Type 0} (link : Ghosts L) (at : ℕ) (old : State L) (result
 ran_reads_or link at old result new (inl r) = ran_reads link at old result new r
 ran_reads_or link at old result new (inr w) = ran_same link old new w.1
 
-
 -- a frame between Open and Close
 inner_follows : {L : Type 0} (old : State L) (x : Frame) (after : State L) → old.phase ≡ p.Opened → after.wire ≡ (queueing old x).wire → after.settings ≡ old.settings → after.phase ≡ old.phase → IsInner (kind_of x.body) → CanFollow old x after
 inner_follows old x after e w set q i =
