@@ -1,11 +1,11 @@
 -- A read leaves the limits alone.
-use Rattle.std.proofs.Common.{◌≡◌, ◌⊎◌, inl, inr, ℕ, List, Option, Some, None, Result, Ok, Err, refl, sym, ap, ◌∙◌, subst}
+use Rattle.std.proofs.Common.{◌≡◌, inl, inr, ℕ, List, Option, Some, None, Result, ap, ◌∙◌}
 use Rattle.amqp_wire.specs.declared.link.Link.{Ghosts}
 use Rattle.amqp_transport.specs.declared.transport.Error.{Error as TransportFault}
 use Rattle.amqp_transport.specs.declared.transport.Next.{Next}
 use Rattle.amqp_wire.specs.Codec.{Codec}
 use Rattle.amqp_transport.specs.Wire.{Wire, Polled, PolledAt}
-use Rattle.amqp_transport.proofs.Streams.{Still, TookOne, answered}
+use Rattle.amqp_transport.proofs.Streams.{answered}
 
 limit_at : {L X : Type 0} (link : Ghosts L) (kind : ℕ) (spells : ℕ → List ℕ → X → Type 0) (kept : Option TransportFault) (old : Wire L) (at : ℕ) (result : Result (Next X) TransportFault) (new : Wire L) → PolledAt kept link kind spells old at result new → new.codec.encoder ≡ old.codec.encoder
 limit_at {L} link kind spells (Some e) old at result new p = ap (λ (w : Wire L). w.codec.encoder) p.1

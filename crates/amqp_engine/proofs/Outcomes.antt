@@ -1,5 +1,5 @@
 -- What a step's answer says of its call.
-use Rattle.std.proofs.Common.{◌≡◌, ◌⊎◌, [], ◌∷◌, inl, inr, ℕ, List, Bool, true, false, Option, Some, None, Result, Ok, Err, arith, ◌+◌, ◌<◌, ◌≤◌, refl, sym, ap, ◌∙◌, subst}
+use Rattle.std.proofs.Common.{◌≡◌, [], ◌∷◌, inl, inr, ℕ, List, Bool, true, false, Option, Some, None, Result, Ok, Err, arith, ◌+◌, refl, sym, ap, subst}
 use Rattle.std.specs.Prelude.{◌↔◌}
 use Rattle.amqp_wire.specs.declared.link.Link.{Ghosts}
 use Rattle.amqp_wire.specs.declared.link.Stop.{Stop}
@@ -12,7 +12,6 @@ use Rattle.amqp_transport.specs.declared.transport.Error.{Error as TransportFaul
 use Rattle.amqp_transport.specs.declared.transport.Flush.{Flush}
 use Rattle.amqp_transport.specs.declared.transport.Next.{Next}
 use Rattle.amqp_transport.specs.declared.transport.Next.TheVariants as next
-use Rattle.amqp_wire.specs.Codec.{Codec}
 use Rattle.amqp_transport.specs.declared.transport.Error.TheVariants as fault
 use Rattle.amqp_wire.specs.declared.link.IoKind.TheVariants.{Fault}
 use Rattle.amqp_transport.specs.Clocks.{IsDue}
@@ -33,7 +32,7 @@ use Rattle.amqp_engine.specs.declared.sessions.Plan.TheVariants as plan
 use Rattle.amqp_engine.specs.Plans.{rejection_told}
 use Rattle.amqp_engine.specs.Machine.{answer_to, plan_of, admitted_answer, awaited_answer, arrived_answer}
 use Rattle.amqp_engine.specs.State.{State}
-use Rattle.amqp_engine.specs.Calls.{Steps, Acts, ThenActs, Reads, After, Flushes, FlushesIf, AfterFlush, Works, Puts}
+use Rattle.amqp_engine.specs.Calls.{Steps, Acts, ThenActs, Reads, After, Flushes, FlushesIf, AfterFlush}
 use Rattle.amqp_engine.specs.Outcomes.{Waited}
 
 -- a transport that gives nothing yet has found its link empty

@@ -1,5 +1,5 @@
 -- What a read comes to, by what the transport gave.
-use Rattle.std.proofs.Common.{◌≡◌, ◌⊎◌, inl, ℕ, List, [], ◌∷◌, ◌++◌, true, false, Result, Ok, Err, refl, sym, ap, ◌∙◌, subst}
+use Rattle.std.proofs.Common.{◌≡◌, ℕ, true, false, Result, Ok, refl, sym, ap, ◌∙◌, subst}
 use Rattle.amqp_wire.specs.declared.link.Link.{Ghosts}
 use Rattle.amqp_transport.specs.declared.frames.Frame.{Frame}
 use Rattle.amqp_transport.specs.declared.transport.Error.{Error as TransportFault}
@@ -10,7 +10,6 @@ use Rattle.amqp_transport.specs.Stream.{Grew}
 use Rattle.amqp_transport.specs.Wire.{Wire, Polled}
 use Rattle.amqp_engine.specs.declared.engine.EngineStep.{EngineStep}
 use Rattle.amqp_engine.specs.declared.error.Error.{Error}
-use Rattle.amqp_engine.specs.declared.engine.EngineStep.TheVariants.{Worked}
 use Rattle.amqp_engine.specs.declared.phase.Phase.{Phase}
 use Rattle.amqp_engine.specs.declared.phase.Phase.TheVariants as p
 use Rattle.amqp_frames.specs.declared.body.FrameBody.{FrameBody}

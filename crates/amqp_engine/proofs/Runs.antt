@@ -1,15 +1,13 @@
 -- Each thing that an engine does is a run, and runs follow one another.
-use Rattle.std.proofs.Common.{◌≡◌, ◌≤◌, ◌+◌, ◌⊎◌, inl, inr, ℕ, List, [], ◌∷◌, ◌++◌, length, true, false, Result, Ok, Err, refl, sym, ap, ◌∙◌, subst, append_assoc, arith}
+use Rattle.std.proofs.Common.{◌≡◌, ◌≤◌, inl, inr, ℕ, List, [], ◌∷◌, ◌++◌, true, false, Result, refl, sym, ap, ◌∙◌, subst, append_assoc, arith}
 use Rattle.std.proofs.lemmas.Bool.{cases_lt}
 use Rattle.std.proofs.lemmas.List.{append-nil}
 use Rattle.std.proofs.lemmas.Grind.{flat_map-append}
-use Rattle.list_laws.specs.Told.{Loses, Gains}
 use Rattle.list_laws.proofs.Told.{loses_none, gains_none, loses_then, gains_then}
 use Rattle.amqp_wire.specs.declared.link.Link.{Ghosts}
 use Rattle.amqp_wire.proofs.Links.{wrote_took}
 use Rattle.amqp_transport.specs.declared.frames.Frame.{Frame}
 use Rattle.amqp_transport.specs.declared.transport.Error.{Error as TransportFault}
-use Rattle.amqp_transport.specs.declared.transport.Error.TheVariants as fault
 use Rattle.amqp_transport.specs.declared.transport.Flush.{Flush}
 use Rattle.amqp_transport.specs.declared.transport.Next.{Next}
 use Rattle.amqp_wire.specs.Codec.{Codec}
@@ -175,7 +173,8 @@ ran_put {L} link old new x e set s live n fits =
       stays = λ f. absurd (cc (live, f));
       limits = λ l. (
         record { told = ap (λ (t : Settings). t.largest_written) set ∙ l.told ∙ sym lim; least = omega (arith, lim, l.least); first = λ f. absurd (n f) },
-        omega (arith, lim), (omega (arith, lim, fits), tt),
+        omega (arith, lim),
+        (omega (arith, lim, fits), tt),
       );
     }
 

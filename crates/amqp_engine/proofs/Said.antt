@@ -1,12 +1,11 @@
 -- What may be said next.
-use Rattle.std.proofs.Common.{◌≡◌, ◌⊎◌, inl, inr, ℕ, List, [], ◌∷◌, ◌++◌, Option, Some, None, true, false, refl, sym, ap, ◌∙◌, subst}
+use Rattle.std.proofs.Common.{◌≡◌, ◌⊎◌, inl, inr, List, [], ◌∷◌, ◌++◌, Option, Some, None, true, refl, ap}
 use Rattle.amqp_frames.specs.declared.body.FrameBody.{FrameBody}
 use Rattle.amqp_frames.specs.declared.body.FrameBody.TheVariants as b
 use Rattle.amqp_frames.specs.Session.{of_session}
 use Rattle.amqp_transport.specs.declared.frames.Frame.{Frame}
 use Rattle.amqp_engine.specs.declared.phase.Phase.{Phase}
 use Rattle.amqp_engine.specs.declared.phase.Phase.TheVariants as p
-use Rattle.amqp_engine.specs.declared.phase.BodyKind.TheVariants as kind
 use Rattle.amqp_composites.specs.declared.error.Error.{Error as AmqpError}
 use Rattle.amqp_engine.specs.Phases.{kind_of}
 use Rattle.amqp_engine.specs.State.{close_phase}
@@ -51,4 +50,3 @@ session_is_inner (b.Transfer y z) e = tt
 session_is_inner (b.Disposition y) e = tt
 session_is_inner (b.Detach y) e = tt
 session_is_inner (b.End y) e = tt
-

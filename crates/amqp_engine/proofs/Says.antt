@@ -1,17 +1,16 @@
 -- What an end says, from its Open on.
-use Rattle.std.proofs.Common.{◌≡◌, ◌≤◌, ◌+◌, ◌⊎◌, inl, inr, ℕ, List, [], ◌∷◌, ◌++◌, length, Ok, refl, sym, ap, ◌∙◌, subst, append_assoc, arith}
+use Rattle.std.proofs.Common.{◌≡◌, ◌≤◌, ℕ, List, [], ◌++◌, Ok, refl, sym, ap, ◌∙◌, subst, append_assoc, arith}
 use Rattle.std.proofs.lemmas.List.{append-nil}
 use Rattle.std.proofs.lemmas.Grind.{flat_map-append}
 use Rattle.amqp_wire.specs.declared.link.Link.{Ghosts}
-use Rattle.amqp_transport.specs.declared.frames.Frame.{Frame}
-use Rattle.amqp_transport.specs.Kinds.{amqp_spells, amqp_bytes}
+use Rattle.amqp_transport.specs.Kinds.{amqp_spells}
 use Rattle.amqp_transport.specs.Stream.{Joined}
 use Rattle.amqp_transport.specs.Wire.{Wire}
 use Rattle.amqp_engine.specs.declared.connection.EndKind.{EndKind}
 use Rattle.amqp_engine.specs.Calls.{OpensTo}
 use Rattle.amqp_engine.specs.State.{State, opened, open_frame, bytes_of}
 use Rattle.amqp_engine.specs.Settings.{open_of}
-use Rattle.amqp_engine.specs.Sentence.{Ran, Has, History, grown, begun, IsSentence, IsLimited, AllWithin, size_of_frame, bytes_of_all}
+use Rattle.amqp_engine.specs.Sentence.{Ran, Has, History, grown, begun, IsSentence, AllWithin, size_of_frame, bytes_of_all}
 use Rattle.amqp_engine.proofs.Said.{said_form}
 use Rattle.amqp_engine.proofs.Runs.{within, within_more, within_append}
 

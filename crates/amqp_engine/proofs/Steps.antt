@@ -1,6 +1,5 @@
 -- Each call is a run.
-use Rattle.std.proofs.Common.{arith, max, ◌≤◌, ◌≡◌, ◌⊎◌, inl, inr, ℕ, List, [], ◌∷◌, ◌++◌, Bool, true, false, Option, Some, None, Result, Ok, Err, refl, sym, ap, ◌∙◌, subst}
-use Rattle.std.proofs.lemmas.Bool.{cases_lt}
+use Rattle.std.proofs.Common.{arith, ◌≡◌, inl, inr, ℕ, List, [], ◌∷◌, ◌++◌, Bool, true, false, Option, Some, None, Result, Ok, Err, refl, sym, ap, ◌∙◌, subst}
 use Rattle.amqp_wire.specs.declared.link.Link.{Ghosts}
 use Rattle.amqp_composites.specs.declared.error.Error.{Error as AmqpError}
 use Rattle.amqp_frames.specs.declared.body.FrameBody.{FrameBody}
@@ -13,7 +12,6 @@ use Rattle.amqp_transport.specs.declared.transport.Flush.{Flush}
 use Rattle.amqp_transport.specs.declared.transport.Next.{Next}
 use Rattle.amqp_transport.specs.declared.transport.Next.TheVariants as next
 use Rattle.amqp_transport.specs.Kinds.{no_frame, amqp_spells}
-use Rattle.amqp_transport.specs.Wire.{Wire}
 use Rattle.amqp_composites.specs.declared.open.Open.{Open}
 use Rattle.amqp_frames.specs.declared.shared.ConnectionStopReason.{ConnectionStopReason}
 use Rattle.amqp_engine.specs.declared.phase.Rejection.{Rejection}
@@ -25,14 +23,14 @@ use Rattle.amqp_engine.specs.declared.error.Error.TheVariants as error
 use Rattle.amqp_engine.specs.declared.phase.Phase.{Phase}
 use Rattle.amqp_engine.specs.declared.phase.Phase.TheVariants as p
 use Rattle.amqp_engine.specs.Phases.{has_failed, is_open, is_stopped, kind_of}
-use Rattle.amqp_engine.specs.State.{State, queueing, failing, closing, close_frame, close_phase, error_for, entered, beating, remote_reason, answered_reason}
+use Rattle.amqp_engine.specs.State.{State, queueing, closing, close_frame, close_phase, error_for, entered, beating, remote_reason, answered_reason}
 use Rattle.amqp_engine.specs.declared.sessions.Plan.{Plan}
 use Rattle.amqp_engine.specs.declared.sessions.Plan.TheVariants as plan
 use Rattle.amqp_engine.specs.declared.error.AllocSessionError.{AllocSessionError}
 use Rattle.amqp_engine.specs.declared.error.AllocSessionError.TheVariants as alloc
 use Rattle.amqp_engine.specs.Channels.{Channels, taken_in}
 use Rattle.amqp_engine.specs.Machine.{received, awaited, arrived, outlasted, admitted, plan_of}
-use Rattle.amqp_engine.specs.Calls.{Puts, After, AfterFlush, failing_by, Reads, ReadsOrWants, Works, Answers, Rejects, Acts, Writes, FlushesIf, Flushes, ThenActs, Steps, SendsIf, Sends, Takes, with_channels, Allocates}
+use Rattle.amqp_engine.specs.Calls.{Puts, After, AfterFlush, failing_by, Reads, ReadsOrWants, Works, Answers, Acts, FlushesIf, Flushes, ThenActs, Steps, SendsIf, Sends, with_channels, Allocates}
 use Rattle.amqp_engine.specs.Sentence.{Ran, IsSaid, IsBegun, IsClosed, IsInner}
 use Rattle.amqp_engine.proofs.Said.{said_closing, closed_push, begun_push, session_is_inner}
 use Rattle.amqp_engine.proofs.Runs.{Alike, alike_refl, alike_same, alike_moves, alike_failing, within, ran_none, ran_then, ran_put, ran_grew, ran_flushed}
@@ -193,7 +191,6 @@ ran_reads link at old result new r =
 ran_reads_or : {L : Type 0} (link : Ghosts L) (at : ℕ) (old : State L) (result : Result EngineStep Error) (new : State L) → ReadsOrWants link at old result new → Ran link old new
 ran_reads_or link at old result new (inl r) = ran_reads link at old result new r
 ran_reads_or link at old result new (inr w) = ran_same link old new w.1
-
 
 -- a frame between Open and Close
 inner_follows : {L : Type 0} (old : State L) (x : Frame) (after : State L) → old.phase ≡ p.Opened → after.wire ≡ (queueing old x).wire → after.settings ≡ old.settings → after.phase ≡ old.phase → IsInner (kind_of x.body) → CanFollow old x after

@@ -1,8 +1,7 @@
 -- What each call of an engine does, by what the link and the transport answer in it.
-use Rattle.std.specs.Prelude.{◌≡◌, ◌<◌, ◌≤◌, ◌+◌, ◌^◌, ◌⊎◌, ℕ, Bool, true, false, List, [], ◌∷◌, ◌++◌, length, slice_set, Option, Some, None, Result, Ok, Err}
+use Rattle.std.specs.Prelude.{◌≡◌, ◌<◌, ◌≤◌, ◌+◌, ◌^◌, ◌⊎◌, ℕ, Bool, true, false, length, slice_set, Option, Some, None, Result, Ok, Err}
 use Rattle.amqp_wire.specs.declared.link.Link.{Ghosts}
 use Rattle.amqp_wire.specs.declared.link.IoKind.TheVariants.{End}
-use Rattle.amqp_composites.specs.declared.error.Error.{Error as AmqpError}
 use Rattle.amqp_transport.specs.declared.frames.Frame.{Frame}
 use Rattle.amqp_transport.specs.declared.transport.Error.{Error as TransportFault}
 use Rattle.amqp_transport.specs.declared.transport.Error.TheVariants as fault
@@ -29,7 +28,7 @@ use Rattle.amqp_engine.specs.Channels.{Channels, TakesFrame, TakesSession, first
 use Rattle.amqp_engine.specs.Errors.{error_of}
 use Rattle.amqp_engine.specs.Machine.{received, answer_to}
 use Rattle.amqp_engine.specs.Phases.{has_failed, is_open}
-use Rattle.amqp_engine.specs.State.{State, bytes_of, queueing, failing, closing, close_frame, error_for, beating, opened, open_frame, limited, own_reason}
+use Rattle.amqp_engine.specs.State.{State, queueing, failing, closing, close_frame, error_for, beating, opened, open_frame, limited}
 
 -- a frame above the limit of what is written, or one that has no bytes
 abbrev pub IsTooLarge : ℕ → Frame → Type 0

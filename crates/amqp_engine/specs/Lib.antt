@@ -1,5 +1,6 @@
 pub mod Settings
 pub mod Errors
+pub mod Stops
 pub mod Phases
 pub mod Plans
 pub mod Channels

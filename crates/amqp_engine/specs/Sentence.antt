@@ -8,7 +8,6 @@ use Rattle.amqp_frames.specs.declared.body.FrameBody.TheVariants as b
 use Rattle.amqp_transport.specs.declared.frames.Frame.{Frame}
 use Rattle.amqp_transport.specs.Kinds.{amqp_bytes, amqp_channel, amqp_spells}
 use Rattle.amqp_transport.specs.Stream.{Joined, stream_of}
-use Rattle.amqp_transport.specs.Wire.{Wire}
 use Rattle.amqp_engine.specs.declared.connection.EndKind.{EndKind}
 use Rattle.amqp_engine.specs.declared.phase.BodyKind.{BodyKind}
 use Rattle.amqp_engine.specs.declared.phase.BodyKind.TheVariants as kind

@@ -1,9 +1,7 @@
 -- What an engine keeps of both ends' Opens (OASIS AMQP 1.0, part 2, section 2.7.1).
-use Rattle.std.specs.Prelude.{ℕ, Bool, true, false, max, min}
+use Rattle.std.specs.Prelude.{Bool, true, false, max, min}
 use Rattle.amqp_composites.specs.declared.open.Open.{Open}
 use Rattle.amqp_engine.specs.declared.connection.Settings.{Settings}
-use Rattle.amqp_engine.specs.declared.connection.Connection.{Connection}
-use Rattle.amqp_engine.specs.declared.connection.ListenerConnection.{ListenerConnection}
 use Rattle.amqp_engine.specs.declared.connection.EndKind.{EndKind}
 use Rattle.amqp_engine.specs.declared.connection.EndKind.TheVariants.{Client, Listener}
 

@@ -14,13 +14,16 @@ ghost use Rattle.amqp_frames.specs.Session.{of_session};
 ghost use Rattle.amqp_engine.specs.Calls.{OpensTo, Writes, failing_by, Puts, Reads, ReadsOrWants, Rejects, Works, Answers, Acts, Flushes, Steps, Sends, Takes, TakesAsked, Allocates, freed};
 
 use crate::connection::{EndKind, Settings};
+use crate::drops::discard;
 use crate::error::{AllocSessionError, Error};
 use crate::phase::{Phase, Rejection};
 use crate::sessions::{Plan, Sessions};
 use amqp_composites::close::Close;
 use amqp_composites::error::Error as AmqpError;
 use amqp_composites::open::Open;
-use amqp_frames::{ConnectionState, ConnectionStopReason, FrameBody, IncomingSession, SessionFrame};
+use amqp_frames::{
+    ConnectionState, ConnectionStopReason, FrameBody, IncomingSession, SessionFrame,
+};
 use amqp_text::Symbol;
 use amqp_transport::{AmqpFrames, Flush, Frame, HeartBeat, Next, Transport, transport};
 use amqp_wire::link::{IoKind, Link};
@@ -65,8 +68,6 @@ impl<L: Link> Model for ConnectionEngine<L> {
 
     ghost view = { λ e. record { wire = e.transport; phase = e.phase; beat = e.beat; reason = e.reason; settings = e.settings; channels = channels_of e.sessions } };
 }
-
-fn discard<T: Drop>(_value: T) {}
 
 fn remote_reason(error: Option<AmqpError>) -> ConnectionStopReason
     ensures { result ≡ remote_reason error }
@@ -241,7 +242,8 @@ impl<L: Link> ConnectionEngine<L> {
         ensures { self.new ≡ entered at self.old remote.now }
     {
         let written = (remote.max_frame_size as usize).max(512);
-        self.transport.set_decoder_max_frame_size(self.settings.largest_read);
+        self.transport
+            .set_decoder_max_frame_size(self.settings.largest_read);
         self.transport.set_encoder_max_frame_size(written);
         self.settings.largest_written = written;
         self.settings.channel_max = self.settings.channel_max.min(remote.channel_max);
@@ -553,6 +555,26 @@ impl<L: Link> ConnectionEngine<L> {
         if self.phase.is_stopped() {
             return Some(&self.reason);
         }
+        None
+    }
+
+    /// Why the connection has stopped, none if it has not; what else the engine has is let go.
+    pub fn into_stop_reason(self) -> Option<ConnectionStopReason>
+        ensures { result ≡ stop_reason_of self }
+    {
+        let ConnectionEngine {
+            transport,
+            phase,
+            reason,
+            sessions,
+            ..
+        } = self;
+        discard(transport);
+        discard(sessions);
+        if phase.is_stopped() {
+            return Some(reason);
+        }
+        discard(reason);
         None
     }
 

@@ -1,7 +1,10 @@
 //! Why a call on a connection does not do what it was asked.
 ghost use Rattle.std.specs.Prelude.{◌≡◌};
+ghost use Rattle.amqp_engine.specs.Stops.{error_of_stop};
 
+use crate::drops::discard;
 use amqp_composites::error::Error as AmqpError;
+use amqp_frames::ConnectionStopReason;
 use amqp_transport::transport;
 use std::alloc::AllocError;
 use thiserror::Error as ErrorDerive;
@@ -54,6 +57,23 @@ impl From<AllocError> for Error {
 
     fn from(error: AllocError) -> Self {
         Error::Memory(error)
+    }
+}
+
+/// What a call is answered where the connection has stopped for that reason: none where this end closed it.
+pub fn stop_error(reason: ConnectionStopReason) -> Option<Error>
+    ensures { result ≡ error_of_stop reason }
+{
+    match reason {
+        ConnectionStopReason::Closed => None,
+        ConnectionStopReason::ClosedWithError(error) => {
+            discard(error);
+            None
+        }
+        ConnectionStopReason::RemoteClosed => Some(Error::RemoteClosed),
+        ConnectionStopReason::RemoteClosedWithError(error) => {
+            Some(Error::RemoteClosedWithError(error))
+        }
     }
 }
 

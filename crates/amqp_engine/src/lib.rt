@@ -3,10 +3,11 @@
 
 pub use connection::{Connection, EndKind, ListenerConnection};
 pub use engine::{ConnectionEngine, EngineStep};
-pub use error::{AllocSessionError, Error};
+pub use error::{AllocSessionError, Error, stop_error};
 pub use phase::Phase;
 
 pub mod connection;
+mod drops;
 pub mod engine;
 pub mod error;
 pub mod laws;

@@ -3,6 +3,7 @@ ghost use Rattle.std.specs.Prelude.{◌≡◌, ◌==◌, ◌<◌, ◌≤◌, ◌
 ghost use Rattle.amqp_engine.specs.Plans.{is_among, planned, begin_plan, rejection_told};
 ghost use Rattle.amqp_engine.specs.Channels.{frame_in, asked, channels_of, taken_in, HasRoom, first_free, seat_taken, first_of, TakesFrame, TakesSession};
 
+use crate::drops::discard;
 use crate::error::Error;
 use crate::phase::Rejection;
 use amqp_frames::{FrameBody, IncomingSession, SessionFrame};
@@ -114,8 +115,6 @@ fn first_free(seats: &[bool]) -> usize
     }
     seats.len()
 }
-
-fn discard<T: Drop>(_value: T) {}
 
 fn ask(frame: SessionFrame) -> Option<IncomingSession>
     ensures { result ≡ asked (frame_in frame) }

@@ -5,8 +5,7 @@ use amqp_composites::error::Error as AmqpError;
 use amqp_composites::open::Open;
 use amqp_frames::{ConnectionState, ConnectionStopReason, FrameBody, SessionFrame};
 use amqp_text::{Symbol, Text};
-use amqp_transport::transport;
-use amqp_transport::{AmqpFrames, Transport};
+use amqp_transport::{AmqpFrames, Transport, transport};
 use amqp_wire::pipe::Pipe;
 use std::alloc::{AllocError, Global};
 use std::mem;
@@ -46,8 +45,13 @@ fn local_open(alloc: Global) -> Result<Open, AllocError> {
 }
 
 fn open_engine(alloc: Global, end: EndKind) -> Option<ConnectionEngine<Pipe>> {
-    let transport: Transport<Pipe, AmqpFrames> =
-        Transport::bind(alloc, Pipe::new(alloc), 512, None, 0);
+    let transport: Transport<Pipe, AmqpFrames> = Transport::bind(
+        alloc,
+        Pipe::new(alloc),
+        512,
+        None,
+        0,
+    );
     match ConnectionEngine::open(alloc, transport, end) {
         Ok(engine) => Some(engine),
         Err(refused) => {

@@ -5,6 +5,6 @@ use Rattle.amqp_engine.proofs.laws.counts_sessions.Goals as goal
 
 pub returns : goal.returns
 returns c = λ highest seats. (
-    λ l. full_counts (highest + 1) seats (omega (arith, l)),
-    λ e. let l : highest + 1 ≤ first_free seats = counts_full (highest + 1) seats e in omega (arith, l),
-  )
+  λ l. full_counts (highest + 1) seats (omega (arith, l)),
+  λ e. let l : highest + 1 ≤ first_free seats = counts_full (highest + 1) seats e in omega (arith, l),
+)

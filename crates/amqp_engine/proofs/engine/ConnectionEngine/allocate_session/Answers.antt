@@ -1,4 +1,3 @@
-use Rattle.std.proofs.Common.{refl}
 use Rattle.amqp_engine.proofs.Steps.{ran_allocates}
 use Rattle.amqp_engine.proofs.engine.ConnectionEngine.allocate_session.Goals as goal
 

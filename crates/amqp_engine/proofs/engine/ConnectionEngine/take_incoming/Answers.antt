@@ -1,4 +1,3 @@
-use Rattle.std.proofs.Common.{refl}
 use Rattle.amqp_engine.proofs.Steps.{ran_channels}
 use Rattle.amqp_engine.proofs.engine.ConnectionEngine.take_incoming.Goals as goal
 

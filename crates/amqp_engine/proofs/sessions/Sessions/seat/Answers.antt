@@ -1,5 +1,5 @@
-use Rattle.std.proofs.Common.{List, Bool, sym, ap, ◌∙◌, ◌≡◌, length, true, arith}
-use Rattle.amqp_engine.specs.Channels.{Channels, channels_of, seat_taken}
+use Rattle.std.proofs.Common.{List, Bool, sym, ap, ◌∙◌, length, arith}
+use Rattle.amqp_engine.specs.Channels.{channels_of}
 use Rattle.amqp_engine.proofs.Seats.{seat_set, seat_push}
 use Rattle.amqp_engine.proofs.sessions.Sessions.seat.Goals as goal
 
