@@ -1,0 +1,5 @@
+use Rattle.amqp_engine.proofs.Steps.{ran_steps}
+use Rattle.amqp_engine.proofs.engine.ConnectionEngine.step.Goals as goal
+
+pub returns-clause-ran : goal.returns-clause-ran
+returns-clause-ran g c = ran_steps g.L.Link c.args.at _ _ _ c.step_once.ensures

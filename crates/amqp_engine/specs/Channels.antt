@@ -1,0 +1,94 @@
+-- The channels of sessions, and what came on them.
+use Rattle.std.specs.Prelude.{◌≡◌, ℕ, ◌+◌, ◌<◌, ◌==◌, Bool, true, false, not, List, [], ◌∷◌, ◌++◌, map, filter, vec_len, Option, Some, None}
+use Prim.Native.Nat.{zero, suc}
+use Rattle.std.specs.Vec.{vec_capacity}
+use Rattle.std.specs.VecDeque.{deque_len, deque_capacity}
+use Rattle.amqp_frames.specs.declared.body.FrameBody.{FrameBody}
+use Rattle.amqp_frames.specs.declared.body.FrameBody.TheVariants as b
+use Rattle.amqp_frames.specs.declared.shared.IncomingSession.{IncomingSession}
+use Rattle.amqp_frames.specs.declared.shared.SessionFrame.{SessionFrame}
+use Rattle.amqp_transport.specs.declared.frames.Frame.{Frame}
+use Rattle.amqp_engine.specs.declared.sessions.Plan.{Plan}
+use Rattle.amqp_engine.specs.declared.sessions.Plan.TheVariants as plan
+use Rattle.amqp_engine.specs.declared.sessions.Sessions.{Sessions}
+
+-- of each channel of this end whether a session has it; the peer's channels on which it has begun a session; the frames that wait;
+-- the sessions that the peer asks for
+pub record Channels : Type 0 where
+  pub seats : List Bool
+  pub remotes : List ℕ
+  pub incoming : List Frame
+  pub begun : List IncomingSession
+
+-- a session's frame, with its channel
+abbrev pub frame_in : SessionFrame → Frame
+frame_in x = record { channel = x.channel; body = x.body }
+
+abbrev pub frames_in : List SessionFrame → List Frame
+frames_in xs = map frame_in xs
+
+abbrev pub channels_of : Sessions → Channels
+channels_of s = record { seats = s.seats.items; remotes = s.remotes.items; incoming = frames_in s.incoming.items; begun = s.begun.items }
+
+-- no sessions
+abbrev pub no_channels : Channels
+no_channels = record { seats = []; remotes = []; incoming = []; begun = [] }
+
+-- there is room for what one frame may add
+pub record HasRoom (s : Sessions) : Type 0 where
+  pub remotes : vec_len s.remotes < vec_capacity s.remotes
+  pub incoming : deque_len s.incoming < deque_capacity s.incoming
+  pub begun : deque_len s.begun < deque_capacity s.begun
+
+-- the session that a Begin asks for
+abbrev pub asked_in : ℕ → FrameBody → Option IncomingSession
+asked_in channel (b.Begin x) = Some (record { channel = channel; begin = x })
+asked_in channel body = None
+
+abbrev pub asked : Frame → Option IncomingSession
+asked x = asked_in x.channel x.body
+
+abbrev pub with_asked : List IncomingSession → Option IncomingSession → List IncomingSession
+with_asked xs None = xs
+with_asked xs (Some x) = xs ++ x ∷ []
+
+-- a frame is taken in as is planned
+abbrev pub taken_in : Plan → Channels → Frame → Channels
+taken_in plan.Deliver c x = record c { incoming = c.incoming ++ x ∷ [] }
+taken_in plan.Answer c x = record c { remotes = c.remotes ++ x.channel ∷ []; incoming = c.incoming ++ x ∷ [] }
+taken_in plan.End c x = record c { remotes = filter (λ d. not (d == x.channel)) c.remotes; incoming = c.incoming ++ x ∷ [] }
+taken_in plan.Ask c x = record c { remotes = c.remotes ++ x.channel ∷ []; begun = with_asked c.begun (asked x) }
+taken_in (plan.Reject why) c x = c
+
+-- the first channel that no session has
+abbrev pub first_free : List Bool → ℕ
+first_free [] = 0
+first_free (true ∷ seats) = first_free seats + 1
+first_free (false ∷ seats) = 0
+
+-- that channel is taken
+abbrev pub seat_taken : List Bool → ℕ → List Bool
+seat_taken [] channel = true ∷ []
+seat_taken (x ∷ seats) zero = true ∷ seats
+seat_taken (x ∷ seats) (suc channel) = x ∷ seat_taken seats channel
+
+-- how many of the first channels are taken
+abbrev pub taken_up_to : ℕ → List Bool → ℕ
+taken_up_to zero seats = 0
+taken_up_to (suc n) [] = 0
+taken_up_to (suc n) (true ∷ seats) = taken_up_to n seats + 1
+taken_up_to (suc n) (false ∷ seats) = taken_up_to n seats
+
+abbrev pub first_of : {X : Type 0} → List X → Option X
+first_of [] = None
+first_of (x ∷ xs) = Some x
+
+-- the first frame that waits is taken off
+abbrev pub TakesFrame : Channels → Option Frame → Channels → Type 0
+TakesFrame old None new = (old.incoming ≡ []) × (new ≡ old)
+TakesFrame old (Some x) new = (old.incoming ≡ x ∷ new.incoming) × (new ≡ record old { incoming = new.incoming })
+
+-- the first session that the peer asks for is taken off
+abbrev pub TakesSession : Channels → Option IncomingSession → Channels → Type 0
+TakesSession old None new = (old.begun ≡ []) × (new ≡ old)
+TakesSession old (Some x) new = (old.begun ≡ x ∷ new.begun) × (new ≡ record old { begun = new.begun })

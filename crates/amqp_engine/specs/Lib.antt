@@ -1,0 +1,11 @@
+pub mod Settings
+pub mod Errors
+pub mod Stops
+pub mod Phases
+pub mod Plans
+pub mod Channels
+pub mod State
+pub mod Machine
+pub mod Calls
+pub mod Sentence
+pub mod Outcomes

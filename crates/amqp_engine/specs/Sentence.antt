@@ -1,0 +1,131 @@
+-- What an end says on its connection (OASIS AMQP 1.0, part 2, section 2.4): Open, then frames of sessions and empty frames, then at
+-- most one Close, and nothing after it.
+use Rattle.std.specs.Prelude.{◌≡◌, ◌≤◌, ◌+◌, ℕ, List, [], ◌∷◌, ◌++◌, length, true, ◌⊎◌}
+use Rattle.list_laws.specs.Told.{Loses, Gains}
+use Rattle.amqp_wire.specs.declared.link.Link.{Ghosts}
+use Rattle.amqp_composites.specs.declared.open.Open.{Open}
+use Rattle.amqp_frames.specs.declared.body.FrameBody.TheVariants as b
+use Rattle.amqp_transport.specs.declared.frames.Frame.{Frame}
+use Rattle.amqp_transport.specs.Kinds.{amqp_bytes, amqp_channel, amqp_spells}
+use Rattle.amqp_transport.specs.Stream.{Joined, stream_of}
+use Rattle.amqp_engine.specs.declared.connection.EndKind.{EndKind}
+use Rattle.amqp_engine.specs.declared.phase.BodyKind.{BodyKind}
+use Rattle.amqp_engine.specs.declared.phase.BodyKind.TheVariants as kind
+use Rattle.amqp_engine.specs.declared.phase.Phase.{Phase}
+use Rattle.amqp_engine.specs.declared.phase.Phase.TheVariants as p
+use Rattle.amqp_engine.specs.Phases.{kind_of, is_stopped}
+use Rattle.amqp_engine.specs.State.{State, open_frame}
+
+-- the bytes of frames, one after another
+abbrev pub bytes_of_all : List Frame → List ℕ
+bytes_of_all xs = stream_of 0 amqp_bytes amqp_channel xs
+
+-- the size of a frame, with its header
+abbrev pub size_of_frame : Frame → ℕ
+size_of_frame x = 8 + length (amqp_bytes x)
+
+-- it may stand between Open and Close
+abbrev pub IsInner : BodyKind → Type 0
+IsInner kind.Session = Unit {0}
+IsInner kind.Empty = Unit {0}
+IsInner kind.Open = ⊥
+IsInner kind.Close = ⊥
+
+abbrev pub IsClose : BodyKind → Type 0
+IsClose kind.Close = Unit {0}
+IsClose kind.Open = ⊥
+IsClose kind.Session = ⊥
+IsClose kind.Empty = ⊥
+
+abbrev pub AllInner : List Frame → Type 0
+AllInner [] = Unit {0}
+AllInner (x ∷ xs) = IsInner (kind_of x.body) × AllInner xs
+
+-- Open, and then frames of sessions and empty frames
+pub record IsBegun (sent : List Frame) : Type 0 where
+  pub first : Open
+  pub inner : List Frame
+  pub each : AllInner inner
+  pub is : sent ≡ record { channel = 0; body = b.Open first } ∷ inner
+
+-- and then one Close, and nothing after it
+pub record IsClosed (sent : List Frame) : Type 0 where
+  pub front : List Frame
+  pub last : Frame
+  pub begun : IsBegun front
+  pub close : IsClose (kind_of last.body)
+  pub is : sent ≡ front ++ last ∷ []
+
+-- what was queued so far, by how far the connection is
+abbrev pub IsSaid : Phase → List Frame → Type 0
+IsSaid p.OpenSent sent = IsBegun sent
+IsSaid p.Opened sent = IsBegun sent
+IsSaid p.CloseReceived sent = IsBegun sent
+IsSaid p.Refused sent = IsBegun sent
+IsSaid (p.Rejected why) sent = IsBegun sent
+IsSaid p.CloseSent sent = IsClosed sent
+IsSaid p.Discarding sent = IsClosed sent
+IsSaid p.Ended sent = IsClosed sent
+IsSaid p.Failed sent = IsBegun sent ⊎ IsClosed sent
+
+-- each is within that size
+abbrev pub AllWithin : ℕ → List Frame → Type 0
+AllWithin limit [] = Unit {0}
+AllWithin limit (x ∷ xs) = (size_of_frame x ≤ limit) × AllWithin limit xs
+
+-- the limit that is told is the limit of what is written: 512 until the peer's Open was read, and never less
+pub record IsLimited {L : Type 0} (s : State L) : Type 0 where
+  pub told : s.settings.largest_written ≡ s.wire.codec.encoder
+  pub least : 512 ≤ s.wire.codec.encoder
+  pub first : s.phase ≡ p.OpenSent → s.wire.codec.encoder ≡ 512
+
+-- a connection that has stopped stays so, and its reason too
+pub record HasStopped {L : Type 0} (old new : State L) (queued : List Frame) : Type 0 where
+  pub phase : is_stopped new.phase ≡ true
+  pub reason : new.reason ≡ old.reason
+  pub none : queued ≡ []
+
+-- Bytes were read and written, frames queued and given: what is queued and not yet written, and what is read and not yet given, stays.
+pub record Ran {L : Type 0} (link : Ghosts L) (old new : State L) : Type 0 where
+  pub read : List ℕ
+  pub wrote : List ℕ
+  pub queued : List Frame
+  pub given : List Frame
+  pub reads : Loses (link.input old.wire.codec.link) (link.input new.wire.codec.link) read
+  pub writes : Gains (link.output old.wire.codec.link) (link.output new.wire.codec.link) wrote
+  pub mark : link.mark new.wire.codec.link ≡ link.mark old.wire.codec.link
+  pub faults : link.faults old.wire.codec.link ≤ link.faults new.wire.codec.link
+  pub goes_out : old.wire.codec.output ++ bytes_of_all queued ≡ wrote ++ new.wire.codec.output
+  pub joined : (bytes : List ℕ) (frames : List Frame) → Joined 0 amqp_spells bytes frames old.wire.codec.input → Joined 0 amqp_spells (bytes ++ read) (frames ++ given) new.wire.codec.input
+  pub said : (sent : List Frame) → IsSaid old.phase sent → IsSaid new.phase (sent ++ queued)
+  pub stays : is_stopped old.phase ≡ true → HasStopped old new queued
+  pub limits : IsLimited old → IsLimited new × (old.wire.codec.encoder ≤ new.wire.codec.encoder) × AllWithin new.wire.codec.encoder queued
+
+-- what has happened at an end: the bytes read and written, the frames given and queued
+pub record History : Type 0 where
+  pub read : List ℕ
+  pub wrote : List ℕ
+  pub given : List Frame
+  pub sent : List Frame
+
+abbrev pub begun : EndKind → History
+begun end = record { read = []; wrote = []; given = []; sent = open_frame end ∷ [] }
+
+abbrev pub grown : {L : Type 0} {link : Ghosts L} {old new : State L} → History → Ran link old new → History
+grown h r = record { read = h.read ++ r.read; wrote = h.wrote ++ r.wrote; given = h.given ++ r.given; sent = h.sent ++ r.queued }
+
+-- a state after a history, where some bytes were queued before Open, and some were read
+pub record Has {L : Type 0} (before arrived : List ℕ) (s : State L) (h : History) : Type 0 where
+  pub out : h.wrote ++ s.wire.codec.output ≡ before ++ bytes_of_all h.sent
+  pub joined : Joined 0 amqp_spells (arrived ++ h.read) h.given s.wire.codec.input
+  pub said : IsSaid s.phase h.sent
+  pub limited : IsLimited s
+  pub sized : AllWithin s.settings.largest_written h.sent
+
+-- bytes that begin a sentence of frames within the limit: what was before, Open, frames of sessions and empty frames, at most one Close, and nothing after it
+pub record IsSentence (limit : ℕ) (before wrote : List ℕ) : Type 0 where
+  pub frames : List Frame
+  pub rest : List ℕ
+  pub is : wrote ++ rest ≡ before ++ bytes_of_all frames
+  pub form : IsBegun frames ⊎ IsClosed frames
+  pub sized : AllWithin limit frames

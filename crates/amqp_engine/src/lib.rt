@@ -1,0 +1,17 @@
+//! Connections: Open, the frames of sessions, empty frames and Close (OASIS AMQP 1.0, part 2, sections 2.4 and 2.7).
+#![tactic(auto)]
+
+pub use connection::{Connection, EndKind, ListenerConnection};
+pub use engine::{ConnectionEngine, EngineStep};
+pub use error::{AllocSessionError, Error, stop_error};
+pub use phase::Phase;
+
+pub mod connection;
+mod drops;
+pub mod engine;
+pub mod error;
+pub mod laws;
+pub mod phase;
+mod sessions;
+#[cfg(test)]
+mod tests;

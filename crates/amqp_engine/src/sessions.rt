@@ -1,0 +1,253 @@
+//! The channels of sessions, and what came on them (OASIS AMQP 1.0, part 2, section 2.5).
+ghost use Rattle.std.specs.Prelude.{◌≡◌, ◌==◌, ◌<◌, ◌≤◌, ◌++◌, ◌∷◌, [], not, filter, false, true, length, slice_index_or, slice_set, option_map, OnOk, OnErr, Some, None};
+ghost use Rattle.amqp_engine.specs.Plans.{is_among, planned, begin_plan, rejection_told};
+ghost use Rattle.amqp_engine.specs.Channels.{frame_in, asked, channels_of, taken_in, HasRoom, first_free, seat_taken, first_of, TakesFrame, TakesSession};
+
+use crate::drops::discard;
+use crate::error::Error;
+use crate::phase::Rejection;
+use amqp_frames::{FrameBody, IncomingSession, SessionFrame};
+use std::alloc::{AllocError, Global};
+use std::collections::VecDeque;
+
+/// What becomes of a frame of a session.
+#[derive(Clone, Copy, Debug, PartialEq, Eq)]
+pub enum Plan {
+    /// It is of a session that the peer has begun.
+    Deliver,
+    /// It begins a session that this end has asked for.
+    Answer,
+    /// It ends a session.
+    End,
+    /// It asks for a session.
+    Ask,
+    /// It ends the connection.
+    Reject(Rejection),
+}
+
+/// The sessions of a connection, by their channels, and what came for them.
+#[derive(Debug, Drop)]
+pub struct Sessions {
+    /// Of each channel of this end, from 0 on, whether a session has it.
+    seats: Vec<bool>,
+    /// The peer's channels on which it has begun a session, and not ended it.
+    remotes: Vec<u16>,
+    /// The frames that wait, in order.
+    incoming: VecDeque<SessionFrame>,
+    /// The sessions that the peer asks for, in order.
+    begun: VecDeque<IncomingSession>,
+}
+
+fn is_taken(seats: &[bool], channel: u16) -> bool
+    ensures { result ≡ slice_index_or seats.now channel false }
+{
+    match seats.get(usize::from(channel)) {
+        Some(taken) => *taken,
+        None => false,
+    }
+}
+
+fn is_among(channels: &[u16], channel: u16) -> bool
+    ensures { result ≡ is_among channel channels.now }
+{
+    channels.contains(&channel)
+}
+
+fn without(channels: &mut Vec<u16>, ended: u16)
+    ensures { channels.new.items ≡ filter (λ c. not (c == ended)) channels.old.items }
+{
+    channels.retain(|channel| *channel != ended);
+}
+
+fn plan_begin(is_known: bool, is_listener: bool, seats: &[bool], asked: Option<u16>) -> Plan
+    ensures { result ≡ begin_plan is_known is_listener seats.now asked }
+{
+    if is_known {
+        return Plan::Reject(Rejection::IllegalState);
+    }
+    match asked {
+        Some(channel) => {
+            if is_taken(seats, channel) {
+                Plan::Answer
+            } else {
+                Plan::Reject(Rejection::NotFound)
+            }
+        }
+        None => {
+            if is_listener {
+                Plan::Ask
+            } else {
+                Plan::Reject(Rejection::NotImplemented)
+            }
+        }
+    }
+}
+
+fn plan_for(is_known: bool, is_listener: bool, seats: &[bool], body: &FrameBody) -> Plan
+    ensures { result ≡ planned is_known is_listener seats.now body.now }
+{
+    match body {
+        FrameBody::Begin(begin) => plan_begin(is_known, is_listener, seats, begin.remote_channel),
+        FrameBody::End(_) => {
+            if is_known {
+                Plan::End
+            } else {
+                Plan::Reject(Rejection::NotFound)
+            }
+        }
+        _ => {
+            if is_known {
+                Plan::Deliver
+            } else {
+                Plan::Reject(Rejection::NotFound)
+            }
+        }
+    }
+}
+
+fn first_free(seats: &[bool]) -> usize
+    ensures { result ≡ first_free seats.now }
+{
+    for (channel, taken) in seats.iter().enumerate() {
+        if !*taken {
+            return channel;
+        }
+    }
+    seats.len()
+}
+
+fn ask(frame: SessionFrame) -> Option<IncomingSession>
+    ensures { result ≡ asked (frame_in frame) }
+{
+    let (channel, body) = frame.into_parts();
+    match body {
+        FrameBody::Begin(begin) => Some(IncomingSession { channel, begin }),
+        other => {
+            discard(other);
+            None
+        }
+    }
+}
+
+impl Sessions {
+    /// No sessions; takes no memory.
+    pub(crate) fn new(alloc: Global) -> Self
+        ensures { channels_of result ≡ record { seats = []; remotes = []; incoming = []; begun = [] } }
+    {
+        Sessions {
+            seats: Vec::new(alloc),
+            remotes: Vec::new(alloc),
+            incoming: VecDeque::new(alloc),
+            begun: VecDeque::new(alloc),
+        }
+    }
+
+    /// Makes room for what one frame may add.
+    pub(crate) fn make_room(&mut self) -> Result<(), AllocError>
+        ensures same { channels_of self.new ≡ channels_of self.old }
+        ensures room { OnOk result (HasRoom self.new) }
+    {
+        self.remotes.reserve(1)?;
+        self.incoming.reserve(1)?;
+        self.begun.reserve(1)
+    }
+
+    /// What becomes of the frame.
+    pub(crate) fn plan(&self, is_listener: bool, frame: &SessionFrame) -> Plan
+        ensures { result ≡ planned (is_among frame.now.channel self.now.remotes.items) is_listener self.now.seats.items frame.now.body }
+    {
+        let is_known = is_among(self.remotes.as_slice(), frame.channel());
+        plan_for(is_known, is_listener, self.seats.as_slice(), frame.body())
+    }
+
+    /// Takes the frame in, as is planned.
+    pub(crate) fn take(&mut self, plan: Plan, frame: SessionFrame)
+        requires { HasRoom self.old }
+        ensures { channels_of self.new ≡ taken_in plan (channels_of self.old) (frame_in frame) }
+    {
+        match plan {
+            Plan::Deliver => self.incoming.push_back_reserved(frame),
+            Plan::Answer => {
+                self.remotes.push_reserved(frame.channel());
+                self.incoming.push_back_reserved(frame);
+            }
+            Plan::End => {
+                without(&mut self.remotes, frame.channel());
+                self.incoming.push_back_reserved(frame);
+            }
+            Plan::Ask => {
+                self.remotes.push_reserved(frame.channel());
+                if let Some(session) = ask(frame) {
+                    self.begun.push_back_reserved(session);
+                }
+            }
+            Plan::Reject(_) => discard(frame),
+        }
+    }
+
+    /// The lowest free channel.
+    pub(crate) fn lowest_free(&self) -> usize
+        ensures within { result ≤ length self.now.seats.items }
+        ensures value { result ≡ first_free self.now.seats.items }
+    {
+        first_free(self.seats.as_slice())
+    }
+
+    /// Gives the channel to a session.
+    pub(crate) fn seat(&mut self, channel: usize) -> Result<(), AllocError>
+        requires { channel ≤ length self.old.seats.items }
+        ensures ok { OnOk result (channels_of self.new ≡ record (channels_of self.old) { seats = seat_taken self.old.seats.items channel }) }
+        ensures err { OnErr result (channels_of self.new ≡ channels_of self.old) }
+    {
+        if channel < self.seats.as_slice().len() {
+            self.seats[channel] = true;
+            return Ok(());
+        }
+        self.seats.push(true)?;
+        Ok(())
+    }
+
+    /// Frees the channel.
+    pub(crate) fn free(&mut self, channel: u16)
+        ensures { channels_of self.new ≡ record (channels_of self.old) { seats = slice_set self.old.seats.items channel false } }
+    {
+        let channel = usize::from(channel);
+        if channel < self.seats.len() {
+            self.seats[channel] = false;
+        }
+    }
+
+    /// Takes the first frame off.
+    pub(crate) fn pop_incoming(&mut self) -> Option<SessionFrame>
+        ensures { TakesFrame (channels_of self.old) (option_map frame_in result) (channels_of self.new) }
+    {
+        self.incoming.pop_front()
+    }
+
+    /// Takes the first session off that the peer asks for.
+    pub(crate) fn pop_begun(&mut self) -> Option<IncomingSession>
+        ensures { TakesSession (channels_of self.old) result (channels_of self.new) }
+    {
+        self.begun.pop_front()
+    }
+
+    /// The first session that the peer asks for, lent.
+    pub(crate) fn first_begun(&self) -> Option<&IncomingSession>
+        ensures { option_map (λ x. x.now) result ≡ first_of self.now.begun.items }
+    {
+        self.begun.front()
+    }
+}
+
+impl Rejection {
+    /// What the end's own caller is told.
+    pub(crate) fn told(self) -> Error
+        ensures { result ≡ rejection_told self }
+    {
+        match self {
+            Rejection::IllegalState => Error::IllegalState,
+            Rejection::NotImplemented => Error::NotImplemented,
+            Rejection::NotFound => Error::NotFound,
+        }
+    }
+}
