@@ -1,5 +1,5 @@
 -- Lemmas on what a link and a codec went through.
-use Rattle.std.proofs.Common.{◌≡◌, ◌≤◌, List, ℕ, [], ◌++◌, take, Option, Some, None, refl, sym, ap, ◌∙◌, subst, append_assoc, arith}
+use Rattle.std.proofs.Common.{◌≡◌, ◌<◌, ◌≤◌, List, ℕ, [], ◌++◌, length, take, Option, Some, None, refl, sym, ap, ◌∙◌, subst, append_assoc, arith, length-append}
 use Rattle.std.proofs.lemmas.List.{append-nil}
 use Rattle.list_laws.specs.Told.{Gains}
 use Rattle.list_laws.proofs.Told.{loses_none, gains_none, loses_then, gains_then}
@@ -29,13 +29,14 @@ took_then link a b c r s g h =
 
 -- a codec that is as it was was fed no bytes
 pub fed_nothing : {L : Type 0} (link : Ghosts L) (a : Codec L) → Fed link a [] a
-fed_nothing link a = record { gave = gave_nothing link a.link; rest = ap (λ (xs : List ℕ). record a { input = xs }) (sym (append-nil a.input)) }
+fed_nothing link a = record { gave = gave_nothing link a.link; none = λ e. refl; rest = ap (λ (xs : List ℕ). record a { input = xs }) (sym (append-nil a.input)) }
 
 -- a codec that was fed and read more was fed all of it
-pub fed_more : {L : Type 0} (link : Ghosts L) (a b : Codec L) (r s : List ℕ) (to : L) (input : List ℕ) → Fed link a r b → Gave link b.link s to → input ≡ b.input ++ s → Fed link a (r ++ s) (record b { link = to; input = input })
-fed_more {L} link a b r s to input f g e =
+pub fed_more : {L : Type 0} (link : Ghosts L) (a b : Codec L) (r s : List ℕ) (to : L) (input : List ℕ) → Fed link a r b → 0 < length s → Gave link b.link s to → input ≡ b.input ++ s → Fed link a (r ++ s) (record b { link = to; input = input })
+fed_more {L} link a b r s to input f n g e =
     record {
       gave = gave_then link a.link b.link to r s f.gave g;
+      none = λ z. absurd (omega (arith, ap length z, length-append r s, n));
       rest = ap (λ (c : Codec L). record c { link = to; input = input }) f.rest ∙ ap (λ (xs : List ℕ). record a { link = to; input = xs }) (e ∙ ap (λ (xs : List ℕ). xs ++ s) (ap (λ (c : Codec L). c.input) f.rest) ∙ append_assoc a.input r s);
     }
 

@@ -17,9 +17,10 @@ pub record Codec (L : Type 0) : Type 0 where
 abbrev pub limits_of : {L : Type 0} → Codec L → ℕ × ℕ
 limits_of c = (c.decoder, c.encoder)
 
--- bytes came in, and nothing else changed
+-- bytes came in, and nothing else changed; where none came, the link was not read
 pub record Fed {L : Type 0} (link : Ghosts L) (old : Codec L) (bytes : List ℕ) (new : Codec L) : Type 0 where
   pub gave : Gave link old.link bytes new.link
+  pub none : bytes ≡ [] → new.link ≡ old.link
   pub rest : new ≡ record old { link = new.link; input = old.input ++ bytes }
 
 -- bytes went out, and nothing else changed

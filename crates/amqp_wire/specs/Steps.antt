@@ -33,10 +33,11 @@ abbrev pub StoppedBy : {L : Type 0} → Ghosts L → L → Option Stop → L →
 StoppedBy link old None new = new ≡ old
 StoppedBy link old (Some stop) new = GaveNone link old stop new
 
--- reads gave these bytes, and the last of them this answer
+-- reads gave these bytes, and the last of them this answer; where there are no bytes, no read gave any
 pub record ReadBy {L : Type 0} (link : Ghosts L) (old : L) (bytes : List ℕ) (stop : Option Stop) (new : L) : Type 0 where
   pub mid : L
   pub gave : Gave link old bytes mid
+  pub none : bytes ≡ [] → mid ≡ old
   pub last : StoppedBy link mid stop new
 
 -- writes took these bytes
