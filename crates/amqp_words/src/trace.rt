@@ -1,7 +1,7 @@
 //! What steps came to.
 ghost use Rattle.std.specs.Prelude.{◌≡◌, [], ◌∷◌, ◌++◌, length, OnOk, OnErr};
 
-use amqp_peer::ReplyList;
+use crate::reply::ReplyList;
 use amqp_text::Binary;
 use std::alloc::{AllocError, Global};
 use std::marker::Model;
@@ -23,7 +23,7 @@ pub struct EntryList {
 
 impl Model for EntryList {
     ghost use Rattle.std.specs.Prelude.{List};
-    ghost use Rattle.amqp_world.specs.declared.trace.Entry.{Entry};
+    ghost use Rattle.amqp_words.specs.declared.trace.Entry.{Entry};
 
     ghost Value = { List Entry };
 

@@ -1,7 +1,8 @@
 //! What an end answers.
 ghost use Rattle.std.specs.Prelude.{◌≡◌, [], ◌∷◌, ◌++◌, length, OnOk, OnErr};
 
-use amqp_connection::OpenError;
+use crate::open_error::OpenError;
+use amqp_engine::error::Error as ConnectionError;
 use std::alloc::{AllocError, Global};
 use std::marker::Model;
 
@@ -10,8 +11,14 @@ use std::marker::Model;
 pub enum Reply {
     /// Not yet; another answer may follow in a later step.
     Pending,
+    /// The connection is open.
+    Connection,
+    /// The connection is closed.
+    Closed,
     /// An `open` or `accept` failed.
     OpenError(OpenError),
+    /// A call on the connection failed.
+    ConnectionError(ConnectionError),
 }
 
 /// The answer to the call of a name.
@@ -31,7 +38,7 @@ pub struct ReplyList {
 
 impl Model for ReplyList {
     ghost use Rattle.std.specs.Prelude.{List};
-    ghost use Rattle.amqp_peer.specs.declared.reply.NamedReply.{NamedReply};
+    ghost use Rattle.amqp_words.specs.declared.reply.NamedReply.{NamedReply};
 
     ghost Value = { List NamedReply };
 

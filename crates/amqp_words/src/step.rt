@@ -1,7 +1,7 @@
 //! The steps of two ends.
 ghost use Rattle.std.specs.Prelude.{◌≡◌, IfOk, OnOk, OnErr, [], ◌∷◌, ◌++◌, length};
 
-use amqp_peer::Call;
+use crate::call::Call;
 use std::alloc::{AllocError, Global};
 use std::marker::Model;
 
@@ -74,7 +74,7 @@ pub struct StepList {
 
 impl Model for StepList {
     ghost use Rattle.std.specs.Prelude.{List};
-    ghost use Rattle.amqp_world.specs.declared.step.Step.{Step};
+    ghost use Rattle.amqp_words.specs.declared.step.Step.{Step};
 
     ghost Value = { List Step };
 

@@ -1,0 +1,16 @@
+//! The words of an end: what it is asked, what it answers, and the steps and traces of two ends.
+#![tactic(auto)]
+
+pub use call::{AcceptSasl, Call, ConnectionSettings};
+pub use open_error::OpenError;
+pub use reply::{NamedReply, Reply, ReplyList};
+pub use step::{Act, End, Step, StepList};
+pub use trace::{Entry, EntryList, Trace};
+
+pub mod call;
+pub mod open_error;
+pub mod reply;
+pub mod step;
+#[cfg(test)]
+mod tests;
+pub mod trace;

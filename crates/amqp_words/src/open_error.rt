@@ -1,0 +1,25 @@
+//! Why a connection is not opened.
+use amqp_composites::error::Error as AmqpError;
+use amqp_transport::transport;
+use sasl_gate::NegotiationError;
+use thiserror::Error;
+
+/// Why a connection is not opened.
+#[derive(Debug, Drop, Error)]
+pub enum OpenError {
+    /// The negotiation of headers and of the SASL layer failed (part 2, section 2.2; part 5, section 5.3).
+    #[error("Negotiation")]
+    Negotiation(NegotiationError),
+    /// The transport failed, or the own Open is above 512 bytes.
+    #[error("TransportError")]
+    TransportError(transport::Error),
+    /// The peer closed the connection in place of opening it.
+    #[error("RemoteClosed")]
+    RemoteClosed,
+    /// The peer closed the connection for that error in place of opening it.
+    #[error("RemoteClosedWithError")]
+    RemoteClosedWithError(AmqpError),
+    /// Another frame than Open or Close came first.
+    #[error("IllegalState")]
+    IllegalState,
+}
