@@ -1,4 +1,11 @@
 pub mod Histories
+pub mod Moved
+pub mod Written
+pub mod Hears
+pub mod Faulty
+pub mod Grows
+pub mod Quiet
+pub mod Answers
+pub mod Advances
 pub mod Openings
-pub mod Ends
-pub mod Laws
+pub mod Starts

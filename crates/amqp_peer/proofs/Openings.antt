@@ -1,315 +1,374 @@
--- What an opening went through, joined.
-use Rattle.std.proofs.Common.{◌≡◌, ◌≤◌, inl, inr, ℕ, List, [], ◌++◌, length, take, drop, Option, Some, None, Result, Ok, Err, refl, sym, ap, ◌∙◌, subst, append_assoc, arith}
-use Rattle.std.specs.Prelude.{⊤}
-use Rattle.std.proofs.lemmas.List.{append-nil, take-append-drop}
+-- The exchange of headers of an end, and how its connection begins.
+use Rattle.std.proofs.Common.{◌≡◌, ◌≤◌, ◌+◌, ◌^◌, ◌⊎◌, inl, inr, ℕ, List, [], ◌∷◌, ◌++◌, Bool, true, false, length, Option, Some, None, Result, Ok, Err, refl, sym, ap, ◌∙◌, subst, append_assoc, arith}
+use Rattle.std.proofs.lemmas.List.{append-nil}
+use Rattle.std.proofs.lemmas.Option.{same_Some}
 use Rattle.std.specs.declared.alloc.AllocError.{AllocError}
 use Rattle.amqp_wire.specs.declared.link.Link.{Ghosts}
-use Rattle.amqp_wire.specs.declared.link.Stop.{Stop}
-use Rattle.amqp_wire.specs.declared.link.Stop.TheVariants.{Empty, End, Failed as FailedRead}
-use Rattle.amqp_wire.specs.declared.link.Held.{Held}
-use Rattle.amqp_wire.specs.declared.link.Held.TheVariants.{Full, Failed as FailedWrite}
-use Rattle.amqp_wire.specs.declared.link.IoKind.TheVariants.{Fault, End as InputEnd}
-use Rattle.amqp_wire.specs.declared.reading.Wait.{Wait}
-use Rattle.amqp_wire.specs.declared.reading.Wait.TheVariants.{Stopped, Spent}
-use Rattle.amqp_wire.specs.Codec.{Codec, Flushed}
-use Rattle.amqp_wire.specs.Events.{LinkEvent, NotRead, read_of, wrote_of}
-use Rattle.amqp_wire.specs.Reading.{ReadOn}
-use Rattle.amqp_wire.proofs.Events.{went_then, read_of-append, wrote_of-append, reads_in-append, includes_left}
+use Rattle.amqp_wire.specs.Events.{LinkEvent, NotRead, NotWritten, Includes, Went, reads_in, read_of, wrote_of}
+use Rattle.amqp_transport.specs.declared.frames.Frame.{Frame}
+use Rattle.amqp_transport.specs.declared.transport.Error.TheVariants as transport
+use Rattle.amqp_transport.specs.Wire.{Wire}
+use Rattle.amqp_engine.specs.declared.error.Error.{Error as ConnectionFault}
+use Rattle.amqp_engine.specs.declared.error.Error.TheVariants as connection
+use Rattle.amqp_engine.specs.Calls.{OpensTo, IsTooLarge}
+use Rattle.amqp_engine.specs.Sentence.{Has as EngineHas, IsCalm, begun as engine_begun}
+use Rattle.amqp_engine.specs.Phases.{has_failed}
+use Rattle.amqp_engine.specs.Settings.{open_of}
+use Rattle.amqp_engine.specs.State.{State, opened, open_frame}
+use Rattle.amqp_engine.proofs.Says.{starts, starts_calm}
 use Rattle.sasl_gate.specs.declared.gate.error.NegotiationError.{NegotiationError}
-use Rattle.sasl_gate.specs.declared.gate.error.NegotiationError.TheVariants.{Memory, ProtocolHeaderMismatch, NotImplemented, SaslError, ScramError, Io, DecodeError, IllegalState, FramingError}
-use Rattle.sasl_gate.specs.declared.gate.exchange.Exchange.{Ghosts as Mechanism}
-use Rattle.sasl_gate.specs.declared.gate.negotiation.GatePoll.TheVariants as poll
-use Rattle.sasl_gate.specs.declared.gate.negotiation.Phase.{Phase}
-use Rattle.sasl_gate.specs.declared.gate.negotiation.Phase.TheVariants.{Frames, Failed}
-use Rattle.sasl_gate.specs.Frames.{Heard, said}
-use Rattle.sasl_gate.specs.Negotiation.{Negotiating, at_link, HasFrames, HasFailure, HasIn, Has, IsHeldUp, IsMemoryOr, GoesOn, IsPassed, Polled}
-use Rattle.sasl_gate.proofs.Negotiations.{flush_events, goes_flushed, heard_more}
-use Rattle.amqp_peer.specs.declared.opening.Stage.{Stage}
-use Rattle.amqp_peer.specs.declared.opening.Stage.TheVariants.{Idle, Negotiating as NegotiatingStage, Header, Exchanged, Ended}
-use Rattle.amqp_peer.specs.Opening.{amqp_header, Opened, IsUnderWay, HasPassed, HasAt, HasOpening, IsGuarded, in_negotiation, at_amqp_header, HasEnding, Moves, ComesTo, Ran, IsStopEnd, IsMemoryIn}
+use Rattle.sasl_gate.specs.Negotiation.{IsHeldUp}
+use Rattle.amqp_opening.specs.declared.authentication.Authentication.{Authentication}
+use Rattle.amqp_opening.specs.declared.authentication.SaslCall.{SaslCall}
+use Rattle.amqp_opening.specs.declared.opening.OpeningPoll.TheVariants as poll
+use Rattle.amqp_opening.specs.declared.opening.Stage.{Stage}
+use Rattle.amqp_opening.specs.declared.opening.Stage.TheVariants as stage
+use Rattle.amqp_opening.specs.Authentication.{peer_mechanism, same_by, MadeFor, holds_by, IsCallRefusal, HasAllowedTexts}
+use Rattle.amqp_opening.specs.Opening.{amqp_header, Opened, begun, begun_plain, IsUnderWay, HasIntro, HasAt, HasOpening, IsGuarded, Moves as OpeningMoves, Keeps, Ran as OpeningRan}
+use Rattle.amqp_opening.proofs.Exchanges.{same_made, gated_nothing}
+use Rattle.amqp_opening.proofs.Openings.{has_begun, has_begun_plain}
+use Rattle.amqp_words.specs.declared.call.Call.{Call}
+use Rattle.amqp_words.specs.declared.open_error.OpenError.{OpenError}
+use Rattle.amqp_words.specs.declared.open_error.OpenError.TheVariants as open
+use Rattle.amqp_words.specs.declared.reply.Reply.{Reply}
+use Rattle.amqp_words.specs.declared.reply.Reply.TheVariants as reply
+use Rattle.amqp_words.specs.declared.reply.NamedReply.{NamedReply}
+use Rattle.amqp_peer.specs.declared.held.Held.{Held}
+use Rattle.amqp_peer.specs.declared.held.Held.TheVariants.{Early, Late, Unopened, Moving}
+use Rattle.amqp_peer.specs.declared.peer.Progress.{Progress}
+use Rattle.amqp_peer.specs.declared.peer.Progress.TheVariants as progress
+use Rattle.amqp_peer.specs.declared.prepared.Prepared.{Prepared}
+use Rattle.amqp_peer.specs.Causes.{MadeIn, IsOpenCause, not_allowed, in_opening, OpenCauseIn, BeginsWithOpen, HasCause, TransportCause, opening as own_opening, prepared_in}
+use Rattle.amqp_peer.specs.Gated.{IsTalk, IsGatedIn}
+use Rattle.amqp_peer.specs.Held.{IsReadyWith, IsReady, IsMidway, IsBusyWith, IsBusy, IsExchangedWith, IsActive, RanEarly, bound, IsConnecting, link_at}
+use Rattle.amqp_peer.specs.History.{Local, Put, Exchanged, Replied, made_in, link_in, given_in, sent_in, replied_in, moment_in, since_in, at_link, IsInside}
+use Rattle.amqp_peer.specs.Peering.{Peering, Has, HasIn, HasCalled, IsHeld, IsHeldAt, IsExchanging, IsRunning, IsUntouched, IsFaultless, IsMadeIn, IsUnmade, IsUnmadeAt, HasWritten, IsWaiting, HasFailedOpen, HasClosed, link_of}
+use Rattle.amqp_peer.specs.Prepared.{prepared_of, sasl_of, idle_of}
+use Rattle.amqp_peer.specs.Replies.{pending, open_failed, answered}
+use Rattle.amqp_peer.specs.Runs.{IsSettled, AdvancedFrom, Advanced, RestedFrom, Rested, IsAsked, Refused, told, open_error_of}
+use Rattle.amqp_peer.proofs.Advances.{advanced_then, rested_then, called_keeps}
+use Rattle.amqp_peer.proofs.Histories.{made_in-append, link_in-append, replied_in-append, made_in-keeps, given_in-append, sent_in-append, given_in-at, sent_in-at, replied_in-at, link_in-at, inside-at, caused-at, once_now}
+use Rattle.amqp_peer.proofs.Moved.{Passed, passed_parts, made_after, link_after, given_after, sent_after, replied_after}
+use Rattle.amqp_peer.proofs.Written.{written_guarded, written_exchanging}
 
--- the negotiation has passed
-abbrev pub IsBehind : Stage → Type 0
-IsBehind Idle = ⊥
-IsBehind NegotiatingStage = ⊥
-IsBehind Header = ⊤
-IsBehind Exchanged = ⊤
-IsBehind Ended = ⊥
+-- ---- what passed at the link alone
 
-pub behind_header : (s : Stage) → s ≡ Header → IsBehind s
-behind_header s e = subst IsBehind (sym e) tt
+at_passed : (es : List LinkEvent) → Passed es [] [] (at_link es)
+at_passed es = record { inside = inside-at es; link = link_in-at es; heard = given_in-at es; said = sent_in-at es; silent = replied_in-at es; caused = caused-at es }
 
-pub behind_exchanged : (s : Stage) → s ≡ Exchanged → IsBehind s
-behind_exchanged s e = subst IsBehind (sym e) tt
+-- the exchange stays that of the call
+made_same : (c : Option SaslCall) (l l' : Bool) (x y : Authentication) → l' ≡ l → same_by x y → MadeIn c l x → MadeIn c l' y
+made_same None l l' x y e s m = e ∙ m
+made_same (Some c) l l' x y e s m = (e ∙ m.0, same_made c x y s m.1)
 
-under_way : (s : Stage) → IsBehind s → IsUnderWay s
-under_way Idle b = absurd b
-under_way NegotiatingStage b = absurd b
-under_way Header b = tt
-under_way Exchanged b = tt
-under_way Ended b = absurd b
-
-held_later : (es fs : List LinkEvent) (left : ℕ) → IsHeldUp fs left → IsHeldUp (fs ++ es) left
-held_later es fs left (inl p) = inl (includes_left fs es _ p)
-held_later es fs left (inr (inl p)) = inr (inl (includes_left fs es _ p))
-held_later es fs left (inr (inr p)) = inr (inr p)
-
--- an opening keeps what it has
-abbrev pub Keeps : {L X : Type 0} → Mechanism X → Opened L X → List LinkEvent → Opened L X → Type 0
-Keeps m a es b = (before : List LinkEvent) → HasOpening m a before → HasOpening m b (es ++ before)
-
-comes_after : {L X : Type 0} (m : Mechanism X) (a b c : Opened L X) (es fs : List LinkEvent) (n : ℕ) (r : Result (Option NegotiationError) AllocError) → Keeps m a es b → ComesTo m b fs r c n → ComesTo m a (fs ++ es) r c n
-comes_after m a b c es fs n (Ok None) g q = (q.0, held_later es fs n q.1, λ before h. subst (λ (u : List LinkEvent). HasOpening m c u) (sym (append_assoc fs es before)) (q.2 (es ++ before) (g before h)))
-comes_after m a b c es fs n (Ok (Some e)) g q = (q.0, λ before h. subst (λ (u : List LinkEvent). HasEnding m c.negotiation.exchange e u) (sym (append_assoc fs es before)) (q.1 (es ++ before) (g before h)))
-comes_after m a b c es fs n (Err e) g q = tt
-
--- a run after something else
-pub ran_after : {L X : Type 0} (link : Ghosts L) (m : Mechanism X) (a b c : Opened L X) (l k n : ℕ) (es : List LinkEvent) (r : Result (Option NegotiationError) AllocError)
-    → m.same a.negotiation.exchange c.negotiation.exchange → Moves link m a l es b k → Keeps m a es b → Ran link m b k r c n → Ran link m a l r c n
-ran_after link m a b c l k n es r s p g q =
+exchanging_grows : {L : Type 0} (link : Ghosts L) (call : Call) (o o' : Opened L Authentication) (left left' : ℕ) (p : Option Prepared) (es : List LinkEvent) (h : List Local) → OpeningMoves link peer_mechanism o left es o' left' → Keeps peer_mechanism o es o' → IsExchanging call o p h → IsExchanging call o' p (at_link es ++ h)
+exchanging_grows link call o o' left left' p es h m k x =
+    let q = at_passed es in
     record {
-      events = q.events ++ es;
-      moves = record {
-        went = went_then link a.negotiation.codec.link b.negotiation.codec.link c.negotiation.codec.link es q.events p.went q.moves.went;
-        counted = omega (arith, reads_in-append q.events es, p.counted, q.moves.counted);
-        kept = s;
+      made = made_same (sasl_of call) o.has_sasl o'.has_sasl o.negotiation.exchange o'.negotiation.exchange m.layer m.kept x.made;
+      prepared = x.prepared;
+      opening = subst (λ (u : List LinkEvent). HasOpening peer_mechanism o' u) (sym (link_after h q)) (k (link_in h) x.opening);
+      given = given_after h q ∙ append-nil (given_in h) ∙ x.given;
+      sent = sent_after h q ∙ append-nil (sent_in h) ∙ x.sent;
+    }
+
+-- the exchange of an end whose headers are being exchanged
+exchanging_of : {L : Type 0} (s : Stage) (call : Call) (o : Opened L Authentication) (p : Option Prepared) (h : List Local) → IsUnderWay s → IsHeldAt s call o p h → IsExchanging call o p h
+exchanging_of stage.Idle call o p h u k = absurd u
+exchanging_of stage.Negotiating call o p h u k = k
+exchanging_of stage.Header call o p h u k = k
+exchanging_of stage.Exchanged call o p h u k = absurd u
+exchanging_of stage.Ended call o p h u k = absurd u
+
+of_exchanging : {L : Type 0} (s : Stage) (call : Call) (o : Opened L Authentication) (p : Option Prepared) (h : List Local) → IsUnderWay s → IsExchanging call o p h → IsHeldAt s call o p h
+of_exchanging stage.Idle call o p h u k = absurd u
+of_exchanging stage.Negotiating call o p h u k = k
+of_exchanging stage.Header call o p h u k = k
+of_exchanging stage.Exchanged call o p h u k = absurd u
+of_exchanging stage.Ended call o p h u k = absurd u
+
+ready_way : {L : Type 0} (o : Opened L Authentication) (p : Option Prepared) → IsReadyWith o p → IsUnderWay o.stage
+ready_way o None r = absurd r
+ready_way o (Some p) r = r
+
+way_ready : {L : Type 0} (o o' : Opened L Authentication) (p : Option Prepared) → IsReadyWith o p → IsUnderWay o'.stage → IsReadyWith o' p
+way_ready o o' None r u = absurd r
+way_ready o o' (Some p) r u = u
+
+-- ---- the exchange of headers goes on
+
+-- the opening that is held
+opening_or : {L : Type 0} → Opened L Authentication → Held L → Opened L Authentication
+opening_or d (Early o p) = o
+opening_or d (Late s) = d
+opening_or d (Unopened c) = d
+opening_or d Moving = d
+
+idle_not : (s : Stage) → s ≡ stage.Idle → IsUnderWay s → ⊥
+idle_not s e u = subst IsUnderWay e u
+
+way_midway : (s : Stage) → IsUnderWay s → IsMidway s
+way_midway stage.Idle u = u
+way_midway stage.Negotiating u = u
+way_midway stage.Header u = u
+way_midway stage.Exchanged u = absurd u
+way_midway stage.Ended u = u
+
+ready_busy : {L : Type 0} (o : Opened L Authentication) (p : Option Prepared) → IsReadyWith o p → IsBusyWith o p
+ready_busy o None r = r
+ready_busy o (Some p) r = way_midway o.stage r
+
+-- an end with an opening under way waits for its open or accept
+waiting_early : {L : Type 0} (q : Progress) (old : Peering L) (o : Opened L Authentication) (p : Option Prepared) (h : List Local) → old.held ≡ Early o p → IsReadyWith o p → HasIn q old h → (q ≡ progress.Opening) × IsWaiting old h
+waiting_early {L} progress.Idle old o p h e r n =
+    let same : o ≡ n.opening = ap (opening_or o) (sym e ∙ n.holds) in
+    absurd (idle_not o.stage (ap (λ (x : Opened L Authentication). x.stage) same ∙ n.untouched.stage) (ready_way o p r))
+waiting_early progress.Opening old o p h e r w = (refl, w)
+waiting_early {L} progress.Open old o p h e r w = absurd (subst (λ (x : Held L). IsMadeIn old.fault x h) e w.is_made)
+waiting_early {L} progress.Closing old o p h e r w = absurd (subst (λ (x : Held L). IsMadeIn old.fault x h) e w.is_made)
+waiting_early {L} progress.Over old o p h e r (inl w) = absurd (w.done (subst (λ (x : Held L). IsBusy x) (sym e) (ready_busy o p r)))
+waiting_early {L} progress.Over old o p h e r (inr w) = absurd (w.done (subst (λ (x : Held L). IsBusy x) (sym e) (ready_busy o p r)))
+
+went_early : {L : Type 0} (link : Ghosts L) (held held' : Held L) (o o' : Opened L Authentication) (p p' : Option Prepared) (es : List LinkEvent) → held ≡ Early o p → held' ≡ Early o' p' → Went link o.negotiation.codec.link es o'.negotiation.codec.link → (d : L) → Went link (link_at d held) (link_in (at_link es)) (link_at d held')
+went_early {L} link held held' o o' p p' es e e' w d =
+    subst (λ (x : L). Went link x (link_in (at_link es)) (link_at d held')) (sym (ap (link_at d) e))
+    (subst (λ (x : L). Went link o.negotiation.codec.link (link_in (at_link es)) x) (sym (ap (link_at d) e'))
+    (subst (λ (u : List LinkEvent). Went link o.negotiation.codec.link u o'.negotiation.codec.link) (sym (link_in-at es)) w))
+
+few_in : (es : List LinkEvent) (left total : ℕ) → left + reads_in es ≡ total → reads_in (link_in (at_link es)) ≤ total
+few_in es left total n = let z = ap reads_in (link_in-at es) in omega (arith, n, z)
+
+settled_in : (es : List LinkEvent) (left : ℕ) → left + reads_in es ≡ 2 ^ 62 → IsHeldUp es left → IsSettled (at_link es)
+settled_in es left n (inl a) = inl (subst (λ (u : List LinkEvent). Includes u (NotRead _)) (sym (link_in-at es)) a)
+settled_in es left n (inr (inl a)) = inr (inl (subst (λ (u : List LinkEvent). Includes u (NotWritten _)) (sym (link_in-at es)) a))
+settled_in es left n (inr (inr a)) = let z = ap reads_in (link_in-at es) in inr (inr (inl (omega (arith, n, z, a))))
+
+-- what an end that waits holds
+held_early : {L : Type 0} (call : Call) (held : Held L) (o : Opened L Authentication) (p : Option Prepared) (h : List Local) → held ≡ Early o p → IsReadyWith o p → HasCalled call held h → IsExchanging call o p h
+held_early {L} call held o p h e r c = exchanging_of o.stage call o p h (ready_way o p r) (subst (λ (x : Held L). IsHeld call x h) e c.holds)
+
+waiting_grows : {L : Type 0} (old : Peering L) (o o' : Opened L Authentication) (p : Option Prepared) (es : List LinkEvent) (h : List Local) → old.held ≡ Early o p → (w : IsWaiting old h) → IsHeldAt o'.stage w.call o' p (at_link es ++ h) → IsWaiting (record old { held = Early o' p }) (at_link es ++ h)
+waiting_grows {L} old o o' p es h e w k =
+    let q = at_passed es in
+    record {
+      call = w.call;
+      made = made_after h q ∙ w.made;
+      replied = replied_after h q ∙ w.replied;
+      called = record { holds = k; caused = q.caused h w.called.caused };
+      unmade = subst (λ (x : Held L). IsUnmade old.fault x h) e w.unmade;
+    }
+
+-- it waits
+pub early_rests : {L : Type 0} (link : Ghosts L) (at : ℕ) (old : Peering L) (o o' : Opened L Authentication) (p : Option Prepared) (left : ℕ) → old.held ≡ Early o p → IsReadyWith o p → OpeningRan {E = AllocError} link peer_mechanism o (2 ^ 62) (Ok poll.Pending) o' left
+    → Rested link at (2 ^ 62) old (record old { held = Early o' p })
+early_rests {L} link at old o o' p left e r n =
+    record {
+      run = record {
+        events = at_link n.events;
+        inside = inside-at n.events;
+        went = went_early link old.held (Early o' p) o o' p p n.events e refl n.moves.went;
+        answers = sym (append-nil old.replies) ∙ ap (λ (u : List NamedReply). old.replies ++ u) (sym (replied_in-at n.events));
+        few = few_in n.events left (2 ^ 62) n.moves.counted;
+        kind = refl;
+        grows = λ h t x.
+            let w = waiting_early old.progress old o p h e r x in
+            subst (λ (q : Progress). HasIn q (record old { held = Early o' p }) (at_link n.events ++ h)) (sym w.0)
+            (waiting_grows old o o' p n.events h e w.1
+                (of_exchanging o'.stage w.1.call o' p (at_link n.events ++ h) n.comes.0 (exchanging_grows link w.1.call o o' (2 ^ 62) left p n.events h n.moves n.comes.2 (held_early w.1.call old.held o p h e r w.1.called))));
       };
-      comes = comes_after m a b c es q.events n r g q.comes;
+      settled = λ a. settled_in n.events left n.moves.counted n.comes.1;
     }
 
--- want of memory after something else
-pub ran_memory : {L X : Type 0} (link : Ghosts L) (m : Mechanism X) (a b : Opened L X) (l k : ℕ) (es : List LinkEvent) (e : AllocError) → Moves link m a l es b k → Ran {E = AllocError} link m a l (Err e) b k
-ran_memory link m a b l k es e p = record { events = es; moves = p; comes = tt }
+ended_not : {L : Type 0} (o : Opened L Authentication) (p : Option Prepared) → o.stage ≡ stage.Ended → IsReadyWith o p → ⊥
+ended_not o None e r = r
+ended_not o (Some p) e r = subst IsUnderWay e r
 
--- an opening with another codec
-abbrev pub with_codec : {L X : Type 0} → Opened L X → Codec L → Opened L X
-with_codec o c = record o { negotiation = record o.negotiation { codec = c } }
-
--- the exchange has passed, and other bytes were read and written
-passed_moved : {X : Type 0} (m : Mechanism X) (x : X) (rest more out out' bytes : List ℕ) (before after : List LinkEvent) → read_of after ≡ read_of before ++ more → wrote_of after ≡ wrote_of before ++ bytes → out ≡ bytes ++ out'
-    → HasPassed m x rest out before → HasPassed m x (rest ++ more) out' after
-passed_moved m x rest more out out' bytes before after r w o h =
-    record {
-      given = h.given;
-      sent = h.sent;
-      heard = subst (λ (u : List ℕ). Heard u h.given (rest ++ more)) (sym r) (heard_more (read_of before) more rest h.given h.heard);
-      part = h.part ++ bytes;
-      wrote = w ∙ ap (λ (u : List ℕ). u ++ bytes) h.wrote ∙ append_assoc (said h.sent) h.part bytes;
-      header = append_assoc h.part bytes out' ∙ ap (λ (u : List ℕ). h.part ++ u) (sym o) ∙ h.header;
-      held = h.held;
-      turn = h.turn;
-    }
-
-moved_at : {L X : Type 0} (m : Mechanism X) (s : Stage) (n : Negotiating L X) (c : Codec L) (before after : List LinkEvent) (more bytes : List ℕ) → IsBehind s
-    → read_of after ≡ read_of before ++ more → c.input ≡ n.codec.input ++ more → wrote_of after ≡ wrote_of before ++ bytes → n.codec.output ≡ bytes ++ c.output
-    → HasAt m s n before → HasAt m s (record n { codec = c }) after
-moved_at m Idle n c before after more bytes b r i w o h = absurd b
-moved_at m NegotiatingStage n c before after more bytes b r i w o h = absurd b
-moved_at m Header n c before after more bytes b r i w o h =
-    subst (λ (u : List ℕ). HasPassed m n.exchange u c.output after) (sym i) (passed_moved m n.exchange n.codec.input more n.codec.output c.output bytes before after r w o h)
-moved_at m Exchanged n c before after more bytes b r i w o h =
-    subst (λ (u : List ℕ). HasPassed m n.exchange u c.output after) (append_assoc amqp_header n.codec.input more ∙ ap (λ (u : List ℕ). amqp_header ++ u) (sym i))
-    (passed_moved m n.exchange (amqp_header ++ n.codec.input) more n.codec.output c.output bytes before after r w o h)
-moved_at m Ended n c before after more bytes b r i w o h = absurd b
-
-guarded_at : {L X : Type 0} (m : Mechanism X) (s : Stage) (n : Negotiating L X) (events : List LinkEvent) → IsBehind s → HasAt m s n events → IsGuarded m n.exchange events
-guarded_at m Idle n events b h = absurd b
-guarded_at m NegotiatingStage n events b h = absurd b
-guarded_at m Header n events b h = inr (n.codec.input, n.codec.output, h)
-guarded_at m Exchanged n events b h = inr (amqp_header ++ n.codec.input, n.codec.output, h)
-guarded_at m Ended n events b h = absurd b
-
--- bytes came in
-pub moves_read : {L X : Type 0} (link : Ghosts L) (m : Mechanism X) (o : Opened L X) (c : Codec L) (w : Wait) (left k : ℕ) → m.same o.negotiation.exchange o.negotiation.exchange
-    → (r : ReadOn link o.negotiation.codec left w c k) → Moves link m o left r.events (with_codec o c) k
-moves_read link m o c w left k s r = record { went = r.went; counted = r.counted; kept = s }
-
-pub keeps_read : {L X : Type 0} (link : Ghosts L) (m : Mechanism X) (o : Opened L X) (c : Codec L) (w : Wait) (left k : ℕ) → IsBehind o.stage
-    → (r : ReadOn link o.negotiation.codec left w c k) → Keeps m o r.events (with_codec o c)
-keeps_read link m o c w left k b r before h =
-    moved_at m o.stage o.negotiation c before (r.events ++ before) (read_of r.events) [] b (read_of-append r.events before) r.input
-    (wrote_of-append r.events before ∙ ap (λ (u : List ℕ). wrote_of before ++ u) r.silent) (sym r.output) h
-
--- all reads are made
-pub ran_spent : {L X : Type 0} (link : Ghosts L) (m : Mechanism X) (o : Opened L X) (c : Codec L) (left k : ℕ) → IsBehind o.stage → m.same o.negotiation.exchange o.negotiation.exchange
-    → ReadOn link o.negotiation.codec left Spent c k → Ran {E = AllocError} link m o left (Ok None) (with_codec o c) k
-ran_spent link m o c left k b s r = record { events = r.events; moves = moves_read link m o c Spent left k s r; comes = (under_way o.stage b, inr (inr r.end), keeps_read link m o c Spent left k b r) }
-
--- a read gave nothing
-ran_stop : {L X : Type 0} (link : Ghosts L) (m : Mechanism X) (o : Opened L X) (c : Codec L) (stop : Stop) (left k : ℕ) (result : Option NegotiationError) (new : Opened L X) → IsBehind o.stage → m.same o.negotiation.exchange o.negotiation.exchange
-    → ReadOn link o.negotiation.codec left (Stopped stop) c k → IsStopEnd stop (with_codec o c) result new → Ran {E = AllocError} link m o left (Ok result) new k
-ran_stop {L} {X} link m o c Empty left k result new b s r e =
-    subst (λ (t : Option NegotiationError). Ran {E = AllocError} link m o left (Ok t) new k) (sym e.0) (subst (λ (p : Opened L X). Ran {E = AllocError} link m o left (Ok None) p k) (sym e.1)
-    (record { events = r.events; moves = moves_read link m o c (Stopped Empty) left k s r; comes = (under_way o.stage b, inl r.end, keeps_read link m o c (Stopped Empty) left k b r) }))
-ran_stop {L} {X} link m o c End left k result new b s r e =
-    subst (λ (t : Option NegotiationError). Ran {E = AllocError} link m o left (Ok t) new k) (sym e.0) (subst (λ (p : Opened L X). Ran {E = AllocError} link m o left (Ok (Some (Io InputEnd))) p k) (sym e.1)
-    (record {
-      events = r.events;
-      moves = record { went = r.went; counted = r.counted; kept = s };
-      comes = (
-        refl,
-        λ before h. record {
-          guarded = guarded_at m o.stage (record o.negotiation { codec = c }) (r.events ++ before) b (keeps_read link m o c (Stopped End) left k b r before h);
-          cause = in_negotiation (at_link (includes_left r.events before (NotRead End) r.end));
-        },
-      );
-    }))
-ran_stop {L} {X} link m o c FailedRead left k result new b s r e =
-    subst (λ (t : Option NegotiationError). Ran {E = AllocError} link m o left (Ok t) new k) (sym e.0) (subst (λ (p : Opened L X). Ran {E = AllocError} link m o left (Ok (Some (Io Fault))) p k) (sym e.1)
-    (record {
-      events = r.events;
-      moves = record { went = r.went; counted = r.counted; kept = s };
-      comes = (
-        refl,
-        λ before h. record {
-          guarded = guarded_at m o.stage (record o.negotiation { codec = c }) (r.events ++ before) b (keeps_read link m o c (Stopped FailedRead) left k b r before h);
-          cause = in_negotiation (at_link (inl (includes_left r.events before (NotRead FailedRead) r.end)));
-        },
-      );
-    }))
-
-pub ran_stopped : {L X : Type 0} (link : Ghosts L) (m : Mechanism X) (o : Opened L X) (c : Codec L) (stop : Stop) (left k : ℕ) (result : Option NegotiationError) (new : Opened L X) → IsBehind o.stage → m.same o.negotiation.exchange o.negotiation.exchange
-    → ReadOn link o.negotiation.codec left (Stopped stop) c k → IsStopEnd stop (with_codec o c) result new → Ran {E = AllocError} link m o left (Ok result) new k
-ran_stopped = ran_stop
-
--- what was queued went out
-flush_read : (bytes : List ℕ) (held : Option Held) (before : List LinkEvent) → read_of (flush_events bytes held ++ before) ≡ read_of before ++ []
-flush_read bytes None before = sym (append-nil (read_of before))
-flush_read bytes (Some held) before = sym (append-nil (read_of before))
-
-flush_wrote : (bytes : List ℕ) (held : Option Held) (before : List LinkEvent) → wrote_of (flush_events bytes held ++ before) ≡ wrote_of before ++ bytes
-flush_wrote bytes None before = refl
-flush_wrote bytes (Some held) before = refl
-
-pub moves_flushed : {L X : Type 0} (link : Ghosts L) (m : Mechanism X) (o : Opened L X) (c : Codec L) (held : Option Held) (left : ℕ) → m.same o.negotiation.exchange o.negotiation.exchange
-    → (f : Flushed link o.negotiation.codec held c) → Moves link m o left (flush_events f.bytes held) (with_codec o c) left
-moves_flushed link m o c held left s f =
-    let g = goes_flushed link m (record o.negotiation { phase = Frames }) c held left tt s f in
-    record { went = g.went; counted = g.counted; kept = s }
-
-pub keeps_flushed : {L X : Type 0} (link : Ghosts L) (m : Mechanism X) (o : Opened L X) (c : Codec L) (held : Option Held) → IsBehind o.stage
-    → (f : Flushed link o.negotiation.codec held c) → Keeps m o (flush_events f.bytes held) (with_codec o c)
-keeps_flushed {L} link m o c held b f before h =
-    let i : c.input ≡ o.negotiation.codec.input = ap (λ (k : Codec L). k.input) f.rest in
-    moved_at m o.stage o.negotiation c before (flush_events f.bytes held ++ before) [] f.bytes b (flush_read f.bytes held before) (i ∙ sym (append-nil o.negotiation.codec.input))
-    (flush_wrote f.bytes held before) f.out h
-
--- no more was taken
-pub ran_full : {L X : Type 0} (link : Ghosts L) (m : Mechanism X) (o : Opened L X) (c : Codec L) (left : ℕ) → IsBehind o.stage → m.same o.negotiation.exchange o.negotiation.exchange
-    → Flushed link o.negotiation.codec (Some Full) c → Ran {E = AllocError} link m o left (Ok None) (with_codec o c) left
-ran_full link m o c left b s f =
-    record { events = flush_events f.bytes (Some Full); moves = moves_flushed link m o c (Some Full) left s f; comes = (under_way o.stage b, inr (inl (inl refl)), keeps_flushed link m o c (Some Full) b f) }
-
--- the link failed
-pub ran_failed : {L X : Type 0} (link : Ghosts L) (m : Mechanism X) (o : Opened L X) (c : Codec L) (left : ℕ) → IsBehind o.stage → m.same o.negotiation.exchange o.negotiation.exchange
-    → Flushed link o.negotiation.codec (Some FailedWrite) c → Ran {E = AllocError} link m o left (Ok (Some (Io Fault))) (record (with_codec o c) { stage = Ended }) left
-ran_failed link m o c left b s f =
-    let g = moves_flushed link m o c (Some FailedWrite) left s f in
-    record {
-      events = flush_events f.bytes (Some FailedWrite);
-      moves = record { went = g.went; counted = g.counted; kept = g.kept };
-      comes = (
-        refl,
-        λ before h. record {
-          guarded = guarded_at m o.stage (record o.negotiation { codec = c }) (flush_events f.bytes (Some FailedWrite) ++ before) b (keeps_flushed link m o c (Some FailedWrite) b f before h);
-          cause = in_negotiation (at_link (inr (inl refl)));
-        },
-      );
-    }
-
--- the AMQP header was read
-pub keeps_header : {L X : Type 0} (m : Mechanism X) (o : Opened L X) → o.stage ≡ Header → take 8 o.negotiation.codec.input ≡ amqp_header
-    → Keeps m o [] (record o { negotiation = record o.negotiation { codec = record o.negotiation.codec { input = drop 8 o.negotiation.codec.input } }; stage = Exchanged })
-keeps_header m o stage t before h =
-    let n : HasPassed m o.negotiation.exchange o.negotiation.codec.input o.negotiation.codec.output before = subst (λ (s : Stage). HasAt m s o.negotiation before) stage h in
-    let cut : o.negotiation.codec.input ≡ amqp_header ++ drop 8 o.negotiation.codec.input = sym (take-append-drop 8 o.negotiation.codec.input) ∙ ap (λ (u : List ℕ). u ++ drop 8 o.negotiation.codec.input) t in
-    subst (λ (u : List ℕ). HasPassed m o.negotiation.exchange u o.negotiation.codec.output before) cut n
-
-pub moves_none : {L X : Type 0} (link : Ghosts L) (m : Mechanism X) (a b : Opened L X) (left : ℕ) → m.same a.negotiation.exchange b.negotiation.exchange → b.negotiation.codec.link ≡ a.negotiation.codec.link → Moves link m a left [] b left
-moves_none link m a b left s e = record { went = e; counted = omega arith; kept = s }
-
--- another header was read
-pub ran_mismatch : {L X : Type 0} (link : Ghosts L) (m : Mechanism X) (o : Opened L X) (left : ℕ) → o.stage ≡ Header → m.same o.negotiation.exchange o.negotiation.exchange → 8 ≤ length o.negotiation.codec.input
-    → (take 8 o.negotiation.codec.input ≡ amqp_header → ⊥) → Ran {E = AllocError} link m o left (Ok (Some NotImplemented)) (record o { stage = Ended }) left
-ran_mismatch link m o left stage s l ne =
-    record {
-      events = [];
-      moves = record { went = refl; counted = omega arith; kept = s };
-      comes = (
-        refl,
-        λ before h.
-            let n : HasPassed m o.negotiation.exchange o.negotiation.codec.input o.negotiation.codec.output before = subst (λ (s : Stage). HasAt m s o.negotiation before) stage h in
-            record {
-              guarded = inr (o.negotiation.codec.input, o.negotiation.codec.output, n);
-              cause = at_amqp_header n.given n.sent o.negotiation.codec.input n.heard n.held n.turn l ne refl;
-            },
-      );
-    }
-
--- the negotiation has passed, and the own header is queued
-pub keeps_passed : {L X : Type 0} (m : Mechanism X) (o : Opened L X) → o.stage ≡ NegotiatingStage → IsPassed m o.negotiation
-    → Keeps m o [] (record o { negotiation = record o.negotiation { codec = record o.negotiation.codec { output = o.negotiation.codec.output ++ amqp_header } }; stage = Header })
-keeps_passed {L} {X} m o stage p before h =
-    let n : Has m o.negotiation before = subst (λ (s : Stage). HasAt m s o.negotiation before) stage h in
-    let f : HasFrames m o.negotiation before = subst (λ (q : Phase). HasIn m q o.negotiation before) p.phase n in
-    record {
-      given = f.given;
-      sent = f.sent;
-      heard = f.heard;
-      part = [];
-      wrote = sym (append-nil (wrote_of before)) ∙ ap (λ (u : List ℕ). wrote_of before ++ u) (sym p.flushed) ∙ f.wrote ∙ sym (append-nil (said f.sent));
-      header = ap (λ (u : List ℕ). u ++ amqp_header) p.flushed;
-      held = f.held;
-      turn = p.turn;
-    }
-
--- the negotiation went on
-pub moves_polled : {L X : Type 0} (link : Ghosts L) (m : Mechanism X) (o : Opened L X) (n : Negotiating L X) (left k : ℕ) (events : List LinkEvent) → GoesOn link m o.negotiation left events n k → Moves link m o left events (record o { negotiation = n }) k
-moves_polled link m o n left k events g = record { went = g.went; counted = g.counted; kept = g.kept }
-
-pub keeps_polled : {L X : Type 0} (link : Ghosts L) (m : Mechanism X) (o : Opened L X) (n : Negotiating L X) (left k : ℕ) (events : List LinkEvent) → o.stage ≡ NegotiatingStage → GoesOn link m o.negotiation left events n k → Keeps m o events (record o { negotiation = n })
-keeps_polled link m o n left k events stage g before h =
-    let old : Has m o.negotiation before = subst (λ (s : Stage). HasAt m s o.negotiation before) stage h in
-    subst (λ (s : Stage). HasAt m s n (events ++ before)) (sym stage) (g.grows before old)
-
-pub ran_pending : {L X : Type 0} (link : Ghosts L) (m : Mechanism X) (o : Opened L X) (n : Negotiating L X) (left k : ℕ) → o.stage ≡ NegotiatingStage → Polled link m o.negotiation left (Ok poll.Pending) n k → Ran {E = AllocError} link m o left (Ok None) (record o { negotiation = n }) k
-ran_pending link m o n left k stage p =
-    record { events = p.events; moves = moves_polled link m o n left k p.events p.goes; comes = (subst IsUnderWay (sym stage) tt, p.answer, keeps_polled link m o n left k p.events stage p.goes) }
+ended_done : {L : Type 0} (o : Opened L Authentication) (p : Option Prepared) → o.stage ≡ stage.Ended → IsBusyWith o p → ⊥
+ended_done o None e r = r
+ended_done o (Some p) e r = subst IsMidway e r
 
 -- it failed
-pub ran_refused : {L X : Type 0} (link : Ghosts L) (m : Mechanism X) (o : Opened L X) (n : Negotiating L X) (left k : ℕ) (e : NegotiationError) → o.stage ≡ NegotiatingStage → Polled link m o.negotiation left (Err e) n k → n.phase ≡ Failed e
-    → Ran {E = AllocError} link m o left (Ok (Some e)) (record { negotiation = n; stage = Ended }) k
-ran_refused link m o n left k e stage p phase =
+fails_open : {L : Type 0} (link : Ghosts L) (old : Peering L) (o o' : Opened L Authentication) (p : Option Prepared) (left : ℕ) (e : NegotiationError) (h : List Local) → old.held ≡ Early o p → IsReadyWith o p → (n : OpeningRan {E = AllocError} link peer_mechanism o (2 ^ 62) (Ok (poll.Failed e)) o' left) → IsWaiting old h
+    → HasFailedOpen (told (record old { held = Early o' p }) (reply.OpenError (open.Negotiation e))) (Replied (open_failed old.name (open.Negotiation e)) ∷ at_link n.events ++ h)
+fails_open {L} link old o o' p left e h l r n w =
+    let q = at_passed n.events in
+    let k = held_early w.call old.held o p h l r w.called in
+    let ends = n.comes.1 (link_in h) k.opening in
+    let made = made_same (sasl_of w.call) o.has_sasl o'.has_sasl o.negotiation.exchange o'.negotiation.exchange n.moves.layer n.moves.kept k.made in
+    let calls : made_in (at_link n.events ++ h) ≡ (old.name, w.call) ∷ [] = made_after h q ∙ w.made in
+    let cause : OpenCauseIn (made_in (at_link n.events ++ h)) e (link_in (at_link n.events ++ h)) =
+        subst (λ (cs : List (ℕ × Call)). OpenCauseIn cs e (link_in (at_link n.events ++ h))) (sym calls)
+        (subst (λ (u : List LinkEvent). IsOpenCause w.call e u) (sym (link_after h q)) (in_opening o'.has_sasl o'.negotiation.exchange made ends.cause)) in
+    let wrote : HasWritten w.call (at_link n.events ++ h) = written_guarded w.call o'.has_sasl o'.negotiation.exchange (at_link n.events ++ h) made
+        (subst (λ (u : List LinkEvent). IsGuarded peer_mechanism o'.has_sasl o'.negotiation.exchange u) (sym (link_after h q)) ends.guarded) in
     record {
-      events = p.events;
-      moves = record { went = p.goes.went; counted = p.goes.counted; kept = p.goes.kept };
-      comes = (
-        refl,
-        λ before h.
-            let old : Has m o.negotiation before = subst (λ (s : Stage). HasAt m s o.negotiation before) stage h in
-            let f : HasFailure m e n (p.events ++ before) = subst (λ (q : Phase). HasIn m q n (p.events ++ before)) phase (p.goes.grows before old) in
-            record {
-              guarded = inl (record { bodies = f.sent; rest = n.codec.output; frames = f.wrote });
-              cause = in_negotiation f.cause;
-            },
-      );
+      call = w.call;
+      name = old.name;
+      error = open.Negotiation e;
+      made = calls;
+      replied = ap (λ (u : List NamedReply). u ++ open_failed old.name (open.Negotiation e) ∷ []) (replied_after h q ∙ w.replied);
+      called = record {
+        holds = subst (λ (s : Stage). IsHeldAt s w.call o' p (Replied (open_failed old.name (open.Negotiation e)) ∷ at_link n.events ++ h)) (sym n.comes.0) wrote;
+        caused = (cause, q.caused h w.called.caused);
+      };
+      done = λ z. ended_done o' p n.comes.0 z;
     }
 
-some_none : {A : Type 0} (a : A) → None ≡ Some a → ⊥
-some_none a e = cc
+pub early_fails : {L : Type 0} (link : Ghosts L) (at : ℕ) (old : Peering L) (o o' : Opened L Authentication) (p : Option Prepared) (left : ℕ) (e : NegotiationError) → old.held ≡ Early o p → IsReadyWith o p → OpeningRan {E = AllocError} link peer_mechanism o (2 ^ 62) (Ok (poll.Failed e)) o' left
+    → Rested link at (2 ^ 62) old (told (record old { held = Early o' p }) (reply.OpenError (open.Negotiation e)))
+early_fails {L} link at old o o' p left e l r n =
+    let answer = open_failed old.name (open.Negotiation e) in
+    record {
+      run = record {
+        events = Replied answer ∷ at_link n.events;
+        inside = inside-at n.events;
+        went = went_early link old.held (Early o' p) o o' p p n.events l refl n.moves.went;
+        answers = ap (λ (u : List NamedReply). old.replies ++ (u ++ answer ∷ [])) (sym (replied_in-at n.events));
+        few = few_in n.events left (2 ^ 62) n.moves.counted;
+        kind = refl;
+        grows = λ h t x. let w = waiting_early old.progress old o p h l r x in inl (fails_open link old o o' p left e h l r n w.1);
+      };
+      settled = λ a. absurd (ended_not o' p n.comes.0 a);
+    }
 
-failed_as : (e : NegotiationError) (p : Phase) → IsMemoryIn e None → IsMemoryOr e (p ≡ Failed e) → p ≡ Failed e
-failed_as (Memory a) p i m = absurd (some_none a i)
-failed_as (ProtocolHeaderMismatch h) p i m = m
-failed_as NotImplemented p i m = m
-failed_as (SaslError code d) p i m = m
-failed_as (ScramError kind) p i m = m
-failed_as (Io kind) p i m = m
-failed_as DecodeError p i m = m
-failed_as IllegalState p i m = m
-failed_as FramingError p i m = m
+-- both headers are there
+pub early_exchanged : {L : Type 0} (link : Ghosts L) (at : ℕ) (old : Peering L) (o o' : Opened L Authentication) (p : Option Prepared) (left : ℕ) → old.held ≡ Early o p → IsReadyWith o p → OpeningRan {E = AllocError} link peer_mechanism o (2 ^ 62) (Ok poll.Exchanged) o' left
+    → Advanced link at (2 ^ 62) old (record old { held = Early o' p })
+early_exchanged {L} link at old o o' p left e r n =
+    record {
+      events = at_link n.events;
+      inside = inside-at n.events;
+      went = went_early link old.held (Early o' p) o o' p p n.events e refl n.moves.went;
+      answers = sym (append-nil old.replies) ∙ ap (λ (u : List NamedReply). old.replies ++ u) (sym (replied_in-at n.events));
+      few = few_in n.events left (2 ^ 62) n.moves.counted;
+      kind = refl;
+      grows = λ h t x.
+          let w = waiting_early old.progress old o p h e r x in
+          subst (λ (q : Progress). HasIn q (record old { held = Early o' p }) (at_link n.events ++ h)) (sym w.0)
+          (waiting_grows old o o' p n.events h e w.1
+              (subst (λ (s : Stage). IsHeldAt s w.1.call o' p (at_link n.events ++ h)) (sym n.comes.0) (exchanging_grows link w.1.call o o' (2 ^ 62) left p n.events h n.moves n.comes.1 (held_early w.1.call old.held o p h e r w.1.called))));
+    }
 
--- it failed, and not for want of memory
-pub ran_error : {L X : Type 0} (link : Ghosts L) (m : Mechanism X) (o : Opened L X) (n : Negotiating L X) (left k : ℕ) (e : NegotiationError) → o.stage ≡ NegotiatingStage → Polled link m o.negotiation left (Err e) n k → IsMemoryIn e None
-    → Ran {E = AllocError} link m o left (Ok (Some e)) (record { negotiation = n; stage = Ended }) k
-ran_error link m o n left k e stage p i = ran_refused link m o n left k e stage p (failed_as e n.phase i p.answer)
+pub exchanged_ready : {L : Type 0} (o o' : Opened L Authentication) (p : Option Prepared) → IsReadyWith o p → o'.stage ≡ stage.Exchanged → IsExchangedWith o' p
+exchanged_ready o o' None r e = absurd r
+exchanged_ready o o' (Some p) r e = e
+
+-- ---- the connection begins
+
+-- an end with both headers waits for its open or accept
+waiting_exchanged : {L : Type 0} (q : Progress) (old : Peering L) (o : Opened L Authentication) (p : Prepared) (h : List Local) → old.held ≡ Early o (Some p) → o.stage ≡ stage.Exchanged → HasIn q old h → (q ≡ progress.Opening) × IsWaiting old h
+waiting_exchanged {L} progress.Idle old o p h e r n =
+    let same : o ≡ n.opening = ap (opening_or o) (sym e ∙ n.holds) in
+    absurd (cc (sym r ∙ (ap (λ (x : Opened L Authentication). x.stage) same ∙ n.untouched.stage)))
+waiting_exchanged progress.Opening old o p h e r w = (refl, w)
+waiting_exchanged {L} progress.Open old o p h e r w = absurd (subst (λ (x : Held L). IsMadeIn old.fault x h) e w.is_made)
+waiting_exchanged {L} progress.Closing old o p h e r w = absurd (subst (λ (x : Held L). IsMadeIn old.fault x h) e w.is_made)
+waiting_exchanged {L} progress.Over old o p h e r (inl w) = absurd (w.done (subst (λ (x : Held L). IsBusy x) (sym e) (subst IsMidway (sym r) tt)))
+waiting_exchanged {L} progress.Over old o p h e r (inr w) = absurd (w.done (subst (λ (x : Held L). IsBusy x) (sym e) (subst IsMidway (sym r) tt)))
+
+-- what it holds
+held_exchanged : {L : Type 0} (call : Call) (held : Held L) (o : Opened L Authentication) (p : Option Prepared) (h : List Local) → held ≡ Early o p → o.stage ≡ stage.Exchanged → HasCalled call held h → IsExchanging call o p h
+held_exchanged {L} call held o p h e r c =
+    let k : IsHeldAt o.stage call o p h = subst (λ (x : Held L). IsHeld call x h) e c.holds in
+    subst (λ (s : Stage). IsHeldAt s call o p h) r k
+
+-- both ends' headers went through, and then Open is queued
+begins_running : {L : Type 0} (at : ℕ) (call : Call) (o : Opened L Authentication) (p : Prepared) (s : State L) (h : List Local) → o.stage ≡ stage.Exchanged → OpensTo (bound o.negotiation.codec p.idle at) p.end (Ok s) → moment_in h ≡ at → IsExchanging call o (Some p) h
+    → IsRunning call s (Put (open_frame p.end) ∷ Exchanged ∷ h)
+begins_running {L} at call o p s h r c t k =
+    let w : Wire L = bound o.negotiation.codec p.idle at in
+    let opening : HasAt peer_mechanism o.has_sasl stage.Exchanged o.negotiation (link_in h) = subst (λ (z : Stage). HasAt peer_mechanism o.has_sasl z o.negotiation (link_in h)) r k.opening in
+    record {
+      layer = o.has_sasl;
+      x = o.negotiation.exchange;
+      made = k.made;
+      p = p;
+      prepared = k.prepared;
+      before = link_in h;
+      since = [];
+      passed = refl;
+      arrived = o.negotiation.codec.input;
+      unwritten = o.negotiation.codec.output;
+      intro = opening;
+      runs = subst (λ (xs : List Frame). EngineHas o.negotiation.codec.output o.negotiation.codec.input s (record { events = []; given = xs; sent = sent_in h ++ open_frame p.end ∷ [] })) (sym k.given)
+          (subst (λ (xs : List Frame). EngineHas o.negotiation.codec.output o.negotiation.codec.input s (record { events = []; given = []; sent = xs ++ open_frame p.end ∷ [] })) (sym k.sent)
+          (starts o.negotiation.codec.output o.negotiation.codec.input w p.end s c refl refl));
+      opens = subst (λ (xs : List Frame). BeginsWithOpen (xs ++ open_frame p.end ∷ [])) (sym k.sent) (record { channel = 0; first = open_of p.end; more = []; is = refl });
+      idle = ap (λ (z : State L). z.wire.clock.idle) c.1;
+      start = ap (λ (z : State L). z.wire.clock.since) c.1 ∙ sym t;
+      calm = starts_calm w p.end s c refl;
+    }
+
+begun_faultless : {L : Type 0} (at : ℕ) (o : Opened L Authentication) (p : Prepared) (s : State L) (h : List Local) → OpensTo (bound o.negotiation.codec p.idle at) p.end (Ok s) → given_in h ≡ [] → IsFaultless s (Put (open_frame p.end) ∷ Exchanged ∷ h)
+begun_faultless {L} at o p s h c g =
+    record {
+      unheard = λ b. omega (arith, ap length g, ap length b.is);
+      kept = λ b. omega (arith, ap length g, ap length b.is);
+      sound = ap (λ (z : State L). has_failed z.phase) c.1;
+    }
+
+pub connected : {L : Type 0} (link : Ghosts L) (at : ℕ) (old : Peering L) (o : Opened L Authentication) (p : Prepared) (s : State L) → old.held ≡ Early o (Some p) → o.stage ≡ stage.Exchanged → OpensTo (bound o.negotiation.codec p.idle at) p.end (Ok s) → Advanced link at 0 old (record old { held = Late s })
+connected {L} link at old o p s e r c =
+    record {
+      events = Put (open_frame p.end) ∷ Exchanged ∷ [];
+      inside = tt;
+      went = λ d. ap (λ (z : State L). z.wire.codec.link) c.1 ∙ sym (ap (link_at d) e);
+      answers = sym (append-nil old.replies);
+      few = omega arith;
+      kind = refl;
+      grows = λ h t x.
+          let w = waiting_exchanged old.progress old o p h e r x in
+          let k = held_exchanged w.1.call old.held o (Some p) h e r w.1.called in
+          let none : old.fault ≡ None = subst (λ (y : Held L). IsUnmade old.fault y h) e w.1.unmade in
+          subst (λ (q : Progress). HasIn q (record old { held = Late s }) (Put (open_frame p.end) ∷ Exchanged ∷ h)) (sym w.0)
+          (record {
+            call = w.1.call;
+            made = w.1.made;
+            replied = w.1.replied;
+            called = record { holds = begins_running at w.1.call o p s h r c t k; caused = w.1.called.caused };
+            unmade = subst (λ (f : Option ConnectionFault). IsUnmadeAt f s (Put (open_frame p.end) ∷ Exchanged ∷ h)) (sym none) (begun_faultless at o p s h c k.given);
+          });
+    }
+
+-- Open is too large
+pub connect_fails : {L : Type 0} (link : Ghosts L) (at : ℕ) (old : Peering L) (o : Opened L Authentication) (p : Prepared) (e : ConnectionFault) (back : Wire L) → old.held ≡ Early o (Some p) → o.stage ≡ stage.Exchanged → OpensTo (bound o.negotiation.codec p.idle at) p.end (Err (e, back)) → ((x : _) → e ≡ connection.Memory x → ⊥)
+    → Rested link at 0 old (told (record old { held = Unopened back.codec }) (reply.OpenError (open_error_of e)))
+connect_fails {L} link at old o p (connection.Memory x) back l r c n = absurd (n x refl)
+connect_fails {L} link at old o p (connection.TransportError transport.FramingError) back l r c n =
+    let answer = open_failed old.name (open.TransportError transport.FramingError) in
+    record {
+      run = record {
+        events = Replied answer ∷ [];
+        inside = tt;
+        went = λ d. ap (λ (z : Wire L). z.codec.link) c.1 ∙ sym (ap (link_at d) l);
+        answers = refl;
+        few = omega arith;
+        kind = refl;
+        grows = λ h t x.
+            let w = waiting_exchanged old.progress old o p h l r x in
+            let k = held_exchanged w.1.call old.held o (Some p) h l r w.1.called in
+            inl (record {
+              call = w.1.call;
+              name = old.name;
+              error = open.TransportError transport.FramingError;
+              made = w.1.made;
+              replied = ap (λ (u : List NamedReply). u ++ answer ∷ []) w.1.replied;
+              called = record {
+                holds = written_exchanging w.1.call o (Some p) h k;
+                caused = (once_now (TransportCause transport.FramingError) h (inr (record { limit = 512; x = open_frame p.end; least = omega arith; own = own_opening p (ap prepared_in w.1.made ∙ k.prepared); large = c.0 })), w.1.called.caused);
+              };
+              done = λ z. z;
+            });
+      };
+      settled = λ a. absurd a;
+    }
+connect_fails {L} link at old o p (connection.TransportError (transport.Memory x)) back l r c n = absurd c
+connect_fails {L} link at old o p (connection.TransportError (transport.Io x)) back l r c n = absurd c
+connect_fails {L} link at old o p (connection.TransportError transport.IdleTimeoutElapsed) back l r c n = absurd c
+connect_fails {L} link at old o p (connection.TransportError transport.DecodeError) back l r c n = absurd c
+connect_fails {L} link at old o p (connection.TransportError transport.NotImplemented) back l r c n = absurd c
+connect_fails {L} link at old o p connection.IllegalState back l r c n = absurd c
+connect_fails {L} link at old o p connection.NotImplemented back l r c n = absurd c
+connect_fails {L} link at old o p connection.NotFound back l r c n = absurd c
+connect_fails {L} link at old o p connection.RemoteClosed back l r c n = absurd c
+connect_fails {L} link at old o p (connection.RemoteClosedWithError x) back l r c n = absurd c

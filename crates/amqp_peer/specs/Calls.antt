@@ -1,41 +1,47 @@
 -- Which calls may be made (docs/SPECIFICATION.md, "Valid steps").
-use Rattle.std.specs.Prelude.{◌≤◌, ℕ, List, [], ◌∷◌, length}
+use Rattle.std.specs.Prelude.{ℕ, List, [], ◌∷◌, Option, Some, None}
 use Rattle.sasl_gate.specs.declared.gate.client.SaslProfile.{SaslProfile}
-use Rattle.sasl_gate.specs.declared.gate.client.SaslProfile.TheVariants as profile
-use Rattle.sasl_gate.specs.Profile.{IsNonce, IsAllowedCount}
-use Rattle.amqp_peer.specs.declared.call.AcceptSasl.{AcceptSasl}
-use Rattle.amqp_peer.specs.declared.call.AcceptSasl.TheVariants as accept
-use Rattle.amqp_peer.specs.declared.call.Call.{Call}
-use Rattle.amqp_peer.specs.declared.call.Call.TheVariants.{Open, Accept}
+use Rattle.amqp_opening.specs.declared.acceptor.AcceptSasl.{AcceptSasl}
+use Rattle.amqp_opening.specs.declared.authentication.SaslCall.{SaslCall}
+use Rattle.amqp_opening.specs.Permission.{IsAllowedProfile, IsAllowedSasl, IsAllowedSaslCall}
+use Rattle.amqp_words.specs.declared.call.Call.{Call}
+use Rattle.amqp_words.specs.declared.call.Call.TheVariants.{Open, Accept, Close}
+use Rattle.amqp_words.specs.declared.reply.NamedReply.{NamedReply}
 use Rattle.amqp_peer.specs.declared.peer.PeerKind.{PeerKind}
 use Rattle.amqp_peer.specs.declared.peer.PeerKind.TheVariants.{Client, Listener}
+use Rattle.amqp_peer.specs.Replies.{IsConnected}
 
--- what a listener is told about its user
-pub record IsAllowedAccept (salt : List ℕ) (iterations : ℕ) (nonce : List ℕ) : Type 0 where
-  pub nonce_is : IsNonce nonce
-  pub salt_least : 1 ≤ length salt
-  pub salt_most : length salt ≤ 64
-  pub iterations_are : IsAllowedCount iterations
+-- there is no SASL layer, or the profile is allowed
+abbrev pub IsAllowedClient : Option SaslProfile → Type 0
+IsAllowedClient None = Unit {0}
+IsAllowedClient (Some profile) = IsAllowedProfile profile
 
-abbrev pub IsAllowedProfile : SaslProfile → Type 0
-IsAllowedProfile (profile.ScramSha256 username password nonce) = IsNonce nonce
+abbrev pub IsAllowedListener : Option AcceptSasl → Type 0
+IsAllowedListener None = Unit {0}
+IsAllowedListener (Some acceptor) = IsAllowedSasl acceptor
 
-abbrev pub IsAllowedSasl : AcceptSasl → Type 0
-IsAllowedSasl (accept.ScramSha256 username password salt iterations nonce) = IsAllowedAccept salt iterations nonce
-
--- a call that an end of some kind may make first
-abbrev pub IsAllowedCall : Call → Type 0
-IsAllowedCall (Open id sasl) = IsAllowedProfile sasl
-IsAllowedCall (Accept id sasl) = IsAllowedSasl sasl
+-- the same of a layer that a call asks for
+abbrev pub IsAllowedLayer : Option SaslCall → Type 0
+IsAllowedLayer None = Unit {0}
+IsAllowedLayer (Some c) = IsAllowedSaslCall c
 
 -- the first call of a client is open, that of a listener accept
 abbrev pub IsFirstCall : PeerKind → Call → Type 0
-IsFirstCall Client (Open id sasl) = IsAllowedProfile sasl
-IsFirstCall Client (Accept id sasl) = ⊥
-IsFirstCall Listener (Open id sasl) = ⊥
-IsFirstCall Listener (Accept id sasl) = IsAllowedSasl sasl
+IsFirstCall Client (Open settings host sasl) = IsAllowedClient sasl
+IsFirstCall Client (Accept settings sasl) = ⊥
+IsFirstCall Client (Close error) = ⊥
+IsFirstCall Listener (Open settings host sasl) = ⊥
+IsFirstCall Listener (Accept settings sasl) = IsAllowedListener sasl
+IsFirstCall Listener (Close error) = ⊥
 
--- a call of this name after those that were made: so far the first one alone
-abbrev pub IsValidCall : PeerKind → List (ℕ × Call) → ℕ → Call → Type 0
-IsValidCall kind [] name call = IsFirstCall kind call
-IsValidCall kind (made ∷ calls) name call = ⊥
+abbrev pub IsClose : Call → Type 0
+IsClose (Open settings host sasl) = ⊥
+IsClose (Accept settings sasl) = ⊥
+IsClose (Close error) = Unit {0}
+
+-- a call of this name after those that were made, the newest first, and their replies: the first one, and then one close after the
+-- connection was made
+abbrev pub IsValidCall : PeerKind → List (ℕ × Call) → List NamedReply → ℕ → Call → Type 0
+IsValidCall kind [] replied name call = IsFirstCall kind call
+IsValidCall kind (first ∷ []) replied name call = IsClose call × IsConnected replied
+IsValidCall kind (close ∷ first ∷ calls) replied name call = ⊥

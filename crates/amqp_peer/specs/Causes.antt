@@ -1,31 +1,221 @@
--- Why an error was replied, by the calls and by what passed at the link.
-use Rattle.std.specs.Prelude.{◌≡◌, ℕ, List, [], ◌∷◌, ⊤}
-use Rattle.amqp_connection.specs.declared.open_error.OpenError.TheVariants.{Negotiation}
-use Rattle.amqp_wire.specs.Events.{LinkEvent}
+-- Why something was replied, by the calls, by what passed at the link and by the frames that were read and queued.
+use Rattle.std.specs.Prelude.{◌≡◌, ◌≢◌, ◌⊎◌, ◌<◌, ◌≤◌, ◌+◌, ℕ, List, [], ◌∷◌, ◌++◌, Bool, true, false, Option, Some, None, ⊤}
+use Rattle.amqp_composites.specs.declared.error.Error.{Error as AmqpError}
+use Rattle.amqp_composites.specs.declared.open.Open.{Open}
+use Rattle.amqp_composites.specs.declared.close.Close.{Close}
+use Rattle.amqp_frames.specs.declared.body.FrameBody.TheVariants as b
+use Rattle.amqp_wire.specs.declared.frame.Front.TheVariants.{Refused, Foreign}
+use Rattle.amqp_wire.specs.declared.link.Held.TheVariants.{Full}
+use Rattle.amqp_wire.specs.declared.link.Stop.TheVariants.{End as EndStop}
+use Rattle.amqp_wire.specs.declared.link.IoKind.TheVariants.{Fault, End}
+use Rattle.amqp_wire.specs.Events.{LinkEvent, NotRead, NotWritten, Includes, HasFailed, read_of, wrote_of}
+use Rattle.amqp_wire.specs.Frame.{IsFront}
+use Rattle.amqp_transport.specs.declared.frames.Frame.{Frame}
+use Rattle.amqp_transport.specs.declared.transport.Error.{Error as TransportFault}
+use Rattle.amqp_transport.specs.declared.transport.Error.TheVariants as fault
+use Rattle.amqp_transport.specs.Causes.{IsUnspelled}
+use Rattle.amqp_transport.specs.Kinds.{amqp_spells, no_frame}
+use Rattle.amqp_transport.specs.Stream.{Joined}
+use Rattle.amqp_engine.specs.declared.error.Error.{Error as ConnectionFault}
+use Rattle.amqp_engine.specs.declared.error.Error.TheVariants as connection
+use Rattle.amqp_engine.specs.declared.phase.Rejection.{Rejection}
+use Rattle.amqp_engine.specs.Calls.{IsTooLarge}
+use Rattle.amqp_engine.specs.Heard.{IsGreeted}
+use Rattle.amqp_engine.specs.Phases.{kind_of, IsInner}
+use Rattle.amqp_engine.specs.Sentence.{bytes_of_all}
+use Rattle.amqp_engine.specs.State.{open_frame, close_frame, error_for}
 use Rattle.sasl_gate.specs.declared.gate.error.NegotiationError.{NegotiationError}
 use Rattle.sasl_gate.specs.declared.gate.error.NegotiationError.TheVariants.{ScramError}
 use Rattle.sasl_gate.specs.declared.scram.error.ScramErrorKind.TheVariants.{TextNotAllowed}
-use Rattle.amqp_peer.specs.declared.authentication.Authentication.{Authentication}
-use Rattle.amqp_peer.specs.declared.call.Call.{Call}
-use Rattle.amqp_peer.specs.declared.reply.Reply.{Reply}
-use Rattle.amqp_peer.specs.declared.reply.Reply.TheVariants.{Pending, OpenError as OpenErrorReply}
-use Rattle.amqp_peer.specs.declared.reply.NamedReply.{NamedReply}
-use Rattle.amqp_peer.specs.Authentication.{peer_mechanism, MadeFor, HasAllowedTexts}
-use Rattle.amqp_peer.specs.Opening.{IsOpeningCause}
+use Rattle.amqp_opening.specs.declared.authentication.Authentication.{Authentication}
+use Rattle.amqp_opening.specs.declared.authentication.SaslCall.{SaslCall}
+use Rattle.amqp_opening.specs.Authentication.{peer_mechanism, MadeFor, HasAllowedTexts}
+use Rattle.amqp_opening.specs.Opening.{amqp_header, IsOpeningCause}
+use Rattle.amqp_words.specs.declared.call.Call.{Call}
+use Rattle.amqp_words.specs.declared.call.Call.TheVariants as call
+use Rattle.amqp_words.specs.declared.open_error.OpenError.TheVariants as open
+use Rattle.amqp_words.specs.declared.reply.Reply.{Reply}
+use Rattle.amqp_words.specs.declared.reply.Reply.TheVariants as reply
+use Rattle.amqp_peer.specs.declared.prepared.Prepared.{Prepared}
+use Rattle.amqp_peer.specs.Prepared.{prepared_of, sasl_of, idle_of}
+use Rattle.amqp_peer.specs.History.{Local, Made, Polled, AtLink, Exchanged, Got, Put, Replied, made_in, link_in, given_in, sent_in, moment_in, since_in, Once}
 
--- why an open or an accept failed in the opening: its user or password is outside the profile, or the opening of the
--- exchange that it began failed
+-- the exchange is that of the SASL layer, if there is one
+abbrev pub MadeIn : Option SaslCall → Bool → Authentication → Type 0
+MadeIn None layer x = layer ≡ false
+MadeIn (Some c) layer x = (layer ≡ true) × MadeFor c x
+
+-- why an open or an accept failed in the exchange of headers: its user or password is outside the profile, or the exchange that it
+-- began failed
 pub data IsOpenCause (call : Call) (e : NegotiationError) (events : List LinkEvent) : Type 0 where
-  not_allowed : ¬ HasAllowedTexts call → e ≡ ScramError TextNotAllowed → IsOpenCause call e events
-  in_opening : (x : Authentication) → MadeFor call x → IsOpeningCause peer_mechanism x e events → IsOpenCause call e events
+  not_allowed : (c : SaslCall) → sasl_of call ≡ Some c → ¬ HasAllowedTexts c → e ≡ ScramError TextNotAllowed → IsOpenCause call e events
+  in_opening : (layer : Bool) (x : Authentication) → MadeIn (sasl_of call) layer x → IsOpeningCause peer_mechanism layer x e events → IsOpenCause call e events
 
--- the reply has its cause
-abbrev pub HasCause : List (ℕ × Call) → List LinkEvent → Reply → Type 0
-HasCause calls events Pending = ⊤
-HasCause [] events (OpenErrorReply e) = ⊥
-HasCause (call ∷ calls) events (OpenErrorReply (Negotiation e)) = IsOpenCause call.1 e events
+-- the same of the first of these calls
+abbrev pub OpenCauseIn : List (ℕ × Call) → NegotiationError → List LinkEvent → Type 0
+OpenCauseIn [] e events = ⊥
+OpenCauseIn (call ∷ []) e events = IsOpenCause call.1 e events
+OpenCauseIn (call ∷ earlier ∷ calls) e events = OpenCauseIn (earlier ∷ calls) e events
 
--- each of these replies has its cause
-abbrev pub HaveCauses : List (ℕ × Call) → List LinkEvent → List NamedReply → Type 0
-HaveCauses calls events [] = ⊤
-HaveCauses calls events (r ∷ rs) = HasCause calls events r.reply × HaveCauses calls events rs
+-- with what the first of these calls begins the connection
+abbrev pub prepared_in : List (ℕ × Call) → Option Prepared
+prepared_in [] = None
+prepared_in (call ∷ []) = prepared_of call.1
+prepared_in (call ∷ earlier ∷ calls) = prepared_in (earlier ∷ calls)
+
+abbrev pub idle_with : Option Prepared → ℕ
+idle_with None = 0
+idle_with (Some p) = idle_of p.idle
+
+-- ---- frames
+
+-- Open is the first
+pub record BeginsWithOpen (xs : List Frame) : Type 0 where
+  pub channel : ℕ
+  pub first : Open
+  pub more : List Frame
+  pub is : xs ≡ record { channel = channel; body = b.Open first } ∷ more
+
+-- Close is the last
+pub record EndsWithClose (xs : List Frame) : Type 0 where
+  pub front : List Frame
+  pub channel : ℕ
+  pub last : Close
+  pub is : xs ≡ front ++ record { channel = channel; body = b.Close last } ∷ []
+
+-- Close came in place of Open, with that error
+pub record IsShut (error : Option AmqpError) (given : List Frame) : Type 0 where
+  pub channel : ℕ
+  pub is : given ≡ record { channel = channel; body = b.Close (record { error = error }) } ∷ []
+
+-- Close came after Open, with that error
+pub record IsLeft (error : Option AmqpError) (given : List Frame) : Type 0 where
+  pub front : List Frame
+  pub channel : ℕ
+  pub before : IsGreeted front
+  pub is : given ≡ front ++ record { channel = channel; body = b.Close (record { error = error }) } ∷ []
+
+-- another frame than Open or Close came first
+pub record IsOther (given : List Frame) : Type 0 where
+  pub first : Frame
+  pub other : IsInner (kind_of first.body)
+  pub is : given ≡ first ∷ []
+
+-- ---- bytes
+
+-- what was read behind the AMQP header is the frames that were read, and then a rest
+pub record IsReadTo (h : List Local) (rest : List ℕ) : Type 0 where
+  pub head : List ℕ
+  pub behind : List ℕ
+  pub read : read_of (link_in h) ≡ head ++ (amqp_header ++ behind)
+  pub joined : Joined 0 amqp_spells behind (given_in h) rest
+
+-- behind the AMQP header the frames that were queued are written, unless the link was full
+pub record IsOut (h : List Local) : Type 0 where
+  pub head : List ℕ
+  pub out : List ℕ
+  pub wrote : wrote_of (link_in h) ++ out ≡ head ++ (amqp_header ++ bytes_of_all (sent_in h))
+  pub all : Includes (link_in h) (NotWritten Full) ⊎ (out ≡ [])
+
+-- ---- causes
+
+-- both ends' Opens went through
+pub record IsMade (h : List Local) : Type 0 where
+  pub heard : BeginsWithOpen (given_in h)
+  pub said : BeginsWithOpen (sent_in h)
+  pub out : IsOut h
+
+-- both ends' Closes went through
+pub record IsParted (h : List Local) : Type 0 where
+  pub error : Option AmqpError
+  pub heard : IsLeft error (given_in h)
+  pub said : EndsWithClose (sent_in h)
+  pub out : IsOut h
+
+-- no frame came for the idle time
+pub record HasIdled (h : List Local) : Type 0 where
+  pub runs : 0 < idle_with (prepared_in (made_in h))
+  pub passed : since_in h + idle_with (prepared_in (made_in h)) ≤ moment_in h
+
+-- an own frame: Open or a Close of the calls, an empty frame, or a Close that answers or rejects
+pub data IsOwn (calls : List (ℕ × Call)) : Frame → Type 0 where
+  opening : (p : Prepared) → prepared_in calls ≡ Some p → IsOwn calls (open_frame p.end)
+  closing : (error : Option AmqpError) → IsOwn calls (close_frame error)
+  beating : IsOwn calls no_frame
+
+-- an own frame is above the limit
+pub record IsOverlarge (h : List Local) : Type 0 where
+  pub limit : ℕ
+  pub x : Frame
+  pub least : 512 ≤ limit
+  pub own : IsOwn (made_in h) x
+  pub large : IsTooLarge limit x
+
+-- what was read ends in a frame that is refused under some limit
+pub record IsRefusedAt (h : List Local) : Type 0 where
+  pub limit : ℕ
+  pub rest : List ℕ
+  pub least : 512 ≤ limit
+  pub read : IsReadTo h rest
+  pub refused : IsFront 0 limit rest Refused
+
+pub record IsForeignAt (h : List Local) : Type 0 where
+  pub limit : ℕ
+  pub rest : List ℕ
+  pub least : 512 ≤ limit
+  pub read : IsReadTo h rest
+  pub foreign : IsFront 0 limit rest Foreign
+
+pub record IsUnspelledAt (h : List Local) : Type 0 where
+  pub limit : ℕ
+  pub rest : List ℕ
+  pub least : 512 ≤ limit
+  pub read : IsReadTo h rest
+  pub unspelled : IsUnspelled 0 amqp_spells limit rest
+
+-- why the transport failed
+abbrev pub TransportCause : TransportFault → List Local → Type 0
+TransportCause (fault.Memory a) h = ⊥
+TransportCause (fault.Io Fault) h = HasFailed (link_in h)
+TransportCause (fault.Io End) h = Includes (link_in h) (NotRead EndStop)
+TransportCause fault.IdleTimeoutElapsed h = HasIdled h
+TransportCause fault.DecodeError h = IsUnspelledAt h
+TransportCause fault.NotImplemented h = IsForeignAt h
+TransportCause fault.FramingError h = IsRefusedAt h ⊎ IsOverlarge h
+
+-- the peer's Open was read
+abbrev pub IsHeardOpen : List Local → Type 0
+IsHeardOpen h = BeginsWithOpen (given_in h)
+
+-- why a call on the connection failed
+abbrev pub ConnectionCause : ConnectionFault → List Local → Type 0
+ConnectionCause (connection.Memory a) h = ⊥
+ConnectionCause (connection.TransportError e) h = Once (TransportCause e) h
+ConnectionCause connection.IllegalState h = Once IsHeardOpen h
+ConnectionCause connection.NotImplemented h = Once IsHeardOpen h
+ConnectionCause connection.NotFound h = Once IsHeardOpen h
+ConnectionCause connection.RemoteClosed h = IsLeft None (given_in h)
+ConnectionCause (connection.RemoteClosedWithError e) h = IsLeft (Some e) (given_in h)
+
+-- a reply has its cause in what happened before it
+abbrev pub HasCause : List Local → Reply → Type 0
+HasCause h reply.Pending = ⊤
+HasCause h reply.Connection = IsMade h
+HasCause h reply.Closed = IsParted h
+HasCause h (reply.OpenError (open.Negotiation e)) = OpenCauseIn (made_in h) e (link_in h)
+HasCause h (reply.OpenError (open.TransportError e)) = Once (TransportCause e) h
+HasCause h (reply.OpenError open.RemoteClosed) = IsShut None (given_in h)
+HasCause h (reply.OpenError (open.RemoteClosedWithError e)) = IsShut (Some e) (given_in h)
+HasCause h (reply.OpenError open.IllegalState) = Once (λ g. IsOther (given_in g)) h
+HasCause h (reply.ConnectionError e) = ConnectionCause e h
+
+-- each reply has its cause
+abbrev pub AllCaused : List Local → Type 0
+AllCaused [] = ⊤
+AllCaused (Made at name c ∷ h) = AllCaused h
+AllCaused (Polled at ∷ h) = AllCaused h
+AllCaused (AtLink x ∷ h) = AllCaused h
+AllCaused (Exchanged ∷ h) = AllCaused h
+AllCaused (Got x ∷ h) = AllCaused h
+AllCaused (Put x ∷ h) = AllCaused h
+AllCaused (Replied r ∷ h) = HasCause h r.reply × AllCaused h

@@ -1,8 +1,9 @@
+pub mod Prepared
 pub mod History
 pub mod Replies
 pub mod Calls
-pub mod Authentication
-pub mod Opening
 pub mod Gated
 pub mod Causes
+pub mod Held
 pub mod Peering
+pub mod Runs

@@ -1,130 +1,257 @@
 -- An end, in words of what happened at it.
-use Rattle.std.specs.Prelude.{◌≡◌, ◌≤◌, ◌^◌, ◌⊎◌, ℕ, List, [], ◌∷◌, ◌++◌, Bool, false}
-use Rattle.amqp_connection.specs.declared.open_error.OpenError.TheVariants.{Negotiation}
-use Rattle.amqp_wire.specs.declared.link.Held.TheVariants.{Full}
-use Rattle.amqp_wire.specs.declared.link.Link.{Ghosts}
-use Rattle.amqp_wire.specs.declared.link.Stop.TheVariants.{Empty}
-use Rattle.amqp_wire.specs.Events.{LinkEvent, NotRead, NotWritten, Went, Includes, reads_in}
-use Rattle.sasl_gate.specs.declared.gate.error.NegotiationError.{NegotiationError}
+use Rattle.std.specs.Prelude.{◌≡◌, ◌⊎◌, ℕ, List, [], ◌∷◌, ◌++◌, Bool, true, false, Option, Some, None, ⊤}
+use Rattle.amqp_wire.specs.Events.{LinkEvent}
+use Rattle.amqp_engine.specs.declared.error.Error.{Error as ConnectionFault}
+use Rattle.amqp_engine.specs.declared.error.Error.TheVariants as connection
+use Rattle.amqp_engine.specs.Phases.{has_failed}
+use Rattle.amqp_engine.specs.Sentence.{Has as EngineHas, IsCalm}
+use Rattle.amqp_engine.specs.State.{State, open_frame}
 use Rattle.sasl_gate.specs.declared.gate.negotiation.Phase.TheVariants.{Header as HeaderPhase}
-use Rattle.amqp_peer.specs.declared.authentication.Authentication.{Authentication}
-use Rattle.amqp_peer.specs.declared.authentication.Authentication.TheVariants.{Idle as IdleExchange}
-use Rattle.amqp_peer.specs.declared.call.Call.{Call}
-use Rattle.amqp_peer.specs.declared.opening.Stage.{Stage}
-use Rattle.amqp_peer.specs.declared.opening.Stage.TheVariants.{Idle, Negotiating, Header, Exchanged, Ended}
+use Rattle.amqp_opening.specs.declared.authentication.Authentication.{Authentication}
+use Rattle.amqp_opening.specs.declared.opening.Stage.{Stage}
+use Rattle.amqp_opening.specs.declared.opening.Stage.TheVariants as stage
+use Rattle.amqp_opening.specs.Authentication.{peer_mechanism}
+use Rattle.amqp_opening.specs.Opening.{amqp_header, Opened, HasOpening, HasIntro}
+use Rattle.amqp_words.specs.declared.call.Call.{Call}
+use Rattle.amqp_words.specs.declared.call.Call.TheVariants.{Close}
+use Rattle.amqp_words.specs.declared.open_error.OpenError.{OpenError}
+use Rattle.amqp_words.specs.declared.reply.Reply.{Reply}
+use Rattle.amqp_words.specs.declared.reply.NamedReply.{NamedReply}
+use Rattle.amqp_peer.specs.declared.held.Held.{Held}
+use Rattle.amqp_peer.specs.declared.held.Held.TheVariants.{Early, Late, Unopened, Moving}
 use Rattle.amqp_peer.specs.declared.peer.PeerKind.{PeerKind}
-use Rattle.amqp_peer.specs.declared.reply.NamedReply.{NamedReply}
-use Rattle.amqp_peer.specs.Authentication.{peer_mechanism, MadeFor}
-use Rattle.amqp_peer.specs.Calls.{IsFirstCall}
-use Rattle.amqp_peer.specs.Causes.{IsOpenCause}
-use Rattle.amqp_peer.specs.Gated.{IsGatedBy}
-use Rattle.amqp_peer.specs.History.{Local, made_in, link_in, replied_in, read_in, wrote_in}
-use Rattle.amqp_peer.specs.Opening.{Opened, IsUnderWay, HasOpening}
-use Rattle.amqp_peer.specs.Replies.{pending, open_failed}
+use Rattle.amqp_peer.specs.declared.peer.Progress.{Progress}
+use Rattle.amqp_peer.specs.declared.peer.Progress.TheVariants as progress
+use Rattle.amqp_peer.specs.declared.prepared.Prepared.{Prepared}
+use Rattle.amqp_peer.specs.Calls.{IsFirstCall, IsClose}
+use Rattle.amqp_peer.specs.Causes.{MadeIn, BeginsWithOpen, IsOther, IsHeardOpen, TransportCause, AllCaused}
+use Rattle.amqp_peer.specs.Gated.{IsGatedIn}
+use Rattle.amqp_peer.specs.Held.{IsBusy, link_at, with_link, nothing_held}
+use Rattle.amqp_peer.specs.History.{Local, made_in, link_in, given_in, sent_in, replied_in, read_in, wrote_in, since_in, Once}
+use Rattle.amqp_peer.specs.Prepared.{prepared_of, sasl_of, idle_of}
+use Rattle.amqp_peer.specs.Replies.{pending, connection, open_failed, answered, IsCloseEnd, AreClosing}
 
--- an end: its opening, which side it is, the name of its call, the replies that were not taken out, and whether memory
--- was wanting
+-- an end: what holds its link, which side it is, how far its calls are, the name of the last, the first fault that was not told yet, the
+-- replies that were not taken out, and whether memory was wanting
 pub record Peering (L : Type 0) : Type 0 where
-  pub opening : Opened L Authentication
+  pub held : Held L
   pub kind : PeerKind
+  pub progress : Progress
   pub name : ℕ
+  pub fault : Option ConnectionFault
   pub replies : List NamedReply
   pub failed : Bool
 
 -- an end at which nothing happened
 abbrev pub fresh : {L : Type 0} → L → PeerKind → Peering L
-fresh link kind = record {
-  opening = record {
-    negotiation = record { codec = record { link = link; input = []; output = []; decoder = 512; encoder = 512 }; phase = HeaderPhase; exchange = IdleExchange };
-    stage = Idle;
-  };
-  kind = kind;
-  name = 0;
-  replies = [];
-  failed = false;
-}
+fresh link kind = record { held = nothing_held link; kind = kind; progress = progress.Idle; name = 0; fault = None; replies = []; failed = false }
 
--- the link that an end holds
-abbrev pub link_of : {L : Type 0} → Peering L → L
-link_of p = p.opening.negotiation.codec.link
+-- the link that an end holds; it holds one whenever it is seen
+abbrev pub link_of : {L : Type 0} → L → Peering L → L
+link_of d p = link_at d p.held
 
 -- the end with another link
-abbrev pub with_link : {L : Type 0} → Peering L → L → Peering L
-with_link p w = record p {
-  opening = record p.opening { negotiation = record p.opening.negotiation { codec = record p.opening.negotiation.codec { link = w } } };
-}
+abbrev pub with_link_of : {L : Type 0} → Peering L → L → Peering L
+with_link_of p w = record p { held = with_link p.held w }
 
--- nothing happened
-pub record HasNothing {L : Type 0} (o : Opened L Authentication) (h : List Local) : Type 0 where
-  pub made : made_in h ≡ []
-  pub link : link_in h ≡ []
-  pub replied : replied_in h ≡ []
+-- ---- what holds the link
+
+-- nothing was done
+pub record IsUntouched {L : Type 0} (o : Opened L Authentication) : Type 0 where
+  pub stage : o.stage ≡ stage.Idle
   pub input : o.negotiation.codec.input ≡ []
   pub output : o.negotiation.codec.output ≡ []
   pub phase : o.negotiation.phase ≡ HeaderPhase
 
--- the one call was made, and its opening goes on
-pub record HasCalled {L : Type 0} (o : Opened L Authentication) (name : ℕ) (h : List Local) : Type 0 where
-  pub call : Call
-  pub made : made_in h ≡ (name, call) ∷ []
-  pub exchange : MadeFor call o.negotiation.exchange
-  pub replied : replied_in h ≡ pending name ∷ []
+-- the headers are being exchanged
+pub record IsExchanging {L : Type 0} (call : Call) (o : Opened L Authentication) (p : Option Prepared) (h : List Local) : Type 0 where
+  pub made : MadeIn (sasl_of call) o.has_sasl o.negotiation.exchange
+  pub prepared : prepared_of call ≡ p
   pub opening : HasOpening peer_mechanism o (link_in h)
+  pub given : given_in h ≡ []
+  pub sent : sent_in h ≡ []
 
--- the one call was made, and its opening failed
-pub record HasEnded (name : ℕ) (h : List Local) : Type 0 where
+-- the connection goes on behind the headers
+pub record IsRunning {L : Type 0} (call : Call) (s : State L) (h : List Local) : Type 0 where
+  pub layer : Bool
+  pub x : Authentication
+  pub made : MadeIn (sasl_of call) layer x
+  pub p : Prepared
+  pub prepared : prepared_of call ≡ Some p
+  pub before : List LinkEvent
+  pub since : List LinkEvent
+  pub passed : link_in h ≡ since ++ before
+  pub arrived : List ℕ
+  pub unwritten : List ℕ
+  pub intro : HasIntro layer peer_mechanism x (amqp_header ++ arrived) unwritten before
+  pub runs : EngineHas unwritten arrived s (record { events = since; given = given_in h; sent = sent_in h })
+  pub opens : BeginsWithOpen (sent_in h)
+  pub idle : s.wire.clock.idle ≡ idle_of p.idle
+  pub start : s.wire.clock.since ≡ since_in h
+  pub calm : IsCalm s
+
+-- it wrote what it may
+abbrev pub HasWritten : Call → List Local → Type 0
+HasWritten call h = IsGatedIn (sasl_of call) (wrote_in h) (read_in h)
+
+abbrev pub IsHeldAt : {L : Type 0} → Stage → Call → Opened L Authentication → Option Prepared → List Local → Type 0
+IsHeldAt stage.Idle call o p h = ⊥
+IsHeldAt stage.Negotiating call o p h = IsExchanging call o p h
+IsHeldAt stage.Header call o p h = IsExchanging call o p h
+IsHeldAt stage.Exchanged call o p h = IsExchanging call o p h
+IsHeldAt stage.Ended call o p h = HasWritten call h
+
+abbrev pub IsHeld : {L : Type 0} → Call → Held L → List Local → Type 0
+IsHeld call (Early o p) h = IsHeldAt o.stage call o p h
+IsHeld call (Late s) h = IsRunning call s h
+IsHeld call (Unopened c) h = HasWritten call h
+IsHeld call Moving h = ⊥
+
+-- ---- the fault
+
+-- why a connection fails before it is made
+abbrev pub EarlyFault : ConnectionFault → List Local → Type 0
+EarlyFault (connection.Memory a) h = ⊥
+EarlyFault (connection.TransportError e) h = TransportCause e h
+EarlyFault connection.IllegalState h = IsOther (given_in h)
+EarlyFault connection.NotImplemented h = ⊥
+EarlyFault connection.NotFound h = ⊥
+EarlyFault connection.RemoteClosed h = ⊥
+EarlyFault (connection.RemoteClosedWithError e) h = ⊥
+
+-- and after it was made
+abbrev pub LateFault : ConnectionFault → List Local → Type 0
+LateFault (connection.Memory a) h = ⊥
+LateFault (connection.TransportError e) h = TransportCause e h
+LateFault connection.IllegalState h = IsHeardOpen h
+LateFault connection.NotImplemented h = IsHeardOpen h
+LateFault connection.NotFound h = IsHeardOpen h
+LateFault connection.RemoteClosed h = ⊥
+LateFault (connection.RemoteClosedWithError e) h = ⊥
+
+-- ---- how far the calls are
+
+-- without a fault: no Open was read, no other frame in place of it, and the transport has not failed
+pub record IsFaultless {L : Type 0} (s : State L) (h : List Local) : Type 0 where
+  pub unheard : BeginsWithOpen (given_in h) → ⊥
+  pub kept : IsOther (given_in h) → ⊥
+  pub sound : has_failed s.phase ≡ false
+
+-- no Open was read, unless the transport has failed
+abbrev pub IsUnheard : {L : Type 0} → State L → List Local → Type 0
+IsUnheard s h = has_failed s.phase ≡ false → BeginsWithOpen (given_in h) → ⊥
+
+-- the connection is not made, and a fault had its cause when it came
+abbrev pub IsUnmadeAt : {L : Type 0} → Option ConnectionFault → State L → List Local → Type 0
+IsUnmadeAt None s h = IsFaultless s h
+IsUnmadeAt (Some e) s h = Once (EarlyFault e) h × IsUnheard s h
+
+abbrev pub IsUnmade : {L : Type 0} → Option ConnectionFault → Held L → List Local → Type 0
+IsUnmade fault (Early o p) h = fault ≡ None
+IsUnmade fault (Late s) h = IsUnmadeAt fault s h
+IsUnmade fault (Unopened c) h = ⊥
+IsUnmade fault Moving h = ⊥
+
+-- the connection is made, and a fault had its cause when it came
+abbrev pub IsFaultIn : {L : Type 0} → Option ConnectionFault → State L → List Local → Type 0
+IsFaultIn None s h = has_failed s.phase ≡ false
+IsFaultIn (Some e) s h = Once (LateFault e) h
+
+abbrev pub IsMadeIn : {L : Type 0} → Option ConnectionFault → Held L → List Local → Type 0
+IsMadeIn fault (Early o p) h = ⊥
+IsMadeIn fault (Late s) h = BeginsWithOpen (given_in h) × IsFaultIn fault s h
+IsMadeIn fault (Unopened c) h = ⊥
+IsMadeIn fault Moving h = ⊥
+
+-- what an end that has called holds, and that each of its replies has its cause
+pub record HasCalled {L : Type 0} (call : Call) (held : Held L) (h : List Local) : Type 0 where
+  pub holds : IsHeld call held h
+  pub caused : AllCaused h
+
+-- nothing happened
+pub record HasNothing {L : Type 0} (p : Peering L) (h : List Local) : Type 0 where
+  pub made : made_in h ≡ []
+  pub link : link_in h ≡ []
+  pub replied : replied_in h ≡ []
+  pub given : given_in h ≡ []
+  pub sent : sent_in h ≡ []
+  pub caused : AllCaused h
+  pub fault : p.fault ≡ None
+  pub opening : Opened L Authentication
+  pub prepared : Option Prepared
+  pub holds : p.held ≡ Early opening prepared
+  pub untouched : IsUntouched opening
+
+-- an open or accept waits
+pub record IsWaiting {L : Type 0} (p : Peering L) (h : List Local) : Type 0 where
   pub call : Call
-  pub error : NegotiationError
-  pub made : made_in h ≡ (name, call) ∷ []
-  pub replied : replied_in h ≡ pending name ∷ open_failed name (Negotiation error) ∷ []
-  pub gated : IsGatedBy call (wrote_in h) (read_in h)
-  pub cause : IsOpenCause call error (link_in h)
+  pub made : made_in h ≡ (p.name, call) ∷ []
+  pub replied : replied_in h ≡ pending p.name ∷ []
+  pub called : HasCalled call p.held h
+  pub unmade : IsUnmade p.fault p.held h
 
-abbrev pub HasIn : {L : Type 0} → Stage → Opened L Authentication → ℕ → List Local → Type 0
-HasIn Idle o name h = HasNothing o h
-HasIn Negotiating o name h = HasCalled o name h
-HasIn Header o name h = HasCalled o name h
-HasIn Exchanged o name h = HasCalled o name h
-HasIn Ended o name h = HasEnded name h
+-- it is answered, and the connection is open
+pub record IsOpen {L : Type 0} (p : Peering L) (h : List Local) : Type 0 where
+  pub call : Call
+  pub name : ℕ
+  pub made : made_in h ≡ (name, call) ∷ []
+  pub replied : replied_in h ≡ pending name ∷ connection name ∷ []
+  pub called : HasCalled call p.held h
+  pub is_made : IsMadeIn p.fault p.held h
+
+-- a close waits, or is to be answered at once
+pub record IsClosing {L : Type 0} (p : Peering L) (h : List Local) : Type 0 where
+  pub call : Call
+  pub name : ℕ
+  pub error : Option (List ℕ)
+  pub made : made_in h ≡ (p.name, Close error) ∷ (name, call) ∷ []
+  pub replied : (replied_in h ≡ pending name ∷ connection name ∷ []) ⊎ (replied_in h ≡ pending name ∷ connection name ∷ pending p.name ∷ [])
+  pub called : HasCalled call p.held h
+  pub is_made : IsMadeIn p.fault p.held h
+
+-- the open or accept has failed
+pub record HasFailedOpen {L : Type 0} (p : Peering L) (h : List Local) : Type 0 where
+  pub call : Call
+  pub name : ℕ
+  pub error : OpenError
+  pub made : made_in h ≡ (name, call) ∷ []
+  pub replied : replied_in h ≡ pending name ∷ open_failed name error ∷ []
+  pub called : HasCalled call p.held h
+  pub done : IsBusy p.held → ⊥
+
+-- the close has its last answer
+pub record HasClosed {L : Type 0} (p : Peering L) (h : List Local) : Type 0 where
+  pub call : Call
+  pub name : ℕ
+  pub closing : ℕ
+  pub error : Option (List ℕ)
+  pub reply : Reply
+  pub made : made_in h ≡ (closing, Close error) ∷ (name, call) ∷ []
+  pub end : IsCloseEnd reply
+  pub replied : (replied_in h ≡ pending name ∷ connection name ∷ pending closing ∷ answered closing reply ∷ []) ⊎ (replied_in h ≡ pending name ∷ connection name ∷ answered closing reply ∷ [])
+  pub called : HasCalled call p.held h
+  pub done : IsBusy p.held → ⊥
+
+abbrev pub HasIn : {L : Type 0} → Progress → Peering L → List Local → Type 0
+HasIn progress.Idle p h = HasNothing p h
+HasIn progress.Opening p h = IsWaiting p h
+HasIn progress.Open p h = IsOpen p h
+HasIn progress.Closing p h = IsClosing p h
+HasIn progress.Over p h = HasFailedOpen p h ⊎ HasClosed p h
 
 -- an end after what happened at it
 abbrev pub Has : {L : Type 0} → Peering L → List Local → Type 0
-Has p h = HasIn p.opening.stage p.opening p.name h
+Has p h = HasIn p.progress p h
 
-abbrev pub MayCallIn : Stage → PeerKind → Call → Type 0
-MayCallIn Idle kind call = IsFirstCall kind call
-MayCallIn Negotiating kind call = ⊥
-MayCallIn Header kind call = ⊥
-MayCallIn Exchanged kind call = ⊥
-MayCallIn Ended kind call = ⊥
+-- ---- calls
+
+abbrev pub MayCallIn : Progress → PeerKind → Call → Type 0
+MayCallIn progress.Idle kind call = IsFirstCall kind call
+MayCallIn progress.Opening kind call = ⊥
+MayCallIn progress.Open kind call = IsClose call
+MayCallIn progress.Closing kind call = ⊥
+MayCallIn progress.Over kind call = ⊥
 
 -- the calls that an end may make
 abbrev pub MayCall : {L : Type 0} → Peering L → ℕ → Call → Type 0
-MayCall p name call = MayCallIn p.opening.stage p.kind call
-
--- why an end can do no more now: the link had no input or took no output, or all reads were made
-abbrev pub IsSettled : List LinkEvent → Type 0
-IsSettled events = Includes events (NotRead Empty) ⊎ Includes events (NotWritten Full) ⊎ (reads_in events ≡ 2 ^ 63)
-
--- An end made a step, which began with a call or a poll: what passed at its link and its replies are added to its
--- history. It stops where it can do no more now, or where the connection has not begun or has ended.
-pub record Stepped {L : Type 0} (link : Ghosts L) (old : Peering L) (first : Local) (new : Peering L) : Type 0 where
-  pub events : List Local
-  pub calm : made_in events ≡ []
-  pub went : Went link (link_of old) (link_in events) (link_of new)
-  pub answers : new.replies ≡ old.replies ++ replied_in events
-  pub few : reads_in (link_in events) ≤ 2 ^ 63
-  pub kind : new.kind ≡ old.kind
-  pub settled : IsUnderWay new.opening.stage → IsSettled (link_in events)
-  pub grows : (h : List Local) → Has old h → Has new (events ++ first ∷ h)
-
--- an end went on by itself
-pub record Advanced {L : Type 0} (link : Ghosts L) (old : Peering L) (new : Peering L) : Type 0 where
-  pub events : List Local
-  pub calm : made_in events ≡ []
-  pub went : Went link (link_of old) (link_in events) (link_of new)
-  pub answers : new.replies ≡ old.replies ++ replied_in events
-  pub few : reads_in (link_in events) ≤ 2 ^ 63
-  pub kind : new.kind ≡ old.kind
-  pub settled : IsUnderWay new.opening.stage → IsSettled (link_in events)
-  pub grows : (h : List Local) → Has old h → Has new (events ++ h)
+MayCall p name call = MayCallIn p.progress p.kind call

@@ -1,15 +1,13 @@
 //! One end of AMQP 1.0: calls, bytes, moments.
 #![tactic(auto)]
 
-pub use authentication::Authentication;
-pub use call::{AcceptSasl, Call};
 pub use peer::{Peer, PeerError, PeerKind};
-pub use reply::{NamedReply, Reply, ReplyList};
+pub use prepared::Prepared;
 
-pub mod authentication;
-pub mod call;
-pub mod opening;
+mod copies;
+pub mod held;
 pub mod peer;
-pub mod reply;
+pub mod prepared;
 #[cfg(test)]
 mod tests;
+pub mod valid;

@@ -1,29 +1,41 @@
 //! One end of a connection: what it is asked to do, and what it answers.
-ghost use Rattle.std.specs.Prelude.{◌≡◌, ◌↔◌, List, ℕ, [], ◌∷◌, ◌++◌, length, true, false, Ok, Err, Some, IfOk, OnOk, OnErr, IsTrue, IsErrOf, IfErr};
+ghost use Rattle.std.specs.Prelude.{◌≡◌, ◌↔◌, ◌≤◌, ◌<◌, ◌+◌, List, ℕ, [], ◌∷◌, ◌++◌, length, true, false, Ok, Err, Some, None, IfOk, OnOk, OnErr, IsTrue, IsErrOf, IfErr, option_map};
 ghost use Rattle.std.specs.Borrow.{Lends, sem};
-ghost use Rattle.amqp_connection.specs.declared.open_error.OpenError.TheVariants.{Negotiation};
 ghost use Rattle.amqp_peer.specs.contracts.peer.Peer.{the_row};
 ghost use Rattle.amqp_peer.specs.declared.peer.PeerError.TheVariants.{Memory};
-ghost use Rattle.amqp_peer.specs.Authentication.{MadeFor, holds_by, IsCallRefusal};
-ghost use Rattle.amqp_peer.specs.Calls.{IsAllowedCall};
-ghost use Rattle.amqp_peer.specs.History.{Local, Made, Polled};
-ghost use Rattle.amqp_peer.specs.Opening.{IsUnderWay, begun};
-ghost use Rattle.amqp_peer.specs.Peering.{Peering, fresh, link_of, with_link, MayCall, Stepped, Advanced};
-ghost use Rattle.amqp_peer.specs.Replies.{pending, open_failed};
+ghost use Rattle.amqp_opening.specs.Permission.{IsAllowedSaslCall};
+ghost use Rattle.amqp_words.specs.declared.call.Call.{Call};
+ghost use Rattle.amqp_peer.specs.declared.peer.Progress.{Progress};
+ghost use Rattle.amqp_peer.specs.Calls.{IsAllowedLayer};
+ghost use Rattle.amqp_peer.specs.Held.{IsThere, IsEarly, IsReady, IsExchanged, IsLate, with_link};
+ghost use Rattle.amqp_peer.specs.History.{Made, Polled};
+ghost use Rattle.amqp_peer.specs.Peering.{Peering, fresh, link_of, MayCall};
+ghost use Rattle.amqp_peer.specs.Prepared.{prepared_of, sasl_of};
+ghost use Rattle.amqp_peer.specs.Runs.{Stepped, Advanced, AdvancedFrom, Worked, Rested, RestedFrom, IsAsked, IsAskedToClose, Refused, open_error_of, open_failure, open_reply, close_reply, told_of, error_for, first_fault, error_in, told, finished, concluded, greeted_if, greeted};
 
-use crate::authentication::{Authentication, exchange_for};
-use crate::call::{Call, is_first_call};
-use crate::opening::{Opening, Stage, memory_in};
-use crate::reply::{NamedReply, Reply, ReplyList};
-use amqp_connection::OpenError;
+use crate::copies::{copied_error, discard};
+use crate::held::{Held, Way};
+use crate::prepared::{Prepared, client_prepared, client_sasl, listener_prepared, listener_sasl};
+use crate::valid::is_first_call;
+use amqp_composites::error::Error as AmqpError;
+use amqp_engine::{EngineStep, Error as ConnectionError};
+use amqp_frames::ConnectionStopReason;
+use amqp_opening::authentication::{SaslCall, exchange_for, memory_in};
+use amqp_opening::opening::OpeningPoll;
+use amqp_text::Symbol;
 use amqp_wire::link::Link;
+use amqp_words::{Call, NamedReply, OpenError, Reply, ReplyList};
 use sasl_gate::NegotiationError;
 use std::alloc::{AllocError, Global};
 use std::marker::Model;
+use std::mem;
 use thiserror::Error;
 
-/// The most reads of a call or a poll that give bytes.
-const READS_OF_CALL: u64 = 1 << 63;
+/// The most reads of the exchange of headers that give bytes, in a call or a poll.
+const READS_OF_CALL: u64 = 1 << 62;
+
+/// The most steps of the connection in a call or a poll; each reads at most one frame.
+const STEPS_OF_CALL: u64 = 1 << 62;
 
 /// Which side of a connection an end is.
 #[derive(Clone, Copy, Debug, PartialEq, Eq)]
@@ -32,6 +44,21 @@ pub enum PeerKind {
     Client,
     /// It accepts the connection.
     Listener,
+}
+
+/// How far the calls of an end are.
+#[derive(Clone, Copy, Debug, PartialEq, Eq)]
+pub enum Progress {
+    /// No call was made.
+    Idle,
+    /// The connection is being opened.
+    Opening,
+    /// It is open, as far as the caller was told.
+    Open,
+    /// It is being closed by a call.
+    Closing,
+    /// The last call has its last answer.
+    Over,
 }
 
 /// Why a call or a poll of an end fails.
@@ -56,9 +83,11 @@ impl From<AllocError> for PeerError {
 /// One end over a link.
 #[derive(Drop)]
 pub struct Peer<L: Link> {
-    opening: Opening<L, Authentication>,
+    held: Held<L>,
     kind: PeerKind,
+    progress: Progress,
     name: u64,
+    fault: Option<ConnectionError>,
     replies: ReplyList,
     failed: bool,
     alloc: Global,
@@ -66,22 +95,78 @@ pub struct Peer<L: Link> {
 
 impl<L: Link> Model for Peer<L> {
     ghost use Rattle.amqp_peer.specs.Peering.{Peering};
+    ghost use Rattle.amqp_peer.specs.Held.{IsThere};
 
     ghost Value = { Peering L };
 
-    ghost view = { λ p. record { opening = p.opening; kind = p.kind; name = p.name; replies = p.replies; failed = p.failed } };
+    ghost view = { λ p. record { held = p.held; kind = p.kind; progress = p.progress; name = p.name; fault = p.fault; replies = p.replies; failed = p.failed } };
+
+    ghost invariant = { λ p. IsThere p.held };
 }
 
-fn is_under_way(stage: Stage) -> bool
-    ensures yes { result ≡ true → IsUnderWay stage }
-    ensures no { result ≡ false → IsUnderWay stage → ⊥ }
+// Why an open or accept failed: a connection that has stopped before it was made always tells why.
+fn open_failure(error: Option<ConnectionError>) -> OpenError
+    ensures { result ≡ open_failure error }
 {
-    match stage {
-        Stage::Idle => false,
-        Stage::Negotiating => true,
-        Stage::Header => true,
-        Stage::Exchanged => true,
-        Stage::Ended => false,
+    match error {
+        Some(error) => open_error_of(error),
+        None => OpenError::IllegalState,
+    }
+}
+
+// How a close is answered in the end.
+fn close_reply(error: Option<ConnectionError>) -> Reply
+    ensures { result ≡ close_reply error }
+{
+    match error {
+        Some(error) => Reply::ConnectionError(error),
+        None => Reply::Closed,
+    }
+}
+
+// What an open or accept is answered for a fault.
+fn open_error_of(fault: ConnectionError) -> OpenError
+    ensures { result ≡ open_error_of fault }
+{
+    match fault {
+        ConnectionError::TransportError(error) => OpenError::TransportError(error),
+        ConnectionError::RemoteClosed => OpenError::RemoteClosed,
+        ConnectionError::RemoteClosedWithError(error) => OpenError::RemoteClosedWithError(error),
+        ConnectionError::Memory(_)
+        | ConnectionError::IllegalState
+        | ConnectionError::NotImplemented
+        | ConnectionError::NotFound => OpenError::IllegalState,
+    }
+}
+
+// What the caller is told of the reason for which a connection has stopped: none where this end closed it.
+fn told_of(
+    alloc: Global,
+    reason: Option<&ConnectionStopReason>,
+) -> Result<Option<ConnectionError>, AllocError>
+    ensures { IfOk result (λ e. e ≡ told_of (option_map (λ r. r.now) reason)) }
+{
+    match reason {
+        Some(ConnectionStopReason::RemoteClosed) => Ok(Some(ConnectionError::RemoteClosed)),
+        Some(ConnectionStopReason::RemoteClosedWithError(error)) => {
+            let error = copied_error(alloc, error)?;
+            Ok(Some(ConnectionError::RemoteClosedWithError(error)))
+        }
+        _ => Ok(None),
+    }
+}
+
+// The error of a condition.
+fn error_for(condition: Option<Symbol>) -> Option<AmqpError>
+    ensures { result ≡ error_for condition }
+{
+    match condition {
+        Some(condition) => Some(AmqpError {
+            condition,
+            description: None,
+            info: None,
+        }),
+        None => None,
     }
 }
 
@@ -90,9 +175,11 @@ impl<L: Link> Peer<L> {
         ensures { result ≡ fresh link kind }
     {
         Peer {
-            opening: Opening::new(alloc, link, Authentication::Idle),
+            held: Held::new(alloc, link),
             kind,
+            progress: Progress::Idle,
             name: 0,
+            fault: None,
             replies: ReplyList::new(alloc),
             failed: false,
             alloc,
@@ -115,18 +202,16 @@ impl<L: Link> Peer<L> {
         Ok(Peer::new(alloc, link, PeerKind::Listener))
     }
 
-    /// Whether a call of this name may be made now: the client's first call is `open`, the
-    /// listener's `accept`, and each comes once; nonce, salt and count are allowed.
+    /// Whether a call of this name may be made now: the client's first call is `open`, the listener's `accept`, and each comes
+    /// once; nonce, salt and count are allowed. A `close` comes once, after the connection was made.
     pub fn may_call(&self, name: u64, call: &Call) -> bool
         ensures { IsTrue result ↔ MayCall self.now name call.now }
     {
         let _ = name;
-        match self.opening.stage() {
-            Stage::Idle => is_first_call(self.kind, call),
-            Stage::Negotiating => false,
-            Stage::Header => false,
-            Stage::Exchanged => false,
-            Stage::Ended => false,
+        match self.progress {
+            Progress::Idle => is_first_call(self.kind, call),
+            Progress::Open => matches!(call, Call::Close { .. }),
+            Progress::Opening | Progress::Closing | Progress::Over => false,
         }
     }
 
@@ -142,46 +227,190 @@ impl<L: Link> Peer<L> {
         Ok(())
     }
 
-    // Goes on until nothing more can be done now.
-    fn run(&mut self) -> Result<(), AllocError>
-        requires { IsUnderWay self.old.opening.stage }
-        ensures ok { OnOk result (Advanced L.Link self.old self.new) }
-        ensures alive { OnOk result (self.new.failed ≡ self.old.failed) }
+    // Answers the call that was made, for the last time.
+    fn finish(&mut self, reply: Reply) -> Result<(), AllocError>
+        ensures ok { OnOk result (self.new ≡ told self.old reply) }
+        ensures alive { self.new.failed ≡ self.old.failed }
+    {
+        self.progress = Progress::Over;
+        self.answer(reply)
+    }
+
+    // The first fault is kept.
+    fn note(&mut self, error: ConnectionError)
+        ensures { self.new ≡ record self.old { fault = first_fault self.old.fault error } }
+    {
+        match self.fault {
+            Some(_) => discard(error),
+            None => discard(mem::replace(&mut self.fault, Some(error))),
+        }
+    }
+
+    // Why the connection has ended: its fault, else the reason for which it has stopped, where the peer closed it.
+    fn take_error(&mut self) -> Result<Option<ConnectionError>, AllocError>
+        ensures ok { IfOk result (λ e. e ≡ error_in self.old) }
+        ensures state { self.new ≡ record self.old { fault = None } }
+    {
+        match mem::replace(&mut self.fault, None) {
+            Some(error) => Ok(Some(error)),
+            None => told_of(self.alloc, self.held.stop_reason()),
+        }
+    }
+
+    // The connection has stopped: an open or accept that waits has its last answer.
+    fn conclude_open(&mut self) -> Result<(), AllocError>
+        ensures ok { OnOk result (self.new ≡ finished self.old (open_reply (error_in self.old))) }
+        ensures alive { self.new.failed ≡ self.old.failed }
+    {
+        let error = self.take_error()?;
+        self.finish(Reply::OpenError(open_failure(error)))
+    }
+
+    // The connection has stopped: a close that waits has its last answer.
+    fn conclude_close(&mut self) -> Result<(), AllocError>
+        ensures ok { OnOk result (self.new ≡ finished self.old (close_reply (error_in self.old))) }
+        ensures alive { self.new.failed ≡ self.old.failed }
+    {
+        let error = self.take_error()?;
+        self.finish(close_reply(error))
+    }
+
+    // The connection has stopped: the call that waits has its last answer.
+    fn conclude(&mut self) -> Result<(), AllocError>
+        ensures ok { OnOk result (self.new ≡ concluded self.old) }
+        ensures alive { self.new.failed ≡ self.old.failed }
+    {
+        match self.progress {
+            Progress::Opening => self.conclude_open(),
+            Progress::Closing => self.conclude_close(),
+            Progress::Idle | Progress::Open | Progress::Over => Ok(()),
+        }
+    }
+
+    // The connection is made: the open or accept is answered.
+    fn welcome(&mut self) -> Result<(), AllocError>
+        ensures ok { OnOk result (self.new ≡ greeted_if true self.old) }
+        ensures alive { self.new.failed ≡ self.old.failed }
+    {
+        self.progress = Progress::Open;
+        self.answer(Reply::Connection)
+    }
+
+    // An open or accept that waits is answered where the connection is made.
+    fn greet(&mut self) -> Result<(), AllocError>
+        ensures ok { OnOk result (self.new ≡ greeted self.old) }
+        ensures alive { self.new.failed ≡ self.old.failed }
+    {
+        match self.progress {
+            Progress::Opening => {
+                if self.held.is_made() {
+                    return self.welcome();
+                }
+                Ok(())
+            }
+            Progress::Idle | Progress::Open | Progress::Closing | Progress::Over => Ok(()),
+        }
+    }
+
+    // One step of the connection; whether another may follow.
+    fn advance(&mut self, at: u64) -> Result<bool, AllocError>
+        requires { IsLate self.old.held }
+        ensures more { result ≡ Ok true → Worked L.Link at 1 self.old self.new }
+        ensures rests { result ≡ Ok false → Rested L.Link at 1 self.old self.new }
+        ensures late { OnOk result (IsLate self.new.held) }
+        ensures alive { self.new.failed ≡ self.old.failed }
+    {
+        match self.held.step(at) {
+            Ok(EngineStep::Worked) => {
+                self.greet()?;
+                Ok(true)
+            }
+            Ok(EngineStep::Pending) => Ok(false),
+            Ok(EngineStep::Stopped) => {
+                self.conclude()?;
+                Ok(false)
+            }
+            Err(ConnectionError::Memory(error)) => Err(error),
+            Err(error) => {
+                self.note(error);
+                Ok(true)
+            }
+        }
+    }
+
+    // The connection goes on until nothing more can be done now.
+    fn go_on(&mut self, at: u64) -> Result<(), AllocError>
+        requires { IsLate self.old.held }
+        ensures ok { OnOk result (Rested L.Link at (2 ^ 62) self.old self.new) }
+        ensures alive { self.new.failed ≡ self.old.failed }
+    {
+        let mut left = STEPS_OF_CALL;
+        'steps: while left > 0 {
+            left -= 1;
+            if !self.advance(at)? {
+                return Ok(());
+            }
+        }
+        Ok(())
+    }
+
+    // The headers are exchanged, and the connection begins.
+    fn connect(&mut self, at: u64) -> Result<(), AllocError>
+        requires { IsExchanged self.old.held }
+        ensures ok { OnOk result (Rested L.Link at (2 ^ 62) self.old self.new) }
+        ensures alive { self.new.failed ≡ self.old.failed }
+    {
+        match self.held.connect(self.alloc, at) {
+            Ok(()) => self.go_on(at),
+            Err(ConnectionError::Memory(error)) => Err(error),
+            Err(error) => self.finish(Reply::OpenError(open_error_of(error))),
+        }
+    }
+
+    // The exchange of headers goes on, and then the connection.
+    fn open(&mut self, at: u64) -> Result<(), AllocError>
+        requires { IsReady self.old.held }
+        ensures ok { OnOk result (Rested L.Link at (2 ^ 63) self.old self.new) }
+        ensures alive { self.new.failed ≡ self.old.failed }
     {
         let mut reads_left = READS_OF_CALL;
-        match self.opening.run(&mut reads_left) {
-            Ok(None) => Ok(()),
-            Ok(Some(error)) => self.answer(Reply::OpenError(OpenError::Negotiation(error))),
+        match self.held.run(&mut reads_left) {
+            Ok(OpeningPoll::Pending) => Ok(()),
+            Ok(OpeningPoll::Exchanged) => self.connect(at),
+            Ok(OpeningPoll::Failed(error)) => {
+                self.finish(Reply::OpenError(OpenError::Negotiation(error)))
+            }
             Err(error) => Err(error),
         }
     }
 
-    // The call begins an exchange.
-    fn open(&mut self, exchange: Authentication) -> Result<(), AllocError>
-        ensures ok { OnOk result (Advanced L.Link (record self.old { opening = begun self.old.opening exchange }) self.new) }
-        ensures alive { OnOk result (self.new.failed ≡ self.old.failed) }
-    {
-        self.opening.begin(exchange)?;
-        self.run()
-    }
-
     // The call begins no exchange.
     fn refuse(&mut self, error: NegotiationError) -> Result<(), AllocError>
-        ensures ok { OnOk result (self.new ≡ record self.old { opening = record self.old.opening { stage = Stage.Ended }; replies = self.old.replies ++ open_failed self.old.name (Negotiation error) ∷ [] }) }
+        requires { IsEarly self.old.held }
+        ensures ok { OnOk result (Refused self.old error self.new) }
+        ensures alive { self.new.failed ≡ self.old.failed }
     {
-        self.opening.end();
-        self.answer(Reply::OpenError(OpenError::Negotiation(error)))
+        self.held.end();
+        self.finish(Reply::OpenError(OpenError::Negotiation(error)))
     }
 
-    fn make(&mut self, name: u64, call: Call) -> Result<(), AllocError>
-        requires { MayCall self.old name call }
-        ensures ok { OnOk result ((at : ℕ) → Stepped L.Link self.old (Made at name call) self.new) }
-        ensures alive { OnOk result (self.new.failed ≡ self.old.failed) }
+    // An open or accept with a SASL layer begins.
+    fn begin_with(
+        &mut self,
+        at: u64,
+        prepared: Prepared,
+        sasl: SaslCall,
+    ) -> Result<(), AllocError>
+        requires early { IsEarly self.old.held }
+        requires allowed { IsAllowedSaslCall sasl }
+        ensures ok { OnOk result ((call : Call) → prepared_of call ≡ Some prepared → sasl_of call ≡ Some sasl → RestedFrom L.Link at (2 ^ 63) (IsAsked call self.old) self.old self.new) }
+        ensures alive { self.new.failed ≡ self.old.failed }
     {
-        self.name = name;
-        self.answer(Reply::Pending)?;
-        match exchange_for(self.alloc, call) {
-            Ok(exchange) => self.open(exchange),
+        match exchange_for(self.alloc, sasl) {
+            Ok(exchange) => match self.held.begin(exchange, prepared) {
+                Ok(()) => self.open(at),
+                Err(error) => Err(error),
+            },
             Err(error) => match memory_in(&error) {
                 Some(error) => Err(error),
                 None => self.refuse(error),
@@ -189,14 +418,129 @@ impl<L: Link> Peer<L> {
         }
     }
 
-    fn go_on(&mut self) -> Result<(), AllocError>
-        ensures ok { OnOk result ((at : ℕ) → Stepped L.Link self.old (Polled at) self.new) }
-        ensures alive { OnOk result (self.new.failed ≡ self.old.failed) }
+    // An open or accept without a SASL layer begins.
+    fn begin_plain(&mut self, at: u64, prepared: Prepared) -> Result<(), AllocError>
+        requires { IsEarly self.old.held }
+        ensures ok { OnOk result ((call : Call) → prepared_of call ≡ Some prepared → sasl_of call ≡ None → RestedFrom L.Link at (2 ^ 63) (IsAsked call self.old) self.old self.new) }
+        ensures alive { self.new.failed ≡ self.old.failed }
     {
-        if is_under_way(self.opening.stage()) {
-            self.run()
-        } else {
-            Ok(())
+        match self.held.begin_plain(prepared) {
+            Ok(()) => self.open(at),
+            Err(error) => Err(error),
+        }
+    }
+
+    // An open or accept begins.
+    fn begin(
+        &mut self,
+        at: u64,
+        prepared: Prepared,
+        sasl: Option<SaslCall>,
+    ) -> Result<(), AllocError>
+        requires early { IsEarly self.old.held }
+        requires allowed { IsAllowedLayer sasl }
+        ensures ok { OnOk result ((call : Call) → prepared_of call ≡ Some prepared → sasl_of call ≡ sasl → RestedFrom L.Link at (2 ^ 63) (IsAsked call self.old) self.old self.new) }
+        ensures alive { self.new.failed ≡ self.old.failed }
+    {
+        match sasl {
+            Some(sasl) => self.begin_with(at, prepared, sasl),
+            None => self.begin_plain(at, prepared),
+        }
+    }
+
+    // An open or accept of this name.
+    fn start(
+        &mut self,
+        at: u64,
+        name: u64,
+        prepared: Prepared,
+        sasl: Option<SaslCall>,
+    ) -> Result<(), AllocError>
+        requires early { IsEarly self.old.held }
+        requires allowed { IsAllowedLayer sasl }
+        ensures ok { OnOk result ((call : Call) → self.old.progress ≡ Progress.Idle → prepared_of call ≡ Some prepared → sasl_of call ≡ sasl → Stepped L.Link self.old (Made at name call) self.new) }
+        ensures alive { self.new.failed ≡ self.old.failed }
+    {
+        self.name = name;
+        self.progress = Progress::Opening;
+        self.answer(Reply::Pending)?;
+        self.begin(at, prepared, sasl)
+    }
+
+    // Queues a Close, unless one is queued or owed.
+    fn queue_close(&mut self, condition: Option<Symbol>) -> Result<(), AllocError>
+        requires { IsLate self.old.held }
+        ensures ok { OnOk result ((at : ℕ) → Advanced L.Link at 0 self.old self.new) }
+        ensures late { OnOk result (IsLate self.new.held) }
+        ensures alive { self.new.failed ≡ self.old.failed }
+    {
+        match self.held.close(error_for(condition)) {
+            Ok(()) => Ok(()),
+            Err(ConnectionError::Memory(error)) => Err(error),
+            Err(ConnectionError::IllegalState) => Ok(()),
+            Err(error) => {
+                self.note(error);
+                Ok(())
+            }
+        }
+    }
+
+    // A close waits where the connection has not stopped.
+    fn ask_close(&mut self, condition: Option<Symbol>) -> Result<(), AllocError>
+        requires { IsLate self.old.held }
+        ensures ok { OnOk result ((at : ℕ) → AdvancedFrom L.Link at 0 (IsAskedToClose self.old) self.old self.new) }
+        ensures late { OnOk result (IsLate self.new.held) }
+        ensures alive { self.new.failed ≡ self.old.failed }
+    {
+        if self.held.stop_reason().is_some() {
+            discard(condition);
+            return Ok(());
+        }
+        self.answer(Reply::Pending)?;
+        self.queue_close(condition)
+    }
+
+    // A close of this name; it is answered at once where the connection has stopped.
+    fn close(&mut self, at: u64, name: u64, condition: Option<Symbol>) -> Result<(), AllocError>
+        requires { IsLate self.old.held }
+        ensures ok { OnOk result (self.old.progress ≡ Progress.Open → Stepped L.Link self.old (Made at name (Call.Close condition)) self.new) }
+        ensures alive { self.new.failed ≡ self.old.failed }
+    {
+        self.name = name;
+        self.progress = Progress::Closing;
+        self.ask_close(condition)?;
+        self.go_on(at)
+    }
+
+    fn make(&mut self, at: u64, name: u64, call: Call) -> Result<(), AllocError>
+        requires { MayCall self.old name call }
+        ensures ok { OnOk result (Stepped L.Link self.old (Made at name call) self.new) }
+        ensures alive { self.new.failed ≡ self.old.failed }
+    {
+        match call {
+            Call::Open {
+                settings,
+                sasl_hostname,
+                sasl,
+            } => {
+                let sasl = client_sasl(sasl, sasl_hostname);
+                self.start(at, name, client_prepared(settings), sasl)
+            }
+            Call::Accept { settings, sasl } => {
+                self.start(at, name, listener_prepared(settings), listener_sasl(sasl))
+            }
+            Call::Close { error } => self.close(at, name, error),
+        }
+    }
+
+    fn run(&mut self, at: u64) -> Result<(), AllocError>
+        ensures ok { OnOk result (Stepped L.Link self.old (Polled at) self.new) }
+        ensures alive { self.new.failed ≡ self.old.failed }
+    {
+        match self.held.way() {
+            Way::Early => self.open(at),
+            Way::Late => self.go_on(at),
+            Way::Over => Ok(()),
         }
     }
 
@@ -209,11 +553,11 @@ impl<L: Link> Peer<L> {
         ensures memory { OnErr result (self.new.failed ≡ true) }
         ensures failed { IsErrOf result PeerError.Failed ↔ (self.old.failed ≡ true) }
     {
-        let _ = at;
         if self.failed {
+            discard(call);
             return Err(PeerError::Failed);
         }
-        match self.make(name, call) {
+        match self.make(at, name, call) {
             Ok(()) => Ok(()),
             Err(error) => {
                 self.failed = true;
@@ -230,11 +574,10 @@ impl<L: Link> Peer<L> {
         ensures memory { OnErr result (self.new.failed ≡ true) }
         ensures failed { IsErrOf result PeerError.Failed ↔ (self.old.failed ≡ true) }
     {
-        let _ = at;
         if self.failed {
             return Err(PeerError::Failed);
         }
-        match self.go_on() {
+        match self.run(at) {
             Ok(()) => Ok(()),
             Err(error) => {
                 self.failed = true;
@@ -248,21 +591,21 @@ impl<L: Link> Peer<L> {
         ensures taken { result ≡ self.old.replies }
         ensures left { self.new ≡ record self.old { replies = [] } }
     {
-        std::mem::replace(&mut self.replies, ReplyList::new(self.alloc))
+        mem::replace(&mut self.replies, ReplyList::new(self.alloc))
     }
 
     /// The link.
     pub fn link(&mut self) -> &mut L
-        ensures* writes_back { sem 𝓛 (Lends (the_row L.row L.Link) L.row self.entry result (λ w. with_link self.old w)) }
-        ensures value { result.now ≡ link_of self.old }
+        ensures* writes_back { sem 𝓛 (Lends (the_row L.row L.Link) L.row self.entry result (λ w. record self.old { held = with_link self.old.held w })) }
+        ensures value { (d : L) → result.now ≡ link_of d self.old }
     {
-        self.opening.link()
+        self.held.link()
     }
 
     /// The link, to be looked at.
     pub fn link_ref(&self) -> &L
-        ensures { result.now ≡ link_of self.now }
+        ensures { (d : L) → result.now ≡ link_of d self.now }
     {
-        self.opening.link_ref()
+        self.held.link_ref()
     }
 }

@@ -1,0 +1,364 @@
+-- A connection that goes on is still what its history says.
+use Rattle.std.proofs.Common.{◌≡◌, ◌≤◌, ◌+◌, ◌⊎◌, inl, inr, ℕ, List, [], ◌∷◌, ◌++◌, Bool, true, false, length, Option, Some, None, Result, Ok, Err, refl, sym, ap, ◌∙◌, subst, append_assoc, arith}
+use Rattle.std.proofs.lemmas.List.{append-nil}
+use Rattle.amqp_wire.specs.declared.link.Link.{Ghosts}
+use Rattle.amqp_transport.specs.declared.frames.Frame.{Frame}
+use Rattle.amqp_transport.specs.declared.transport.Error.{Error as TransportFault}
+use Rattle.amqp_engine.specs.declared.engine.EngineStep.TheVariants as step
+use Rattle.amqp_engine.specs.declared.error.Error.{Error as ConnectionFault}
+use Rattle.amqp_engine.specs.declared.error.Error.TheVariants as connection
+use Rattle.amqp_engine.specs.declared.phase.Phase.{Phase}
+use Rattle.amqp_engine.specs.declared.phase.Phase.TheVariants as p
+use Rattle.amqp_engine.specs.declared.phase.Rejection.{Rejection}
+use Rattle.amqp_engine.specs.Heard.{IsHeard}
+use Rattle.amqp_engine.specs.Outcomes.{IsMoment, IsOnward, IsRefusal, IsTold, Stepped}
+use Rattle.amqp_engine.specs.Phases.{state_of, has_failed}
+use Rattle.amqp_engine.specs.Sentence.{Ran}
+use Rattle.amqp_engine.specs.State.{State}
+use Rattle.amqp_words.specs.declared.call.Call.{Call}
+use Rattle.amqp_words.specs.declared.call.Call.TheVariants.{Close}
+use Rattle.amqp_words.specs.declared.reply.NamedReply.{NamedReply}
+use Rattle.amqp_peer.specs.declared.held.Held.{Held}
+use Rattle.amqp_peer.specs.declared.held.Held.TheVariants.{Early, Late, Unopened, Moving}
+use Rattle.amqp_peer.specs.declared.peer.Progress.{Progress}
+use Rattle.amqp_peer.specs.declared.peer.Progress.TheVariants as progress
+use Rattle.amqp_peer.specs.Causes.{BeginsWithOpen, IsOther, TransportCause, AllCaused, prepared_in, IsHeardOpen}
+use Rattle.amqp_peer.specs.Held.{is_made_state}
+use Rattle.amqp_peer.specs.History.{Local, made_in, link_in, given_in, sent_in, replied_in, moment_in, Once}
+use Rattle.amqp_peer.specs.Peering.{Peering, IsHeld, IsRunning, HasCalled, IsFaultless, IsUnheard, IsUnmadeAt, IsUnmade, IsFaultIn, IsMadeIn, EarlyFault, LateFault, HasNothing, IsWaiting, IsOpen, IsClosing, HasFailedOpen, HasClosed, HasIn}
+use Rattle.amqp_peer.specs.Prepared.{prepared_of}
+use Rattle.amqp_peer.specs.Runs.{first_fault}
+use Rattle.amqp_peer.proofs.Faulty.{transport_once}
+use Rattle.amqp_peer.proofs.Hears.{IsCloseAlone, greeted_begins, mistaken_other, made_begins, heard_length, begins_front, other_front, other_then, parted_short, close_begins_not, close_other_not}
+use Rattle.amqp_peer.proofs.Histories.{once_now, once_more, given_in-append}
+use Rattle.amqp_peer.proofs.Moved.{moved, passed, made_after, given_after, replied_after, running_grows, begins_more}
+
+-- ---- what was heard
+
+-- what an engine has heard after a run
+heard_after : {L : Type 0} (link : Ghosts L) (call : Call) (s s' : State L) (h : List Local) (r : Ran link s s') → IsRunning call s h → IsHeard s'.phase s'.reason (given_in (moved r ++ h))
+heard_after link call s s' h r k = subst (λ (xs : List Frame). IsHeard s'.phase s'.reason xs) (sym (given_after h (passed r))) (r.heard (given_in h) k.runs.heard)
+
+-- Open stays heard
+pub heard_open_more : {L : Type 0} {link : Ghosts L} {s s' : State L} (h : List Local) (r : Ran link s s') → BeginsWithOpen (given_in h) → BeginsWithOpen (given_in (moved r ++ h))
+heard_open_more h r o = subst BeginsWithOpen (sym (given_after h (passed r))) (begins_more (given_in h) r.given o)
+
+-- at most one frame is read
+one_frame : {L : Type 0} (at : ℕ) (s s' : State L) (given : List Frame) → IsMoment at s given s' → length given ≤ 1
+one_frame at s s' given (inl k) = omega (arith, ap length k.0)
+one_frame at s s' given (inr k) = omega (arith, ap length k.1.0)
+
+-- ---- where the connection is not made
+
+-- where something was heard before, nothing new comes first
+unheard_more : {L : Type 0} {link : Ghosts L} {s s' : State L} (h : List Local) (r : Ran link s s') → 1 ≤ length (given_in h) → (BeginsWithOpen (given_in h) → ⊥) → BeginsWithOpen (given_in (moved r ++ h)) → ⊥
+unheard_more h r n u o = u (begins_front (given_in h) r.given n (subst BeginsWithOpen (given_after h (passed r)) o))
+
+kept_more : {L : Type 0} {link : Ghosts L} {s s' : State L} (h : List Local) (r : Ran link s s') → 1 ≤ length (given_in h) → (IsOther (given_in h) → ⊥) → IsOther (given_in (moved r ++ h)) → ⊥
+kept_more h r n u o = u (other_front (given_in h) r.given n (subst IsOther (given_after h (passed r)) o))
+
+-- in place of Open a Close came
+close_first : {L : Type 0} (link : Ghosts L) (at : ℕ) (call : Call) (s s' : State L) (h : List Local) (r : Ran link s s') → IsMoment at s r.given s' → IsRunning call s h → s.phase ≡ p.OpenSent → s'.phase ≡ p.CloseReceived → IsCloseAlone (given_in (moved r ++ h))
+close_first link at call s s' h r m k e c =
+    let none : given_in h ≡ [] = (subst (λ (q : Phase). IsHeard q s.reason (given_in h)) e k.runs.heard).0 in
+    let g = given_after h (passed r) in
+    let n = one_frame at s s' r.given m in
+    parted_short s'.reason (given_in (moved r ++ h)) (omega (arith, ap length g, ap length (ap (λ (xs : List Frame). xs ++ r.given) none), n))
+        (subst (λ (q : Phase). IsHeard q s'.reason (given_in (moved r ++ h))) c (heard_after link call s s' h r k))
+
+-- the first frame that came is a Close, or one came before
+pub record IsBehind {L : Type 0} {link : Ghosts L} {s s' : State L} (h : List Local) (r : Ran link s s') : Type 0 where
+  pub either : IsCloseAlone (given_in (moved r ++ h)) ⊎ (1 ≤ length (given_in h))
+
+behind_in : {L : Type 0} (link : Ghosts L) (at : ℕ) (call : Call) (q : Phase) (s s' : State L) (h : List Local) (r : Ran link s s') → IsMoment at s r.given s' → IsRunning call s h → s.phase ≡ q → IsOnward q s'.phase → is_made_state (state_of s'.phase) ≡ false → IsBehind h r
+behind_in link at call p.OpenSent s s' h r m k e (inl o) n = absurd (cc (ap (λ (q : Phase). is_made_state (state_of q)) o, n))
+behind_in link at call p.OpenSent s s' h r m k e (inr o) n = record { either = inl (close_first link at call s s' h r m k e o) }
+behind_in link at call p.Opened s s' h r m k e o n = record { either = inr (heard_length s.phase s.reason (given_in h) k.runs.heard (ap has_failed e) (λ z. absurd (cc (e, z)))) }
+behind_in link at call p.CloseReceived s s' h r m k e o n = record { either = inr (heard_length s.phase s.reason (given_in h) k.runs.heard (ap has_failed e) (λ z. absurd (cc (e, z)))) }
+behind_in link at call p.Refused s s' h r m k e o n = record { either = inr (heard_length s.phase s.reason (given_in h) k.runs.heard (ap has_failed e) (λ z. absurd (cc (e, z)))) }
+behind_in link at call (p.Rejected why) s s' h r m k e o n = record { either = inr (heard_length s.phase s.reason (given_in h) k.runs.heard (ap has_failed e) (λ z. absurd (cc (e, z)))) }
+behind_in link at call p.CloseSent s s' h r m k e o n = record { either = inr (heard_length s.phase s.reason (given_in h) k.runs.heard (ap has_failed e) (λ z. absurd (cc (e, z)))) }
+behind_in link at call p.Discarding s s' h r m k e o n = record { either = inr (heard_length s.phase s.reason (given_in h) k.runs.heard (ap has_failed e) (λ z. absurd (cc (e, z)))) }
+behind_in link at call p.Ended s s' h r m k e o n = absurd o
+behind_in link at call p.Failed s s' h r m k e o n = absurd o
+
+behind_unheard : {L : Type 0} {link : Ghosts L} {s s' : State L} (h : List Local) (r : Ran link s s') → IsBehind h r → (BeginsWithOpen (given_in h) → ⊥) → BeginsWithOpen (given_in (moved r ++ h)) → ⊥
+behind_unheard h r b u o = elim b.either [
+  | inl c ↦ close_begins_not (given_in (moved r ++ h)) c o
+  | inr n ↦ unheard_more h r n u o
+]
+
+behind_kept : {L : Type 0} {link : Ghosts L} {s s' : State L} (h : List Local) (r : Ran link s s') → IsBehind h r → (IsOther (given_in h) → ⊥) → IsOther (given_in (moved r ++ h)) → ⊥
+behind_kept h r b u o = elim b.either [
+  | inl c ↦ close_other_not (given_in (moved r ++ h)) c o
+  | inr n ↦ kept_more h r n u o
+]
+
+pub onward_sound : (q r : Phase) → IsOnward q r → has_failed r ≡ false
+onward_sound p.OpenSent r (inl e) = ap has_failed e
+onward_sound p.OpenSent r (inr e) = ap has_failed e
+onward_sound p.Opened r o = o
+onward_sound p.CloseReceived r o = o
+onward_sound p.Refused r o = o
+onward_sound (p.Rejected why) r o = o
+onward_sound p.CloseSent r o = o
+onward_sound p.Discarding r o = o
+onward_sound p.Ended r o = absurd o
+onward_sound p.Failed r o = absurd o
+
+pub onward_from : (q r : Phase) → IsOnward q r → has_failed q ≡ false
+onward_from p.OpenSent r o = refl
+onward_from p.Opened r o = refl
+onward_from p.CloseReceived r o = refl
+onward_from p.Refused r o = refl
+onward_from (p.Rejected why) r o = refl
+onward_from p.CloseSent r o = refl
+onward_from p.Discarding r o = refl
+onward_from p.Ended r o = refl
+onward_from p.Failed r o = absurd o
+
+is_open_sent : (q : Phase) → (q ≡ p.OpenSent) ⊎ (q ≡ p.OpenSent → ⊥)
+is_open_sent p.OpenSent = inl refl
+is_open_sent p.Opened = inr (λ e. absurd (cc e))
+is_open_sent p.CloseReceived = inr (λ e. absurd (cc e))
+is_open_sent p.Refused = inr (λ e. absurd (cc e))
+is_open_sent (p.Rejected why) = inr (λ e. absurd (cc e))
+is_open_sent p.CloseSent = inr (λ e. absurd (cc e))
+is_open_sent p.Discarding = inr (λ e. absurd (cc e))
+is_open_sent p.Ended = inr (λ e. absurd (cc e))
+is_open_sent p.Failed = inr (λ e. absurd (cc e))
+
+-- where the phase stays, nothing was heard yet, or something was heard before
+still_in : {L : Type 0} (link : Ghosts L) (call : Call) (s s' : State L) (h : List Local) (r : Ran link s s') → IsRunning call s h → has_failed s.phase ≡ false → s'.phase ≡ s.phase → (s.phase ≡ p.OpenSent) ⊎ (s.phase ≡ p.OpenSent → ⊥) → (given_in (moved r ++ h) ≡ []) ⊎ (1 ≤ length (given_in h))
+still_in link call s s' h r k f e (inl o) = inl (subst (λ (q : Phase). IsHeard q s'.reason (given_in (moved r ++ h))) (e ∙ o) (heard_after link call s s' h r k)).0
+still_in link call s s' h r k f e (inr n) = inr (heard_length s.phase s.reason (given_in h) k.runs.heard f n)
+
+begins_not_nil : (xs : List Frame) → xs ≡ [] → BeginsWithOpen xs → ⊥
+begins_not_nil xs e o = omega (arith, ap length e, ap length o.is)
+
+other_not_nil : (xs : List Frame) → xs ≡ [] → IsOther xs → ⊥
+other_not_nil xs e o = omega (arith, ap length e, ap length o.is)
+
+still_unheard : {L : Type 0} (link : Ghosts L) (call : Call) (s s' : State L) (h : List Local) (r : Ran link s s') → IsRunning call s h → has_failed s.phase ≡ false → s'.phase ≡ s.phase → (BeginsWithOpen (given_in h) → ⊥) → BeginsWithOpen (given_in (moved r ++ h)) → ⊥
+still_unheard link call s s' h r k f e u o = elim (still_in link call s s' h r k f e (is_open_sent s.phase)) [
+  | inl z ↦ begins_not_nil (given_in (moved r ++ h)) z o
+  | inr n ↦ unheard_more h r n u o
+]
+
+still_kept : {L : Type 0} (link : Ghosts L) (call : Call) (s s' : State L) (h : List Local) (r : Ran link s s') → IsRunning call s h → has_failed s.phase ≡ false → s'.phase ≡ s.phase → (IsOther (given_in h) → ⊥) → IsOther (given_in (moved r ++ h)) → ⊥
+still_kept link call s s' h r k f e u o = elim (still_in link call s s' h r k f e (is_open_sent s.phase)) [
+  | inl z ↦ other_not_nil (given_in (moved r ++ h)) z o
+  | inr n ↦ kept_more h r n u o
+]
+
+-- ---- an open or accept that waits, and a connection that is made
+
+-- where the phase stays
+pub unmade_same : {L : Type 0} (link : Ghosts L) (call : Call) (fault : Option ConnectionFault) (s s' : State L) (h : List Local) (r : Ran link s s') → IsRunning call s h → s'.phase ≡ s.phase → IsUnmadeAt fault s h → IsUnmadeAt fault s' (moved r ++ h)
+unmade_same link call None s s' h r k e u =
+    record { unheard = still_unheard link call s s' h r k u.sound e u.unheard; kept = still_kept link call s s' h r k u.sound e u.kept; sound = ap has_failed e ∙ u.sound }
+unmade_same link call (Some f) s s' h r k e u =
+    (once_more (EarlyFault f) (moved r) h u.0, λ z. let y = sym (ap has_failed e) ∙ z in still_unheard link call s s' h r k y e (u.1 y))
+
+pub fault_same : {L : Type 0} {link : Ghosts L} (fault : Option ConnectionFault) (s s' : State L) (h : List Local) (r : Ran link s s') → s'.phase ≡ s.phase → IsFaultIn fault s h → IsFaultIn fault s' (moved r ++ h)
+fault_same None s s' h r e f = ap has_failed e ∙ f
+fault_same (Some x) s s' h r e f = once_more (LateFault x) (moved r) h f
+
+-- where a step worked
+pub unmade_worked : {L : Type 0} (link : Ghosts L) (at : ℕ) (call : Call) (fault : Option ConnectionFault) (s s' : State L) (h : List Local) (r : Ran link s s') → IsMoment at s r.given s' → IsRunning call s h → IsOnward s.phase s'.phase → is_made_state (state_of s'.phase) ≡ false → IsUnmadeAt fault s h → IsUnmadeAt fault s' (moved r ++ h)
+unmade_worked link at call None s s' h r m k o n u =
+    let b = behind_in link at call s.phase s s' h r m k refl o n in
+    record { unheard = behind_unheard h r b u.unheard; kept = behind_kept h r b u.kept; sound = onward_sound s.phase s'.phase o }
+unmade_worked link at call (Some f) s s' h r m k o n u =
+    (once_more (EarlyFault f) (moved r) h u.0, λ z. behind_unheard h r (behind_in link at call s.phase s s' h r m k refl o n) (u.1 (onward_from s.phase s'.phase o)))
+
+pub fault_worked : {L : Type 0} {link : Ghosts L} (fault : Option ConnectionFault) (s s' : State L) (h : List Local) (r : Ran link s s') → IsOnward s.phase s'.phase → IsFaultIn fault s h → IsFaultIn fault s' (moved r ++ h)
+fault_worked None s s' h r o f = onward_sound s.phase s'.phase o
+fault_worked (Some x) s s' h r o f = once_more (LateFault x) (moved r) h f
+
+-- where the connection is made by it: a fault from before is one of a made connection
+late_of_early : (e : ConnectionFault) (h : List Local) → BeginsWithOpen (given_in h) → Once (EarlyFault e) h → Once (LateFault e) h
+late_of_early (connection.Memory a) h o u = absurd u.held
+late_of_early (connection.TransportError t) h o u = record { later = u.later; earlier = u.earlier; split = u.split; held = u.held }
+late_of_early connection.IllegalState h o u =
+    absurd (other_then (given_in u.earlier) (given_in u.later) u.held (subst BeginsWithOpen (ap given_in u.split ∙ given_in-append u.later u.earlier) o))
+late_of_early connection.NotImplemented h o u = absurd u.held
+late_of_early connection.NotFound h o u = absurd u.held
+late_of_early connection.RemoteClosed h o u = absurd u.held
+late_of_early (connection.RemoteClosedWithError e) h o u = absurd u.held
+
+pub made_worked : {L : Type 0} (link : Ghosts L) (call : Call) (fault : Option ConnectionFault) (s s' : State L) (h : List Local) (r : Ran link s s') → IsRunning call s h → IsOnward s.phase s'.phase → is_made_state (state_of s'.phase) ≡ true → IsUnmadeAt fault s h → BeginsWithOpen (given_in (moved r ++ h)) × IsFaultIn fault s' (moved r ++ h)
+made_worked link call None s s' h r k o e u = (made_begins s'.phase s'.reason (given_in (moved r ++ h)) e (heard_after link call s s' h r k), onward_sound s.phase s'.phase o)
+made_worked link call (Some f) s s' h r k o e u =
+    let b = made_begins s'.phase s'.reason (given_in (moved r ++ h)) e (heard_after link call s s' h r k) in
+    (b, late_of_early f (moved r ++ h) b (once_more (EarlyFault f) (moved r) h u.0))
+
+-- the frame that made it came in this step
+unheard_of : {L : Type 0} (fault : Option ConnectionFault) (s : State L) (h : List Local) → IsUnmadeAt fault s h → has_failed s.phase ≡ false → BeginsWithOpen (given_in h) → ⊥
+unheard_of None s h u e = u.unheard
+unheard_of (Some f) s h u e = u.1 e
+
+came_now : (xs ys : List Frame) → (BeginsWithOpen xs → ⊥) → BeginsWithOpen (xs ++ ys) → 1 ≤ length ys
+came_now xs [] u o = absurd (u (subst BeginsWithOpen (append-nil xs) o))
+came_now xs (y ∷ ys) u o = omega arith
+
+pub made_came : {L : Type 0} (link : Ghosts L) (call : Call) (fault : Option ConnectionFault) (s s' : State L) (h : List Local) (r : Ran link s s') → IsRunning call s h → IsOnward s.phase s'.phase → is_made_state (state_of s'.phase) ≡ true → IsUnmadeAt fault s h → 1 ≤ length r.given
+made_came link call fault s s' h r k o e u =
+    came_now (given_in h) r.given (unheard_of fault s h u (onward_from s.phase s'.phase o))
+    (subst BeginsWithOpen (given_after h (passed r)) (made_begins s'.phase s'.reason (given_in (moved r ++ h)) e (heard_after link call s s' h r k)))
+
+-- ---- faults
+
+-- a frame that is refused in place of Open
+refused_other : {L : Type 0} (link : Ghosts L) (call : Call) (s s' : State L) (h : List Local) (r : Ran link s s') → IsRunning call s h → s'.phase ≡ p.Refused → IsOther (given_in (moved r ++ h))
+refused_other link call s s' h r k e = mistaken_other s'.reason (given_in (moved r ++ h)) (subst (λ (q : Phase). IsHeard q s'.reason (given_in (moved r ++ h))) e (heard_after link call s s' h r k))
+
+opened_heard : {L : Type 0} (call : Call) (s : State L) (h : List Local) → IsRunning call s h → s.phase ≡ p.Opened → BeginsWithOpen (given_in h)
+opened_heard call s h k e = greeted_begins (given_in h) (subst (λ (q : Phase). IsHeard q s.reason (given_in h)) e k.runs.heard).0
+
+refusal_other : {L : Type 0} (link : Ghosts L) (call : Call) (q : Phase) (e : ConnectionFault) (s s' : State L) (h : List Local) (r : Ran link s s') → IsRunning call s h → IsFaultless s h → s.phase ≡ q → IsRefusal e q s'.phase → (e ≡ connection.IllegalState) × IsOther (given_in (moved r ++ h))
+refusal_other link call p.OpenSent e s s' h r k f z c = (c.0, refused_other link call s s' h r k c.1)
+refusal_other link call p.Opened e s s' h r k f z c = absurd (f.unheard (opened_heard call s h k z))
+refusal_other link call p.CloseReceived e s s' h r k f z c = absurd c
+refusal_other link call p.Refused e s s' h r k f z c = absurd c
+refusal_other link call (p.Rejected why) e s s' h r k f z c = absurd c
+refusal_other link call p.CloseSent e s s' h r k f z c = absurd c
+refusal_other link call p.Discarding e s s' h r k f z c = absurd c
+refusal_other link call p.Ended e s s' h r k f z c = absurd c
+refusal_other link call p.Failed e s s' h r k f z c = absurd c
+
+early_cause : {L : Type 0} (link : Ghosts L) (at : ℕ) (call : Call) (e : ConnectionFault) (s s' : State L) (h : List Local) (st : Stepped link at s (Err e) s') → IsRunning call s h → IsFaultless s h → prepared_in (made_in h) ≡ prepared_of call → moment_in h ≡ at → (a : (x : _) → e ≡ connection.Memory x → ⊥) → Once (EarlyFault e) (moved st.run ++ h)
+early_cause link at call (connection.Memory x) s s' h st k f prep m a = absurd (a x refl)
+early_cause link at call (connection.TransportError t) s s' h st k f prep m a = transport_once link at call s s' h st.run (EarlyFault (connection.TransportError t)) t (λ g c. c) k prep m (st.told.2 k.calm)
+early_cause link at call connection.IllegalState s s' h st k f prep m a = once_now (EarlyFault connection.IllegalState) (moved st.run ++ h) (refusal_other link call s.phase connection.IllegalState s s' h st.run k f refl st.told.1).1
+early_cause link at call connection.NotImplemented s s' h st k f prep m a = absurd (cc (refusal_other link call s.phase connection.NotImplemented s s' h st.run k f refl st.told.1).0)
+early_cause link at call connection.NotFound s s' h st k f prep m a = absurd (cc (refusal_other link call s.phase connection.NotFound s s' h st.run k f refl st.told.1).0)
+early_cause link at call connection.RemoteClosed s s' h st k f prep m a = absurd st.told
+early_cause link at call (connection.RemoteClosedWithError x) s s' h st k f prep m a = absurd st.told
+
+-- after a frame that is refused Open is not heard either
+refusal_unheard : {L : Type 0} (link : Ghosts L) (call : Call) (q : Phase) (e : ConnectionFault) (s s' : State L) (h : List Local) (r : Ran link s s') → IsRunning call s h → IsUnheard s h → s.phase ≡ q → IsRefusal e q s'.phase → BeginsWithOpen (given_in (moved r ++ h)) → ⊥
+refusal_unheard link call p.OpenSent e s s' h r k f z c o = other_then (given_in (moved r ++ h)) [] (refused_other link call s s' h r k c.1) (subst BeginsWithOpen (sym (append-nil (given_in (moved r ++ h)))) o)
+refusal_unheard link call p.Opened e s s' h r k f z c o = f (ap has_failed z) (opened_heard call s h k z)
+refusal_unheard link call p.CloseReceived e s s' h r k f z c o = c
+refusal_unheard link call p.Refused e s s' h r k f z c o = c
+refusal_unheard link call (p.Rejected why) e s s' h r k f z c o = c
+refusal_unheard link call p.CloseSent e s s' h r k f z c o = c
+refusal_unheard link call p.Discarding e s s' h r k f z c o = c
+refusal_unheard link call p.Ended e s s' h r k f z c o = c
+refusal_unheard link call p.Failed e s s' h r k f z c o = c
+
+refused_unheard : {L : Type 0} (link : Ghosts L) (at : ℕ) (call : Call) (e : ConnectionFault) (s s' : State L) (h : List Local) (st : Stepped link at s (Err e) s') → (a : (x : _) → e ≡ connection.Memory x → ⊥) → IsRunning call s h → IsUnheard s h → has_failed s'.phase ≡ false → BeginsWithOpen (given_in (moved st.run ++ h)) → ⊥
+refused_unheard link at call (connection.Memory x) s s' h st a k f z o = a x refl
+refused_unheard link at call (connection.TransportError t) s s' h st a k f z o = absurd (cc (st.told.0, z))
+refused_unheard link at call connection.IllegalState s s' h st a k f z o = refusal_unheard link call s.phase connection.IllegalState s s' h st.run k f refl st.told.1 o
+refused_unheard link at call connection.NotImplemented s s' h st a k f z o = refusal_unheard link call s.phase connection.NotImplemented s s' h st.run k f refl st.told.1 o
+refused_unheard link at call connection.NotFound s s' h st a k f z o = refusal_unheard link call s.phase connection.NotFound s s' h st.run k f refl st.told.1 o
+refused_unheard link at call connection.RemoteClosed s s' h st a k f z o = absurd st.told
+refused_unheard link at call (connection.RemoteClosedWithError x) s s' h st a k f z o = absurd st.told
+
+pub unmade_failed : {L : Type 0} (link : Ghosts L) (at : ℕ) (call : Call) (fault : Option ConnectionFault) (e : ConnectionFault) (s s' : State L) (h : List Local) (st : Stepped link at s (Err e) s') → IsRunning call s h → prepared_in (made_in h) ≡ prepared_of call → moment_in h ≡ at → (a : (x : _) → e ≡ connection.Memory x → ⊥)
+    → IsUnmadeAt fault s h → IsUnmadeAt (first_fault fault e) s' (moved st.run ++ h)
+unmade_failed link at call None e s s' h st k prep m a u = early_cause link at call e s s' h st k u prep m a
+unmade_failed link at call (Some f) e s s' h st k prep m a u = (once_more (EarlyFault f) (moved st.run) h u.0, refused_unheard link at call e s s' h st a k u.1)
+
+late_cause : {L : Type 0} (link : Ghosts L) (at : ℕ) (call : Call) (e : ConnectionFault) (s s' : State L) (h : List Local) (st : Stepped link at s (Err e) s') → IsRunning call s h → BeginsWithOpen (given_in h) → prepared_in (made_in h) ≡ prepared_of call → moment_in h ≡ at → (a : (x : _) → e ≡ connection.Memory x → ⊥) → Once (LateFault e) (moved st.run ++ h)
+late_cause link at call (connection.Memory x) s s' h st k o prep m a = absurd (a x refl)
+late_cause link at call (connection.TransportError t) s s' h st k o prep m a = transport_once link at call s s' h st.run (LateFault (connection.TransportError t)) t (λ g c. c) k prep m (st.told.2 k.calm)
+late_cause link at call connection.IllegalState s s' h st k o prep m a = once_now (LateFault connection.IllegalState) (moved st.run ++ h) (heard_open_more h st.run o)
+late_cause link at call connection.NotImplemented s s' h st k o prep m a = once_now (LateFault connection.NotImplemented) (moved st.run ++ h) (heard_open_more h st.run o)
+late_cause link at call connection.NotFound s s' h st k o prep m a = once_now (LateFault connection.NotFound) (moved st.run ++ h) (heard_open_more h st.run o)
+late_cause link at call connection.RemoteClosed s s' h st k o prep m a = absurd st.told
+late_cause link at call (connection.RemoteClosedWithError x) s s' h st k o prep m a = absurd st.told
+
+pub fault_failed : {L : Type 0} (link : Ghosts L) (at : ℕ) (call : Call) (fault : Option ConnectionFault) (e : ConnectionFault) (s s' : State L) (h : List Local) (st : Stepped link at s (Err e) s') → IsRunning call s h → BeginsWithOpen (given_in h) → prepared_in (made_in h) ≡ prepared_of call → moment_in h ≡ at → (a : (x : _) → e ≡ connection.Memory x → ⊥)
+    → IsFaultIn fault s h → IsFaultIn (first_fault fault e) s' (moved st.run ++ h)
+fault_failed link at call None e s s' h st k o prep m a u = late_cause link at call e s s' h st k o prep m a
+fault_failed link at call (Some f) e s s' h st k o prep m a u = once_more (LateFault f) (moved st.run) h u
+
+-- ---- an end whose connection went on
+
+-- the connection of an end
+pub is_running : {L : Type 0} (call : Call) (held : Held L) (s : State L) (h : List Local) → held ≡ Late s → HasCalled call held h → IsRunning call s h
+is_running {L} call held s h e c = subst (λ (x : Held L). IsHeld call x h) e c.holds
+
+called_moves : {L : Type 0} (link : Ghosts L) (at : ℕ) (call : Call) (held : Held L) (s s' : State L) (h : List Local) (r : Ran link s s') → IsMoment at s r.given s' → moment_in h ≡ at → held ≡ Late s → HasCalled call held h → HasCalled call (Late s') (moved r ++ h)
+called_moves link at call held s s' h r m t e c = record { holds = running_grows link at call s s' h r m t (is_running call held s h e c); caused = (passed r).caused h c.caused }
+
+-- Whatever becomes of its fault: the same calls, the same replies.
+pub waiting_moves : {L : Type 0} (link : Ghosts L) (at : ℕ) (old : Peering L) (s s' : State L) (fault : Option ConnectionFault) (h : List Local) (r : Ran link s s') → IsMoment at s r.given s' → moment_in h ≡ at → old.held ≡ Late s
+    → ((call : Call) → IsRunning call s h → prepared_in (made_in h) ≡ prepared_of call → IsUnmadeAt old.fault s h → IsUnmadeAt fault s' (moved r ++ h))
+    → IsWaiting old h → IsWaiting (record old { held = Late s'; fault = fault }) (moved r ++ h)
+waiting_moves {L} link at old s s' fault h r m t e f w =
+    record {
+      call = w.call;
+      made = made_after h (passed r) ∙ w.made;
+      replied = replied_after h (passed r) ∙ w.replied;
+      called = called_moves link at w.call old.held s s' h r m t e w.called;
+      unmade = f w.call (is_running w.call old.held s h e w.called) (ap prepared_in w.made) (subst (λ (x : Held L). IsUnmade old.fault x h) e w.unmade);
+    }
+
+pub open_moves : {L : Type 0} (link : Ghosts L) (at : ℕ) (old : Peering L) (s s' : State L) (fault : Option ConnectionFault) (h : List Local) (r : Ran link s s') → IsMoment at s r.given s' → moment_in h ≡ at → old.held ≡ Late s
+    → ((call : Call) → IsRunning call s h → prepared_in (made_in h) ≡ prepared_of call → BeginsWithOpen (given_in h) → IsFaultIn old.fault s h → IsFaultIn fault s' (moved r ++ h))
+    → IsOpen old h → IsOpen (record old { held = Late s'; fault = fault }) (moved r ++ h)
+open_moves {L} link at old s s' fault h r m t e g w =
+    let i : BeginsWithOpen (given_in h) × IsFaultIn old.fault s h = subst (λ (x : Held L). IsMadeIn old.fault x h) e w.is_made in
+    record {
+      call = w.call;
+      name = w.name;
+      made = made_after h (passed r) ∙ w.made;
+      replied = replied_after h (passed r) ∙ w.replied;
+      called = called_moves link at w.call old.held s s' h r m t e w.called;
+      is_made = (heard_open_more h r i.0, g w.call (is_running w.call old.held s h e w.called) (ap prepared_in w.made) i.0 i.1);
+    }
+
+pub closing_moves : {L : Type 0} (link : Ghosts L) (at : ℕ) (old : Peering L) (s s' : State L) (fault : Option ConnectionFault) (h : List Local) (r : Ran link s s') → IsMoment at s r.given s' → moment_in h ≡ at → old.held ≡ Late s
+    → ((call : Call) → IsRunning call s h → prepared_in (made_in h) ≡ prepared_of call → BeginsWithOpen (given_in h) → IsFaultIn old.fault s h → IsFaultIn fault s' (moved r ++ h))
+    → IsClosing old h → IsClosing (record old { held = Late s'; fault = fault }) (moved r ++ h)
+closing_moves {L} link at old s s' fault h r m t e g w =
+    let i : BeginsWithOpen (given_in h) × IsFaultIn old.fault s h = subst (λ (x : Held L). IsMadeIn old.fault x h) e w.is_made in
+    record {
+      call = w.call;
+      name = w.name;
+      error = w.error;
+      made = made_after h (passed r) ∙ w.made;
+      replied = elim w.replied [ inl z ↦ inl (replied_after h (passed r) ∙ z) | inr z ↦ inr (replied_after h (passed r) ∙ z) ];
+      called = called_moves link at w.call old.held s s' h r m t e w.called;
+      is_made = (heard_open_more h r i.0, g w.call (is_running w.call old.held s h e w.called) (ap prepared_in w.made) i.0 i.1);
+    }
+
+pub over_moves : {L : Type 0} (link : Ghosts L) (at : ℕ) (old : Peering L) (s s' : State L) (fault : Option ConnectionFault) (h : List Local) (r : Ran link s s') → IsMoment at s r.given s' → moment_in h ≡ at → old.held ≡ Late s
+    → HasFailedOpen old h ⊎ HasClosed old h → HasFailedOpen (record old { held = Late s'; fault = fault }) (moved r ++ h) ⊎ HasClosed (record old { held = Late s'; fault = fault }) (moved r ++ h)
+over_moves link at old s s' fault h r m t e (inl w) =
+    inl (record {
+      call = w.call;
+      name = w.name;
+      error = w.error;
+      made = made_after h (passed r) ∙ w.made;
+      replied = replied_after h (passed r) ∙ w.replied;
+      called = called_moves link at w.call old.held s s' h r m t e w.called;
+      done = λ z. z;
+    })
+over_moves link at old s s' fault h r m t e (inr w) =
+    inr (record {
+      call = w.call;
+      name = w.name;
+      closing = w.closing;
+      error = w.error;
+      reply = w.reply;
+      made = made_after h (passed r) ∙ w.made;
+      end = w.end;
+      replied = elim w.replied [ inl z ↦ inl (replied_after h (passed r) ∙ z) | inr z ↦ inr (replied_after h (passed r) ∙ z) ];
+      called = called_moves link at w.call old.held s s' h r m t e w.called;
+      done = λ z. z;
+    })
+
+pub moves_in : {L : Type 0} (link : Ghosts L) (at : ℕ) (q : Progress) (old : Peering L) (s s' : State L) (fault : Option ConnectionFault) (h : List Local) (r : Ran link s s') → IsMoment at s r.given s' → moment_in h ≡ at → old.held ≡ Late s
+    → ((call : Call) → IsRunning call s h → prepared_in (made_in h) ≡ prepared_of call → IsUnmadeAt old.fault s h → IsUnmadeAt fault s' (moved r ++ h))
+    → ((call : Call) → IsRunning call s h → prepared_in (made_in h) ≡ prepared_of call → BeginsWithOpen (given_in h) → IsFaultIn old.fault s h → IsFaultIn fault s' (moved r ++ h))
+    → HasIn q old h → HasIn q (record old { held = Late s'; fault = fault }) (moved r ++ h)
+moves_in link at progress.Idle old s s' fault h r m t e f g n = absurd (cc (sym e ∙ n.holds))
+moves_in link at progress.Opening old s s' fault h r m t e f g w = waiting_moves link at old s s' fault h r m t e f w
+moves_in link at progress.Open old s s' fault h r m t e f g w = open_moves link at old s s' fault h r m t e g w
+moves_in link at progress.Closing old s s' fault h r m t e f g w = closing_moves link at old s s' fault h r m t e g w
+moves_in link at progress.Over old s s' fault h r m t e f g w = over_moves link at old s s' fault h r m t e w

@@ -1,0 +1,361 @@
+-- How the calls of an end begin.
+use Rattle.std.proofs.Common.{◌≡◌, ◌≤◌, ◌+◌, ◌^◌, ◌⊎◌, inl, inr, ℕ, List, [], ◌∷◌, ◌++◌, Bool, true, false, length, Option, Some, None, Result, Ok, Err, refl, sym, ap, ◌∙◌, subst, append_assoc, arith}
+use Rattle.std.proofs.lemmas.List.{append-nil}
+use Rattle.amqp_wire.specs.declared.link.Link.{Ghosts}
+use Rattle.amqp_wire.specs.Events.{LinkEvent, Went, reads_in, read_of, wrote_of}
+use Rattle.amqp_composites.specs.declared.error.Error.{Error as AmqpError}
+use Rattle.amqp_engine.specs.declared.error.Error.{Error as ConnectionFault}
+use Rattle.amqp_engine.specs.declared.error.Error.TheVariants as connection
+use Rattle.amqp_transport.specs.declared.transport.Error.TheVariants as transport
+use Rattle.amqp_engine.specs.Calls.{IsTooLarge}
+use Rattle.amqp_engine.specs.Outcomes.{HasClosed as EngineClosed}
+use Rattle.amqp_engine.specs.Phases.{has_failed}
+use Rattle.amqp_engine.specs.Sentence.{Ran}
+use Rattle.amqp_engine.specs.State.{State, closing, close_frame, close_phase}
+use Rattle.sasl_gate.specs.declared.gate.error.NegotiationError.{NegotiationError}
+use Rattle.sasl_gate.specs.declared.gate.error.NegotiationError.TheVariants as negotiation
+use Rattle.sasl_gate.specs.Negotiation.{Has as NegotiationHas}
+use Rattle.amqp_opening.specs.declared.authentication.Authentication.{Authentication}
+use Rattle.amqp_opening.specs.declared.authentication.SaslCall.{SaslCall}
+use Rattle.amqp_opening.specs.declared.opening.Stage.{Stage}
+use Rattle.amqp_opening.specs.declared.opening.Stage.TheVariants as stage
+use Rattle.amqp_opening.specs.Authentication.{peer_mechanism, MadeFor, holds_by, IsCallRefusal, HasAllowedTexts}
+use Rattle.amqp_opening.specs.Opening.{Opened, begun, begun_plain, IsMemoryIn}
+use Rattle.amqp_opening.proofs.Exchanges.{gated_nothing}
+use Rattle.amqp_opening.proofs.Openings.{has_begun, has_begun_plain}
+use Rattle.amqp_words.specs.declared.call.Call.{Call}
+use Rattle.amqp_words.specs.declared.call.Call.TheVariants.{Close}
+use Rattle.amqp_words.specs.declared.open_error.OpenError.TheVariants as open
+use Rattle.amqp_words.specs.declared.reply.Reply.TheVariants as reply
+use Rattle.amqp_words.specs.declared.reply.NamedReply.{NamedReply}
+use Rattle.amqp_peer.specs.declared.held.Held.{Held}
+use Rattle.amqp_peer.specs.declared.held.Held.TheVariants.{Early, Late, Unopened, Moving}
+use Rattle.amqp_peer.specs.declared.peer.Progress.{Progress}
+use Rattle.amqp_peer.specs.declared.peer.Progress.TheVariants as progress
+use Rattle.amqp_peer.specs.declared.prepared.Prepared.{Prepared}
+use Rattle.amqp_peer.specs.Causes.{closing as own_closing, MadeIn, IsOpenCause, not_allowed, OpenCauseIn, AllCaused, prepared_in}
+use Rattle.amqp_peer.specs.Gated.{IsTalk, IsGatedIn}
+use Rattle.amqp_peer.specs.Held.{IsReadyWith, IsBusyWith, IsBusy, IsActive, link_at, EndedEarly}
+use Rattle.amqp_peer.specs.History.{Local, Made, Polled, Replied, made_in, link_in, given_in, sent_in, replied_in, moment_in, IsInside, read_in, wrote_in}
+use Rattle.amqp_peer.specs.Peering.{Peering, Has, HasIn, HasCalled, IsHeld, IsHeldAt, IsRunning, IsExchanging, IsUntouched, IsWaiting, IsOpen, IsClosing, HasNothing, HasFailedOpen, HasClosed, HasWritten, IsMadeIn, IsFaultIn, LateFault, link_of}
+use Rattle.amqp_peer.specs.Prepared.{prepared_of, sasl_of}
+use Rattle.amqp_peer.specs.Replies.{pending, connection as made_reply, open_failed}
+use Rattle.amqp_peer.specs.Runs.{AdvancedFrom, Advanced, RestedFrom, Rested, Stepped, IsAsked, IsAskedToClose, Refused, told, error_for, first_fault}
+use Rattle.amqp_peer.proofs.Advances.{called_keeps, settled_left, went_late}
+use Rattle.amqp_peer.proofs.Grows.{closing_moves, fault_same}
+use Rattle.amqp_peer.proofs.Quiet.{quiet_replied, quiet_made, called_quiet, made_quiet, has_polled}
+use Rattle.amqp_peer.proofs.Histories.{inside-append, link_in-append, given_in-append, sent_in-append, replied_in-append, once_more}
+use Rattle.amqp_peer.proofs.Moved.{moved, passed}
+
+-- ---- an open or accept
+
+-- what an end holds that was asked for it
+asked_early : {L : Type 0} → Opened L Authentication → Held L → Opened L Authentication
+asked_early d (Early o p) = o
+asked_early d (Late s) = d
+asked_early d (Unopened c) = d
+asked_early d Moving = d
+
+untouched_of : {L : Type 0} (call : Call) (old : Peering L) (o : Opened L Authentication) (p : Option Prepared) (h : List Local) → old.held ≡ Early o p → IsAsked call old h → IsUntouched o
+untouched_of {L} call old o p h e a = subst (λ (x : Opened L Authentication). IsUntouched x) (sym (ap (asked_early o) (sym e ∙ a.holds))) a.untouched
+
+-- an exchange of headers has begun
+begins : {L : Type 0} (call : Call) (old : Peering L) (o : Opened L Authentication) (p : Prepared) (h : List Local) → IsAsked call old h → prepared_of call ≡ Some p → MadeIn (sasl_of call) o.has_sasl o.negotiation.exchange → IsHeldAt o.stage call o (Some p) h
+    → HasIn old.progress (record old { held = Early o (Some p) }) h
+begins {L} call old o p h a e m k =
+    subst (λ (q : Progress). HasIn q (record old { held = Early o (Some p) }) h) (sym a.progress)
+    (record { call = call; made = a.made; replied = a.replied; called = record { holds = k; caused = a.caused }; unmade = a.fault })
+
+pub begins_with : {L : Type 0} (link : Ghosts L) (at n : ℕ) (call : Call) (old new : Peering L) (o : Opened L Authentication) (p0 : Option Prepared) (p : Prepared) (c : SaslCall) (x : Authentication) → old.held ≡ Early o p0 → prepared_of call ≡ Some p → sasl_of call ≡ Some c → MadeFor c x → holds_by x [] []
+    → Rested link at n (record old { held = Early (begun o x) (Some p) }) new → RestedFrom link at n (IsAsked call old) old new
+begins_with {L} link at n call old new o p0 p c x e prep sasl made held r =
+    record {
+      run = record {
+        events = r.run.events;
+        inside = r.run.inside;
+        went = λ d. subst (λ (z : L). Went link z (link_in r.run.events) (link_of d new)) (sym (ap (link_at d) e)) (r.run.went d);
+        answers = r.run.answers;
+        few = r.run.few;
+        kind = r.run.kind;
+        grows = λ h t a.
+            let u = untouched_of call old o p0 h e a in
+            let m : MadeIn (sasl_of call) true x = subst (λ (z : Option SaslCall). MadeIn z true x) (sym sasl) (refl, made) in
+            let k : IsExchanging call (begun o x) (Some p) h = record { made = m; prepared = prep; opening = has_begun peer_mechanism o x (link_in h) held u.input u.output u.phase a.link; given = a.given; sent = a.sent } in
+            r.run.grows h t (begins call old (begun o x) p h a prep m k);
+      };
+      settled = r.settled;
+    }
+
+pub begins_plain : {L : Type 0} (link : Ghosts L) (at n : ℕ) (call : Call) (old new : Peering L) (o : Opened L Authentication) (p0 : Option Prepared) (p : Prepared) → old.held ≡ Early o p0 → prepared_of call ≡ Some p → sasl_of call ≡ None
+    → Rested link at n (record old { held = Early (begun_plain o) (Some p) }) new → RestedFrom link at n (IsAsked call old) old new
+begins_plain {L} link at n call old new o p0 p e prep sasl r =
+    record {
+      run = record {
+        events = r.run.events;
+        inside = r.run.inside;
+        went = λ d. subst (λ (z : L). Went link z (link_in r.run.events) (link_of d new)) (sym (ap (link_at d) e)) (r.run.went d);
+        answers = r.run.answers;
+        few = r.run.few;
+        kind = r.run.kind;
+        grows = λ h t a.
+            let u = untouched_of call old o p0 h e a in
+            let m : MadeIn (sasl_of call) false o.negotiation.exchange = subst (λ (z : Option SaslCall). MadeIn z false o.negotiation.exchange) (sym sasl) refl in
+            let k : IsExchanging call (begun_plain o) (Some p) h = record { made = m; prepared = prep; opening = has_begun_plain peer_mechanism o (link_in h) u.input u.output a.link; given = a.given; sent = a.sent } in
+            r.run.grows h t (begins call old (begun_plain o) p h a prep m k);
+      };
+      settled = r.settled;
+    }
+
+ended_done_at : {L : Type 0} {o : Opened L Authentication} (p : Option Prepared) → IsBusyWith (record o { stage = stage.Ended }) p → ⊥
+ended_done_at None z = z
+ended_done_at (Some p) z = z
+
+ended_not_at : {L : Type 0} {o : Opened L Authentication} (p : Option Prepared) → IsReadyWith (record o { stage = stage.Ended }) p → ⊥
+ended_not_at None z = z
+ended_not_at (Some p) z = z
+
+-- an open or accept is refused before anything is written
+nothing_written : (call : Call) (c : SaslCall) (h : List Local) → sasl_of call ≡ Some c → link_in h ≡ [] → HasWritten call h
+nothing_written call c h e l = subst (λ (z : Option SaslCall). IsGatedIn z (wrote_in h) (read_in h)) (sym e) (gated_nothing IsTalk c (wrote_in h) (read_in h) (ap wrote_of l))
+
+refusal_cause : (c : SaslCall) (call : Call) (e : NegotiationError) (h : List Local) → sasl_of call ≡ Some c → IsCallRefusal c e → IsMemoryIn e None → IsOpenCause call e (link_in h)
+refusal_cause c call (negotiation.Memory a) h s r m = absurd (cc m)
+refusal_cause c call (negotiation.ProtocolHeaderMismatch x) h s r m = absurd r
+refusal_cause c call negotiation.NotImplemented h s r m = absurd r
+refusal_cause c call (negotiation.SaslError code d) h s r m = absurd r
+refusal_cause c call (negotiation.ScramError kind) h s r m = not_allowed c s r.1 (ap negotiation.ScramError r.0)
+refusal_cause c call (negotiation.Io kind) h s r m = absurd r
+refusal_cause c call negotiation.DecodeError h s r m = absurd r
+refusal_cause c call negotiation.IllegalState h s r m = absurd r
+refusal_cause c call negotiation.FramingError h s r m = absurd r
+
+pub begins_refused : {L : Type 0} (link : Ghosts L) (at n : ℕ) (call : Call) (old new : Peering L) (o : Opened L Authentication) (p0 : Option Prepared) (c : SaslCall) (e : NegotiationError) → old.held ≡ Early o p0 → sasl_of call ≡ Some c → IsCallRefusal c e → IsMemoryIn e None → Refused old e new
+    → RestedFrom link at n (IsAsked call old) old new
+begins_refused {L} link at n call old new o p0 c e l sasl r m f =
+    let held : f.held ≡ Early (record o { stage = stage.Ended }) p0 = subst (λ (x : Held L). EndedEarly x f.held) l f.ended in
+    let answer = open_failed old.name (open.Negotiation e) in
+    subst (λ (z : Peering L). RestedFrom link at n (IsAsked call old) old z) (sym (f.is ∙ ap (λ (x : Held L). told (record old { held = x }) (reply.OpenError (open.Negotiation e))) held))
+    (record {
+      run = record {
+        events = Replied answer ∷ [];
+        inside = tt;
+        went = λ d. sym (ap (link_at d) l);
+        answers = refl;
+        few = omega arith;
+        kind = refl;
+        grows = λ h t a. inl (record {
+              call = call;
+              name = old.name;
+              error = open.Negotiation e;
+              made = a.made;
+              replied = ap (λ (u : List NamedReply). u ++ answer ∷ []) a.replied;
+              called = record {
+                holds = nothing_written call c h sasl a.link;
+                caused = (subst (λ (cs : List (ℕ × Call)). OpenCauseIn cs e (link_in h)) (sym a.made) (refusal_cause c call e h sasl r m), a.caused);
+              };
+              done = λ z. ended_done_at {o = o} p0 z;
+            });
+      };
+      settled = λ z. absurd (ended_not_at {o = o} p0 z);
+    })
+
+-- the call was made, and answered by pending
+abbrev pub asked : {L : Type 0} → Peering L → ℕ → Peering L
+asked old name = record old { name = name; progress = progress.Opening; replies = old.replies ++ pending name ∷ [] }
+
+is_asked : {L : Type 0} (old : Peering L) (name at : ℕ) (call : Call) (h : List Local) → HasNothing old h → IsAsked call (asked old name) (Replied (pending name) ∷ Made at name call ∷ h)
+is_asked old name at call h n =
+    record {
+      made = ap (λ (u : List (ℕ × Call)). (name, call) ∷ u) n.made;
+      replied = ap (λ (u : List NamedReply). u ++ pending name ∷ []) n.replied;
+      link = n.link;
+      given = n.given;
+      sent = n.sent;
+      caused = (tt, n.caused);
+      progress = refl;
+      fault = n.fault;
+      opening = n.opening;
+      prepared = n.prepared;
+      holds = n.holds;
+      untouched = n.untouched;
+    }
+
+pub started : {L : Type 0} (link : Ghosts L) (at name : ℕ) (call : Call) (old new : Peering L) → old.progress ≡ progress.Idle → RestedFrom link at (2 ^ 63) (IsAsked call (asked old name)) (asked old name) new → Stepped link old (Made at name call) new
+started {L} link at name call old new e r =
+    let es = r.run.events in
+    let one = Replied (pending name) ∷ [] in
+    let links : link_in (es ++ one) ≡ link_in es = link_in-append es one ∙ append-nil (link_in es) in
+    record {
+      events = es ++ one;
+      inside = inside-append es one r.run.inside tt;
+      went = λ d. subst (λ (u : List LinkEvent). Went link (link_of d old) u (link_of d new)) (sym links) (r.run.went d);
+      answers = r.run.answers ∙ append_assoc old.replies (pending name ∷ []) (replied_in es) ∙ ap (λ (u : List NamedReply). old.replies ++ u) (sym (replied_in-append es one));
+      few = let z = ap reads_in links in omega (arith, z, r.run.few);
+      kind = r.run.kind;
+      settled = λ a. settled_left es one (r.settled a);
+      grows = λ h x. subst (λ (u : List Local). Has new u) (sym (append_assoc es one (Made at name call ∷ h)))
+          (r.run.grows (Replied (pending name) ∷ Made at name call ∷ h) refl (is_asked old name at call h (subst (λ (q : Progress). HasIn q old h) e x)));
+    }
+
+-- ---- a close
+
+-- a Close was queued, or not, while a close is to be answered
+close_moves : {L : Type 0} (link : Ghosts L) (at : ℕ) (old : Peering L) (s s' : State L) (fault : Option ConnectionFault) (y : Option AmqpError) (result : Result Unit ConnectionFault) → old.progress ≡ progress.Closing → old.held ≡ Late s → (c : EngineClosed link s y result s')
+    → ((h : List Local) (call : Call) → IsRunning call s h → IsFaultIn old.fault s h → IsFaultIn fault s' (moved c.run ++ h)) → Advanced link at 0 old (record old { held = Late s'; fault = fault })
+close_moves {L} link at old s s' fault y result p e c g =
+    let r = c.run in
+    record {
+      events = moved r;
+      inside = (passed r).inside;
+      went = went_late link old.held (Late s') s s' r e refl;
+      answers = sym (append-nil old.replies) ∙ ap (λ (u : List NamedReply). old.replies ++ u) (sym (passed r).silent);
+      few = let z = ap reads_in ((passed r).link ∙ c.silent) in omega (arith, z);
+      kind = refl;
+      grows = λ h t x.
+          subst (λ (q : Progress). HasIn q (record old { held = Late s'; fault = fault }) (moved r ++ h)) (sym p)
+          (closing_moves link at old s s' fault h r (inl (c.none, r.since c.none)) t e (λ call k prep o f. g h call k f) (subst (λ (q : Progress). HasIn q old h) p x));
+    }
+
+close_sound : (y : Option AmqpError) → has_failed (close_phase y) ≡ false
+close_sound None = refl
+close_sound (Some e) = refl
+
+-- it is queued
+queued_fault : {L : Type 0} {link : Ghosts L} (fault : Option ConnectionFault) (s s' : State L) (y : Option AmqpError) (h : List Local) (r : Ran link s s') → s' ≡ closing s y → IsFaultIn fault s h → IsFaultIn fault s' (moved r ++ h)
+queued_fault {L} None s s' y h r e f = ap (λ (z : State L). has_failed z.phase) e ∙ close_sound y
+queued_fault (Some x) s s' y h r e f = once_more (LateFault x) (moved r) h f
+
+pub close_queued : {L : Type 0} (link : Ghosts L) (at : ℕ) (old : Peering L) (s s' : State L) (y : Option AmqpError) (u : Unit {0}) → old.progress ≡ progress.Closing → old.held ≡ Late s → EngineClosed link s y (Ok u) s' → Advanced link at 0 old (record old { held = Late s' })
+close_queued link at old s s' y u p e c = close_moves link at old s s' old.fault y (Ok u) p e c (λ h call k f. queued_fault old.fault s s' y h c.run c.told.1 f)
+
+-- one is queued or owed already
+pub close_kept : {L : Type 0} (link : Ghosts L) (at : ℕ) (old : Peering L) (s s' : State L) (y : Option AmqpError) → old.progress ≡ progress.Closing → old.held ≡ Late s → EngineClosed link s y (Err connection.IllegalState) s' → Advanced link at 0 old (record old { held = Late s' })
+close_kept {L} link at old s s' y p e c = close_moves link at old s s' old.fault y (Err connection.IllegalState) p e c (λ h call k f. fault_same old.fault s s' h c.run (ap (λ (z : State L). z.phase) c.told.2) f)
+
+-- it is too large
+large_fault : {L : Type 0} {link : Ghosts L} (fault : Option ConnectionFault) (s s' : State L) (y : Option AmqpError) (h : List Local) (call : Call) (r : Ran link s s') → IsRunning call s h → IsTooLarge s.wire.codec.encoder (close_frame y) → IsFaultIn fault s h
+    → IsFaultIn (first_fault fault (connection.TransportError transport.FramingError)) s' (moved r ++ h)
+large_fault None s s' y h call r k l f =
+    record { later = moved r; earlier = h; split = refl; held = inr (record { limit = s.wire.codec.encoder; x = close_frame y; least = k.runs.limited.least; own = own_closing y; large = l }) }
+large_fault (Some x) s s' y h call r k l f = once_more (LateFault x) (moved r) h f
+
+pub close_fails : {L : Type 0} (link : Ghosts L) (at : ℕ) (old : Peering L) (s s' : State L) (y : Option AmqpError) (e : ConnectionFault) → old.progress ≡ progress.Closing → old.held ≡ Late s → EngineClosed link s y (Err e) s' → ((x : _) → e ≡ connection.Memory x → ⊥) → (e ≡ connection.IllegalState → ⊥)
+    → Advanced link at 0 old (record old { held = Late s'; fault = first_fault old.fault e })
+close_fails link at old s s' y (connection.Memory x) p l c n i = absurd (n x refl)
+close_fails link at old s s' y (connection.TransportError transport.FramingError) p l c n i =
+    close_moves link at old s s' (first_fault old.fault (connection.TransportError transport.FramingError)) y (Err (connection.TransportError transport.FramingError)) p l c (λ h call k f. large_fault old.fault s s' y h call c.run k c.told.1 f)
+close_fails link at old s s' y (connection.TransportError (transport.Memory x)) p l c n i = absurd c.told
+close_fails link at old s s' y (connection.TransportError (transport.Io x)) p l c n i = absurd c.told
+close_fails link at old s s' y (connection.TransportError transport.IdleTimeoutElapsed) p l c n i = absurd c.told
+close_fails link at old s s' y (connection.TransportError transport.DecodeError) p l c n i = absurd c.told
+close_fails link at old s s' y (connection.TransportError transport.NotImplemented) p l c n i = absurd c.told
+close_fails link at old s s' y connection.IllegalState p l c n i = absurd (i refl)
+close_fails link at old s s' y connection.NotImplemented p l c n i = absurd c.told
+close_fails link at old s s' y connection.NotFound p l c n i = absurd c.told
+close_fails link at old s s' y connection.RemoteClosed p l c n i = absurd c.told
+close_fails link at old s s' y (connection.RemoteClosedWithError x) p l c n i = absurd c.told
+
+-- a connection that has stopped is not asked
+pub asked_none : {L : Type 0} (link : Ghosts L) (at : ℕ) (old : Peering L) → AdvancedFrom link at 0 (IsAskedToClose old) old old
+asked_none {L} link at old =
+    record {
+      events = [];
+      inside = tt;
+      went = λ d. refl;
+      answers = sym (append-nil old.replies);
+      few = omega arith;
+      kind = refl;
+      grows = λ h t a. subst (λ (q : Progress). HasIn q old h) (sym a.progress) a.closing;
+    }
+
+-- it was asked, and pending is answered
+waits_to_close : {L : Type 0} (old : Peering L) (h : List Local) → IsAskedToClose old h → Has (record old { replies = old.replies ++ pending old.name ∷ [] }) (Replied (pending old.name) ∷ h)
+waits_to_close {L} old h a =
+    let w = a.closing in
+    subst (λ (q : Progress). HasIn q (record old { replies = old.replies ++ pending old.name ∷ [] }) (Replied (pending old.name) ∷ h)) (sym a.progress)
+    (record {
+      call = w.call;
+      name = w.name;
+      error = w.error;
+      made = w.made;
+      replied = inr (ap (λ (u : List NamedReply). u ++ pending old.name ∷ []) a.unanswered);
+      called = called_keeps w.call old.held h (pending old.name) tt w.called;
+      is_made = made_quiet old.fault old.held h (Replied (pending old.name) ∷ h) (quiet_replied (pending old.name) h) w.is_made;
+    })
+
+pub asked_waits : {L : Type 0} (link : Ghosts L) (at : ℕ) (old new : Peering L) → Advanced link at 0 (record old { replies = old.replies ++ pending old.name ∷ [] }) new → AdvancedFrom link at 0 (IsAskedToClose old) old new
+asked_waits {L} link at old new r =
+    let es = r.events in
+    let one = Replied (pending old.name) ∷ [] in
+    let links : link_in (es ++ one) ≡ link_in es = link_in-append es one ∙ append-nil (link_in es) in
+    record {
+      events = es ++ one;
+      inside = inside-append es one r.inside tt;
+      went = λ d. subst (λ (u : List LinkEvent). Went link (link_of d old) u (link_of d new)) (sym links) (r.went d);
+      answers = r.answers ∙ append_assoc old.replies (pending old.name ∷ []) (replied_in es) ∙ ap (λ (u : List NamedReply). old.replies ++ u) (sym (replied_in-append es one));
+      few = let z = ap reads_in links in omega (arith, z, r.few);
+      kind = r.kind;
+      grows = λ h t a. subst (λ (u : List Local). Has new u) (sym (append_assoc es one h)) (r.grows (Replied (pending old.name) ∷ h) t (waits_to_close old h a));
+    }
+
+-- a close was called
+abbrev pub called_to_close : {L : Type 0} → Peering L → ℕ → Peering L
+called_to_close old name = record old { name = name; progress = progress.Closing }
+
+is_asked_to_close : {L : Type 0} (old : Peering L) (name at : ℕ) (condition : Option (List ℕ)) (h : List Local) → IsOpen old h → IsAskedToClose (called_to_close old name) (Made at name (Close condition) ∷ h)
+is_asked_to_close old name at condition h w =
+    let q = quiet_made at name (Close condition) h in
+    record {
+      closing = record {
+        call = w.call;
+        name = w.name;
+        error = condition;
+        made = ap (λ (u : List (ℕ × Call)). (name, Close condition) ∷ u) w.made;
+        replied = inl w.replied;
+        called = called_quiet w.call old.held h (Made at name (Close condition) ∷ h) q w.called.caused w.called;
+        is_made = made_quiet old.fault old.held h (Made at name (Close condition) ∷ h) q w.is_made;
+      };
+      progress = refl;
+      unanswered = w.replied;
+    }
+
+pub closed : {L : Type 0} (link : Ghosts L) (at n name : ℕ) (condition : Option (List ℕ)) (old new : Peering L) → n ≤ 2 ^ 63 → old.progress ≡ progress.Open → RestedFrom link at n (IsAskedToClose (called_to_close old name)) (called_to_close old name) new → Stepped link old (Made at name (Close condition)) new
+closed {L} link at n name condition old new l e r =
+    record {
+      events = r.run.events;
+      inside = r.run.inside;
+      went = r.run.went;
+      answers = r.run.answers;
+      few = omega (arith, r.run.few, l);
+      kind = r.run.kind;
+      settled = r.settled;
+      grows = λ h x. r.run.grows (Made at name (Close condition) ∷ h) refl (is_asked_to_close old name at condition h (subst (λ (q : Progress). HasIn q old h) e x));
+    }
+
+-- ---- a poll
+
+pub polled : {L : Type 0} (link : Ghosts L) (at n : ℕ) (old new : Peering L) → n ≤ 2 ^ 63 → Rested link at n old new → Stepped link old (Polled at) new
+polled link at n old new l r =
+    record {
+      events = r.run.events;
+      inside = r.run.inside;
+      went = r.run.went;
+      answers = r.run.answers;
+      few = omega (arith, r.run.few, l);
+      kind = r.run.kind;
+      settled = r.settled;
+      grows = λ h x. r.run.grows (Polled at ∷ h) refl (has_polled old at h x);
+    }
+
+pub polled_idle : {L : Type 0} (link : Ghosts L) (at : ℕ) (old : Peering L) → (IsActive old.held → ⊥) → Stepped link old (Polled at) old
+polled_idle link at old n =
+    record {
+      events = [];
+      inside = tt;
+      went = λ d. refl;
+      answers = sym (append-nil old.replies);
+      few = omega arith;
+      kind = refl;
+      settled = λ a. absurd (n a);
+      grows = λ h x. has_polled old at h x;
+    }

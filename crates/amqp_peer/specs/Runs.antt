@@ -1,0 +1,191 @@
+-- An end that goes on.
+use Rattle.std.specs.Prelude.{◌≡◌, ◌≤◌, ◌+◌, ◌^◌, ◌⊎◌, ℕ, List, [], ◌∷◌, ◌++◌, length, Bool, true, false, Option, Some, None, ⊤}
+use Rattle.amqp_composites.specs.declared.error.Error.{Error as AmqpError}
+use Rattle.amqp_frames.specs.declared.shared.ConnectionStopReason.{ConnectionStopReason}
+use Rattle.amqp_frames.specs.declared.shared.ConnectionStopReason.TheVariants as why
+use Rattle.amqp_wire.specs.declared.link.Held.TheVariants.{Full}
+use Rattle.amqp_wire.specs.declared.link.Link.{Ghosts}
+use Rattle.amqp_wire.specs.declared.link.Stop.TheVariants.{Empty}
+use Rattle.amqp_wire.specs.Events.{NotRead, NotWritten, Went, Includes, reads_in}
+use Rattle.amqp_engine.specs.declared.error.Error.{Error as ConnectionFault}
+use Rattle.amqp_engine.specs.declared.error.Error.TheVariants as fault
+use Rattle.amqp_words.specs.declared.open_error.OpenError.{OpenError}
+use Rattle.amqp_words.specs.declared.open_error.OpenError.TheVariants as open
+use Rattle.amqp_words.specs.declared.reply.Reply.{Reply}
+use Rattle.amqp_words.specs.declared.reply.Reply.TheVariants as reply
+use Rattle.sasl_gate.specs.declared.gate.error.NegotiationError.{NegotiationError}
+use Rattle.amqp_opening.specs.declared.authentication.Authentication.{Authentication}
+use Rattle.amqp_opening.specs.Opening.{Opened}
+use Rattle.amqp_words.specs.declared.call.Call.{Call}
+use Rattle.amqp_peer.specs.declared.prepared.Prepared.{Prepared}
+use Rattle.amqp_peer.specs.declared.held.Held.{Held}
+use Rattle.amqp_peer.specs.declared.held.Held.TheVariants.{Early, Late, Unopened, Moving}
+use Rattle.amqp_peer.specs.declared.peer.Progress.{Progress}
+use Rattle.amqp_peer.specs.declared.peer.Progress.TheVariants as progress
+use Rattle.amqp_peer.specs.Held.{IsActive, EndedEarly, reason_of, is_made}
+use Rattle.amqp_peer.specs.History.{Local, made_in, link_in, given_in, sent_in, replied_in, moment_in, IsInside}
+use Rattle.amqp_peer.specs.Causes.{AllCaused}
+use Rattle.amqp_peer.specs.Peering.{Peering, Has, IsUntouched, IsClosing, link_of}
+use Rattle.amqp_peer.specs.Replies.{pending, connection, answered}
+
+-- why an end can do no more now: the link had no input or took no output, or a great many reads were made, or frames read and queued
+abbrev pub IsSettled : List Local → Type 0
+IsSettled events =
+    Includes (link_in events) (NotRead Empty) ⊎ (Includes (link_in events) (NotWritten Full)
+    ⊎ ((2 ^ 62 ≤ reads_in (link_in events)) ⊎ (2 ^ 62 ≤ length (given_in events) + length (sent_in events))))
+
+-- An end went on by itself, with at most so many reads that gave bytes, from what was before: what passed at its link, its frames and its
+-- replies are added to its history.
+pub record AdvancedFrom {L : Type 0} (link : Ghosts L) (at n : ℕ) (Before : List Local → Type 0) (old new : Peering L) : Type 0 where
+  pub events : List Local
+  pub inside : IsInside events
+  pub went : (d : L) → Went link (link_of d old) (link_in events) (link_of d new)
+  pub answers : new.replies ≡ old.replies ++ replied_in events
+  pub few : reads_in (link_in events) ≤ n
+  pub kind : new.kind ≡ old.kind
+  pub grows : (h : List Local) → moment_in h ≡ at → Before h → Has new (events ++ h)
+
+abbrev pub Advanced : {L : Type 0} → Ghosts L → ℕ → ℕ → Peering L → Peering L → Type 0
+Advanced link at n old new = AdvancedFrom link at n (Has old) old new
+
+-- so many steps of the connection, each of which read or queued a frame, unless the connection has stopped
+pub record Worked {L : Type 0} (link : Ghosts L) (at n : ℕ) (old new : Peering L) : Type 0 where
+  pub run : Advanced link at n old new
+  pub frames : IsActive new.held → n ≤ length (given_in run.events) + length (sent_in run.events)
+  pub stays : IsActive new.held → IsActive old.held
+
+-- it went on until it could do no more
+pub record RestedFrom {L : Type 0} (link : Ghosts L) (at n : ℕ) (Before : List Local → Type 0) (old new : Peering L) : Type 0 where
+  pub run : AdvancedFrom link at n Before old new
+  pub settled : IsActive new.held → IsSettled run.events
+
+abbrev pub Rested : {L : Type 0} → Ghosts L → ℕ → ℕ → Peering L → Peering L → Type 0
+Rested link at n old new = RestedFrom link at n (Has old) old new
+
+-- a call of it was made, answered by pending, and nothing else was done
+pub record IsAsked {L : Type 0} (call : Call) (p : Peering L) (h : List Local) : Type 0 where
+  pub made : made_in h ≡ (p.name, call) ∷ []
+  pub replied : replied_in h ≡ pending p.name ∷ []
+  pub link : link_in h ≡ []
+  pub given : given_in h ≡ []
+  pub sent : sent_in h ≡ []
+  pub caused : AllCaused h
+  pub progress : p.progress ≡ progress.Opening
+  pub fault : p.fault ≡ None
+  pub opening : Opened L Authentication
+  pub prepared : Option Prepared
+  pub holds : p.held ≡ Early opening prepared
+  pub untouched : IsUntouched opening
+
+-- a close was asked for, and not answered yet
+pub record IsAskedToClose {L : Type 0} (p : Peering L) (h : List Local) : Type 0 where
+  pub closing : IsClosing p h
+  pub progress : p.progress ≡ progress.Closing
+  pub unanswered : replied_in h ≡ pending closing.name ∷ connection closing.name ∷ []
+
+-- An end made a step, which began with a call or a poll: what passed at its link, its frames and its replies are added to its
+-- history. It stops where it can do no more now, or where the connection has not begun or has ended.
+pub record Stepped {L : Type 0} (link : Ghosts L) (old : Peering L) (first : Local) (new : Peering L) : Type 0 where
+  pub events : List Local
+  pub inside : IsInside events
+  pub went : (d : L) → Went link (link_of d old) (link_in events) (link_of d new)
+  pub answers : new.replies ≡ old.replies ++ replied_in events
+  pub few : reads_in (link_in events) ≤ 2 ^ 63
+  pub kind : new.kind ≡ old.kind
+  pub settled : IsActive new.held → IsSettled events
+  pub grows : (h : List Local) → Has old h → Has new (events ++ first ∷ h)
+
+-- ---- answers
+
+-- what an open or accept is answered for a fault
+abbrev pub open_error_of : ConnectionFault → OpenError
+open_error_of (fault.TransportError e) = open.TransportError e
+open_error_of fault.RemoteClosed = open.RemoteClosed
+open_error_of (fault.RemoteClosedWithError e) = open.RemoteClosedWithError e
+open_error_of (fault.Memory a) = open.IllegalState
+open_error_of fault.IllegalState = open.IllegalState
+open_error_of fault.NotImplemented = open.IllegalState
+open_error_of fault.NotFound = open.IllegalState
+
+-- what the caller is told of the reason for which a connection has stopped: none where this end closed it
+abbrev pub told_by : ConnectionStopReason → Option ConnectionFault
+told_by why.Closed = None
+told_by (why.ClosedWithError e) = None
+told_by why.RemoteClosed = Some fault.RemoteClosed
+told_by (why.RemoteClosedWithError e) = Some (fault.RemoteClosedWithError e)
+
+abbrev pub told_of : Option ConnectionStopReason → Option ConnectionFault
+told_of None = None
+told_of (Some reason) = told_by reason
+
+-- the error of a condition
+abbrev pub error_for : Option (List ℕ) → Option AmqpError
+error_for None = None
+error_for (Some condition) = Some (record { condition = condition; description = None; info = None })
+
+-- the first fault stays
+abbrev pub first_fault : Option ConnectionFault → ConnectionFault → Option ConnectionFault
+first_fault None e = Some e
+first_fault (Some f) e = Some f
+
+-- the fault, else what is told of the reason
+abbrev pub error_by : Option ConnectionFault → Option ConnectionStopReason → Option ConnectionFault
+error_by (Some e) reason = Some e
+error_by None reason = told_of reason
+
+abbrev pub error_in : {L : Type 0} → Peering L → Option ConnectionFault
+error_in p = error_by p.fault (reason_of p.held)
+
+-- why an open or accept failed; a connection that has stopped before it was made always tells why
+abbrev pub open_failure : Option ConnectionFault → OpenError
+open_failure None = open.IllegalState
+open_failure (Some e) = open_error_of e
+
+-- how an open or accept is answered in the end, and how a close is
+abbrev pub open_reply : Option ConnectionFault → Reply
+open_reply e = reply.OpenError (open_failure e)
+
+abbrev pub close_reply : Option ConnectionFault → Reply
+close_reply None = reply.Closed
+close_reply (Some e) = reply.ConnectionError e
+
+-- the last call has its last answer
+abbrev pub told : {L : Type 0} → Peering L → Reply → Peering L
+told p r = record p { progress = progress.Over; replies = p.replies ++ answered p.name r ∷ [] }
+
+-- and so has a fault
+abbrev pub finished : {L : Type 0} → Peering L → Reply → Peering L
+finished p r = told (record p { fault = None }) r
+
+-- what becomes of an end whose connection has stopped
+abbrev pub concluded_in : {L : Type 0} → Progress → Peering L → Peering L
+concluded_in progress.Idle p = p
+concluded_in progress.Opening p = finished p (open_reply (error_in p))
+concluded_in progress.Open p = p
+concluded_in progress.Closing p = finished p (close_reply (error_in p))
+concluded_in progress.Over p = p
+
+abbrev pub concluded : {L : Type 0} → Peering L → Peering L
+concluded p = concluded_in p.progress p
+
+-- the connection was made
+abbrev pub greeted_if : {L : Type 0} → Bool → Peering L → Peering L
+greeted_if true p = record p { progress = progress.Open; replies = p.replies ++ answered p.name reply.Connection ∷ [] }
+greeted_if false p = p
+
+-- what becomes of an end whose open or accept waits
+abbrev pub greeted_in : {L : Type 0} → Progress → Peering L → Peering L
+greeted_in progress.Idle p = p
+greeted_in progress.Opening p = greeted_if (is_made p.held) p
+greeted_in progress.Open p = p
+greeted_in progress.Closing p = p
+greeted_in progress.Over p = p
+
+abbrev pub greeted : {L : Type 0} → Peering L → Peering L
+greeted p = greeted_in p.progress p
+
+-- an open or accept was refused before anything was written
+pub record Refused {L : Type 0} (old : Peering L) (e : NegotiationError) (new : Peering L) : Type 0 where
+  pub held : Held L
+  pub ended : EndedEarly old.held held
+  pub is : new ≡ told (record old { held = held }) (reply.OpenError (open.Negotiation e))
