@@ -19,11 +19,11 @@ use Rattle.sasl_gate.specs.Exchange.{refused_with}
 use Rattle.sasl_gate.specs.Profile.{IsAllowedUser, IsAllowedPassword}
 use Rattle.sasl_gate.specs.ServerGate.{ServerEnd, server_holds, server_causes, server_owes, server_turn, server_left, ServerSame, server_refusal, server_same_self, server_same_then}
 use Rattle.sasl_gate.specs.States.{Account}
-use Rattle.amqp_peer.specs.declared.authentication.Authentication.{Authentication}
-use Rattle.amqp_peer.specs.declared.authentication.Authentication.TheVariants.{Idle, Client, Listener}
-use Rattle.amqp_peer.specs.declared.call.AcceptSasl.TheVariants as accept
-use Rattle.amqp_peer.specs.declared.call.Call.{Call}
-use Rattle.amqp_peer.specs.declared.call.Call.TheVariants.{Open, Accept}
+use Rattle.amqp_opening.specs.declared.acceptor.AcceptSasl.TheVariants as accept
+use Rattle.amqp_opening.specs.declared.authentication.Authentication.{Authentication}
+use Rattle.amqp_opening.specs.declared.authentication.Authentication.TheVariants.{Idle, Client, Listener}
+use Rattle.amqp_opening.specs.declared.authentication.SaslCall.{SaslCall}
+use Rattle.amqp_opening.specs.declared.authentication.SaslCall.TheVariants as call
 
 -- what a listener with one user has stored for a name
 abbrev pub stored_for : Account → List ℕ → Option StoredPassword
@@ -79,12 +79,12 @@ peer_mechanism = record {
 
 -- ---- the calls that begin it
 
--- a client's end for this user, password and nonce
-pub record IsClientFor (user password nonce : List ℕ) (x : ClientEnd) : Type 0 where
+-- a client's end for this user, password, nonce and host
+pub record IsClientFor (user password nonce : List ℕ) (hostname : Option (List ℕ)) (x : ClientEnd) : Type 0 where
   pub user_is : x.client.user ≡ user
   pub password_is : x.client.password ≡ password
   pub nonce_is : x.client.nonce ≡ nonce
-  pub hostname_is : x.hostname ≡ None
+  pub hostname_is : x.hostname ≡ hostname
 
 -- a listener's end for this user, with what is kept of the password with a salt and a count (RFC 5802, section 3)
 pub record IsListenerFor (user password salt : List ℕ) (iterations : ℕ) (nonce : List ℕ) (x : ServerEnd Account) : Type 0 where
@@ -92,30 +92,30 @@ pub record IsListenerFor (user password salt : List ℕ) (iterations : ℕ) (non
   pub nonce_is : x.server.nonce ≡ nonce
 
 -- the exchange is the one that a call begins
-abbrev pub MadeFor : Call → Authentication → Type 0
-MadeFor (Open id (profile.ScramSha256 user password nonce)) Idle = ⊥
-MadeFor (Open id (profile.ScramSha256 user password nonce)) (Client x) = IsClientFor user password nonce x
-MadeFor (Open id (profile.ScramSha256 user password nonce)) (Listener x) = ⊥
-MadeFor (Accept id (accept.ScramSha256 user password salt iterations nonce)) Idle = ⊥
-MadeFor (Accept id (accept.ScramSha256 user password salt iterations nonce)) (Client x) = ⊥
-MadeFor (Accept id (accept.ScramSha256 user password salt iterations nonce)) (Listener x) = IsListenerFor user password salt iterations nonce x
+abbrev pub MadeFor : SaslCall → Authentication → Type 0
+MadeFor (call.Client (profile.ScramSha256 user password nonce) hostname) Idle = ⊥
+MadeFor (call.Client (profile.ScramSha256 user password nonce) hostname) (Client x) = IsClientFor user password nonce hostname x
+MadeFor (call.Client (profile.ScramSha256 user password nonce) hostname) (Listener x) = ⊥
+MadeFor (call.Listener (accept.ScramSha256 user password salt iterations nonce)) Idle = ⊥
+MadeFor (call.Listener (accept.ScramSha256 user password salt iterations nonce)) (Client x) = ⊥
+MadeFor (call.Listener (accept.ScramSha256 user password salt iterations nonce)) (Listener x) = IsListenerFor user password salt iterations nonce x
 
 -- user and password are in the profile
-abbrev pub HasAllowedTexts : Call → Type 0
-HasAllowedTexts (Open id (profile.ScramSha256 user password nonce)) = IsAllowedUser user × IsAllowedPassword password
-HasAllowedTexts (Accept id (accept.ScramSha256 user password salt iterations nonce)) = IsAllowedUser user × IsAllowedPassword password
+abbrev pub HasAllowedTexts : SaslCall → Type 0
+HasAllowedTexts (call.Client (profile.ScramSha256 user password nonce) hostname) = IsAllowedUser user × IsAllowedPassword password
+HasAllowedTexts (call.Listener (accept.ScramSha256 user password salt iterations nonce)) = IsAllowedUser user × IsAllowedPassword password
 
 -- why a call begins no exchange
-abbrev pub IsCallRefusal : Call → NegotiationError → Type 0
-IsCallRefusal call (Memory a) = ⊤
-IsCallRefusal call (ProtocolHeaderMismatch h) = ⊥
-IsCallRefusal call NotImplemented = ⊥
-IsCallRefusal call (SaslError code payload) = ⊥
-IsCallRefusal call (ScramError kind) = (kind ≡ scram.TextNotAllowed) × (¬ HasAllowedTexts call)
-IsCallRefusal call (Io kind) = ⊥
-IsCallRefusal call DecodeError = ⊥
-IsCallRefusal call IllegalState = ⊥
-IsCallRefusal call FramingError = ⊥
+abbrev pub IsCallRefusal : SaslCall → NegotiationError → Type 0
+IsCallRefusal asked (Memory a) = ⊤
+IsCallRefusal asked (ProtocolHeaderMismatch h) = ⊥
+IsCallRefusal asked NotImplemented = ⊥
+IsCallRefusal asked (SaslError code payload) = ⊥
+IsCallRefusal asked (ScramError kind) = (kind ≡ scram.TextNotAllowed) × (¬ HasAllowedTexts asked)
+IsCallRefusal asked (Io kind) = ⊥
+IsCallRefusal asked DecodeError = ⊥
+IsCallRefusal asked IllegalState = ⊥
+IsCallRefusal asked FramingError = ⊥
 
 -- the error of a negotiation that a kind of SCRAM comes to
 abbrev pub IsErrorOf : ScramErrorKind → NegotiationError → Type 0

@@ -1,10 +1,9 @@
 //! The SASL exchange of an end: a client's, or a listener's with one user (OASIS AMQP 1.0, part 5, section 5.3).
 ghost use Rattle.std.specs.Prelude.{◌≡◌, List, [], IfOk, IfErr};
-ghost use Rattle.amqp_peer.specs.Authentication.{holds_by, causes_by, owes_by, turn_by, left_by, same_by, peer_refusal, peer_same_self, peer_same_then, MadeFor, IsCallRefusal, IsErrorOf};
-ghost use Rattle.amqp_peer.specs.Calls.{IsAllowedProfile, IsAllowedSasl, IsAllowedCall};
-ghost use Rattle.amqp_peer.specs.declared.call.Call.TheVariants.{Open, Accept};
+ghost use Rattle.amqp_opening.specs.Authentication.{holds_by, causes_by, owes_by, turn_by, left_by, same_by, peer_refusal, peer_same_self, peer_same_then, MadeFor, IsCallRefusal, IsErrorOf};
+ghost use Rattle.amqp_opening.specs.Permission.{IsAllowedProfile, IsAllowedSasl, IsAllowedSaslCall};
 
-use crate::call::{AcceptSasl, Call};
+use crate::acceptor::AcceptSasl;
 use amqp_composites::sasl_body::SaslBody;
 use amqp_text::Text;
 use kdf_core::Sha256Fn;
@@ -14,6 +13,20 @@ use sasl_gate::{
     StoredPassword,
 };
 use std::alloc::{AllocError, Global};
+
+/// The exchange that an end is asked for.
+#[derive(Debug, Drop)]
+pub enum SaslCall {
+    /// A client's.
+    Client {
+        /// What it authenticates with.
+        profile: SaslProfile,
+        /// The host that it names in its init (part 5, section 5.3.3.2).
+        hostname: Option<Text>,
+    },
+    /// A listener's, which lets this user in.
+    Listener(AcceptSasl),
+}
 
 /// The exchange of an end.
 #[derive(Drop)]
@@ -88,17 +101,17 @@ fn error_of(kind: ScramErrorKind) -> NegotiationError
     }
 }
 
+// The client's exchange; it takes no memory.
 fn client_exchange(
-    container_id: Text,
-    sasl: SaslProfile,
+    profile: SaslProfile,
+    hostname: Option<Text>,
 ) -> Result<Authentication, NegotiationError>
-    requires { IsAllowedProfile sasl }
-    ensures ok { IfOk result (MadeFor (Open container_id sasl)) }
+    requires { IsAllowedProfile profile }
+    ensures ok { IfOk result (MadeFor (SaslCall.Client profile hostname)) }
     ensures begins { IfOk result (λ x. holds_by x [] []) }
-    ensures err { IfErr result (IsCallRefusal (Open container_id sasl)) }
+    ensures err { IfErr result (IsCallRefusal (SaslCall.Client profile hostname)) }
 {
-    let _ = container_id;
-    match ClientExchange::new(sasl, None) {
+    match ClientExchange::new(profile, hostname) {
         Ok(exchange) => Ok(Authentication::Client(exchange)),
         Err(kind) => Err(NegotiationError::ScramError(kind)),
     }
@@ -107,22 +120,20 @@ fn client_exchange(
 // The one user of a listener, with what it keeps of the password.
 fn listener_exchange(
     alloc: Global,
-    container_id: Text,
-    sasl: AcceptSasl,
+    acceptor: AcceptSasl,
 ) -> Result<Authentication, NegotiationError>
-    requires { IsAllowedSasl sasl }
-    ensures ok { IfOk result (MadeFor (Accept container_id sasl)) }
+    requires { IsAllowedSasl acceptor }
+    ensures ok { IfOk result (MadeFor (SaslCall.Listener acceptor)) }
     ensures begins { IfOk result (λ x. holds_by x [] []) }
-    ensures err { IfErr result (IsCallRefusal (Accept container_id sasl)) }
+    ensures err { IfErr result (IsCallRefusal (SaslCall.Listener acceptor)) }
 {
-    let _ = container_id;
     let AcceptSasl::ScramSha256 {
         username,
         password,
         salt,
         iterations,
         nonce,
-    } = sasl;
+    } = acceptor;
     let stored = match StoredPassword::derive::<Sha256Fn>(
         alloc,
         password.as_str(),
@@ -138,16 +149,16 @@ fn listener_exchange(
     }
 }
 
-/// The exchange that a call begins. `ScramError(TextNotAllowed)` comes exactly where the user or the
+/// The exchange that is asked for. `ScramError(TextNotAllowed)` comes exactly where the user or the
 /// password is outside the profile, and the other error is want of memory.
-pub fn exchange_for(alloc: Global, call: Call) -> Result<Authentication, NegotiationError>
-    requires { IsAllowedCall call }
+pub fn exchange_for(alloc: Global, call: SaslCall) -> Result<Authentication, NegotiationError>
+    requires { IsAllowedSaslCall call }
     ensures ok { IfOk result (MadeFor call) }
     ensures begins { IfOk result (λ x. holds_by x [] []) }
     ensures err { IfErr result (IsCallRefusal call) }
 {
     match call {
-        Call::Open { container_id, sasl } => client_exchange(container_id, sasl),
-        Call::Accept { container_id, sasl } => listener_exchange(alloc, container_id, sasl),
+        SaslCall::Client { profile, hostname } => client_exchange(profile, hostname),
+        SaslCall::Listener(acceptor) => listener_exchange(alloc, acceptor),
     }
 }

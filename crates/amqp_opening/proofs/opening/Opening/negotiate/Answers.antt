@@ -1,5 +1,5 @@
-use Rattle.amqp_peer.proofs.Openings.{ran_after, ran_error, moves_polled, keeps_polled}
-use Rattle.amqp_peer.proofs.opening.Opening.negotiate.Goals as goal
+use Rattle.amqp_opening.proofs.Openings.{ran_after, ran_error, moves_polled, keeps_polled}
+use Rattle.amqp_opening.proofs.opening.Opening.negotiate.Goals as goal
 
 pub returns-in-Ok-Passed : goal.returns-in-Ok-Passed
 returns-in-Ok-Passed g c =
