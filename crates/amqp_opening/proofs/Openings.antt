@@ -38,11 +38,11 @@ pub has_begun : {L X : Type 0} (m : Mechanism X) (o : Opened L X) (x : X) (event
 has_begun m o x events held input output phase none = (
   refl,
   subst (λ (p : Phase). HasIn m p (begun o x).negotiation events) (sym phase)
-  (record {
-    read = ap read_of none ∙ sym input;
-    wrote = ap (λ (u : List LinkEvent). wrote_of u ++ (o.negotiation.codec.output ++ sasl_header)) none ∙ ap (λ (u : List ℕ). u ++ sasl_header) output;
-    held = held;
-  }),
+      (record {
+        read = ap read_of none ∙ sym input;
+        wrote = ap (λ (u : List LinkEvent). wrote_of u ++ (o.negotiation.codec.output ++ sasl_header)) none ∙ ap (λ (u : List ℕ). u ++ sasl_header) output;
+        held = held;
+      }),
 )
 
 -- without

@@ -38,10 +38,7 @@ fn name_of(poll: OpeningPoll) -> &'static str {
 }
 
 // What comes of these bytes.
-fn given<X: Exchange>(
-    opening: &mut Opening<Pipe, X>,
-    bytes: &[u8],
-) -> Result<&'static str, Fail> {
+fn given<X: Exchange>(opening: &mut Opening<Pipe, X>, bytes: &[u8]) -> Result<&'static str, Fail> {
     opening.link().give(bytes)?;
     match opening.stage() {
         Stage::Negotiating | Stage::Header => {
@@ -99,7 +96,10 @@ fn plain_opening_keeps_what_follows(rt: HostRuntime) -> Result<(), Fail> {
     let (name, codec) = codec_after(opening, b"\x00\x00\x00\x00\x08\x02\x00\x00\x00")?;
     assert_eq!(rt; name, "exchanged");
     assert!(rt; codec.has_header());
-    assert_eq!(rt; codec.header().as_slice(), b"\x00\x00\x00\x08\x02\x00\x00\x00".as_slice());
+    assert_eq!(rt;
+        codec.header().as_slice(),
+        b"\x00\x00\x00\x08\x02\x00\x00\x00".as_slice()
+    );
     assert_eq!(rt; codec.into_link().output(), AMQP_HEADER.as_slice());
     Ok(())
 }
@@ -130,7 +130,7 @@ fn carried<X: Exchange>(
     given(to, &bytes)
 }
 
-// Four frames of each end behind the SASL headers, and then the AMQP headers.
+// The SASL headers, the bodies of both ends, and then the AMQP headers.
 fn opened<X: Exchange>(
     rt: &impl Abort,
     alloc: Global,
@@ -138,10 +138,12 @@ fn opened<X: Exchange>(
     mut server: Opening<Pipe, X>,
 ) -> Result<(), Fail> {
     assert_eq!(rt; given(&mut client, b"")?, "pending");
-    for _ in 0..3 {
+    for _ in 0..2 {
         assert_eq!(rt; carried(&mut client, &mut server, alloc)?, "pending");
         assert_eq!(rt; carried(&mut server, &mut client, alloc)?, "pending");
     }
+    assert_eq!(rt; carried(&mut client, &mut server, alloc)?, "pending");
+    assert_eq!(rt; carried(&mut server, &mut client, alloc)?, "exchanged");
     assert_eq!(rt; carried(&mut client, &mut server, alloc)?, "exchanged");
     assert!(rt; client.link_ref().output().ends_with(&AMQP_HEADER));
     assert!(rt; server.link_ref().output().ends_with(&AMQP_HEADER));
