@@ -1,8 +1,9 @@
 //! What an end is asked to do.
 ghost use Rattle.std.specs.Prelude.{◌≡◌, IfOk};
 
+use amqp_opening::AcceptSasl;
 use amqp_text::symbol::SymbolError;
-use amqp_text::{Binary, Symbol, Text};
+use amqp_text::{Symbol, Text};
 use sasl_gate::SaslProfile;
 use std::alloc::{AllocError, Global};
 
@@ -19,24 +20,6 @@ pub struct ConnectionSettings {
     pub channel_max: u16,
     /// How long the end waits for a frame, in milliseconds; 0 is for ever.
     pub idle_time_out: Option<u32>,
-}
-
-/// Whom a listener lets in: one user.
-#[derive(Debug, Drop)]
-pub enum AcceptSasl {
-    /// SCRAM-SHA-256 (RFC 7677).
-    ScramSha256 {
-        /// The user: 1 or more characters from 0x20 to 0x7e.
-        username: Text,
-        /// The password: characters from 0x20 to 0x7e.
-        password: Text,
-        /// The salt: 1 to 64 bytes.
-        salt: Binary,
-        /// The iteration count: 1 to 10,000,000.
-        iterations: u32,
-        /// The listener's nonce: 1 or more characters from 0x21 to 0x7e other than the comma, new for each exchange.
-        nonce: Text,
-    },
 }
 
 /// A call of an end.
@@ -131,35 +114,6 @@ impl ConnectionSettings {
             channel_max: self.channel_max,
             idle_time_out: self.idle_time_out,
         })
-    }
-}
-
-impl AcceptSasl {
-    /// A copy; the one error is want of memory.
-    pub fn try_clone(&self, alloc: Global) -> Result<Self, AllocError>
-        ensures { IfOk result (λ a. a ≡ self.now) }
-    {
-        match self {
-            AcceptSasl::ScramSha256 {
-                username,
-                password,
-                salt,
-                iterations,
-                nonce,
-            } => {
-                let username = username.try_clone(alloc)?;
-                let password = password.try_clone(alloc)?;
-                let salt = salt.try_clone(alloc)?;
-                let nonce = nonce.try_clone(alloc)?;
-                Ok(AcceptSasl::ScramSha256 {
-                    username,
-                    password,
-                    salt,
-                    iterations: *iterations,
-                    nonce,
-                })
-            }
-        }
     }
 }
 

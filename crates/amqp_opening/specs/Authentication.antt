@@ -1,0 +1,159 @@
+-- The SASL exchange of an end: a client's, or a listener's with one user.
+use Rattle.std.specs.Prelude.{◌≡◌, ℕ, List, Option, Some, None, if◌then◌else◌, ⊤}
+use Rattle.std.specs.Str.{bytes_eq}
+use Rattle.amqp_composites.specs.declared.sasl_body.SaslBody.{SaslBody}
+use Rattle.amqp_composites.specs.declared.sasl_code.SaslCode.{SaslCode}
+use Rattle.sha2.specs.Sha256.{sha256}
+use Rattle.sasl_gate.specs.declared.gate.client.SaslProfile.TheVariants as profile
+use Rattle.sasl_gate.specs.declared.gate.error.NegotiationError.{NegotiationError}
+use Rattle.sasl_gate.specs.declared.gate.error.NegotiationError.TheVariants.{Memory, ProtocolHeaderMismatch, NotImplemented, SaslError, ScramError, Io, DecodeError, IllegalState, FramingError}
+use Rattle.sasl_gate.specs.declared.gate.exchange.Exchange.{Ghosts as Mechanism}
+use Rattle.sasl_gate.specs.declared.gate.exchange.Turn.{Turn}
+use Rattle.sasl_gate.specs.declared.gate.exchange.Turn.TheVariants.{Receive, Refuse}
+use Rattle.sasl_gate.specs.declared.scram.error.ScramErrorKind.{ScramErrorKind}
+use Rattle.sasl_gate.specs.declared.scram.error.ScramErrorKind.TheVariants as scram
+use Rattle.sasl_gate.specs.declared.scram.stored.StoredPassword.{StoredPassword}
+use Rattle.sasl_gate.specs.Check.{stored_of}
+use Rattle.sasl_gate.specs.ClientGate.{ClientEnd, client_holds, client_causes, client_owes, client_turn, client_left, ClientSame, client_refusal, client_same_self, client_same_then}
+use Rattle.sasl_gate.specs.Exchange.{refused_with}
+use Rattle.sasl_gate.specs.Profile.{IsAllowedUser, IsAllowedPassword}
+use Rattle.sasl_gate.specs.ServerGate.{ServerEnd, server_holds, server_causes, server_owes, server_turn, server_left, ServerSame, server_refusal, server_same_self, server_same_then}
+use Rattle.sasl_gate.specs.States.{Account}
+use Rattle.amqp_opening.specs.declared.acceptor.AcceptSasl.TheVariants as accept
+use Rattle.amqp_opening.specs.declared.authentication.Authentication.{Authentication}
+use Rattle.amqp_opening.specs.declared.authentication.Authentication.TheVariants.{Idle, Client, Listener}
+use Rattle.amqp_opening.specs.declared.authentication.SaslCall.{SaslCall}
+use Rattle.amqp_opening.specs.declared.authentication.SaslCall.TheVariants as call
+
+-- what a listener with one user has stored for a name
+abbrev pub stored_for : Account → List ℕ → Option StoredPassword
+stored_for a name = if bytes_eq a.user name then a.stored else None
+
+-- ---- the exchange as a mechanism: that of its end
+
+abbrev pub holds_by : Authentication → List SaslBody → List SaslBody → Type 0
+holds_by Idle given sent = ⊥
+holds_by (Client x) given sent = client_holds x given sent
+holds_by (Listener x) given sent = server_holds stored_for x given sent
+
+abbrev pub causes_by : Authentication → NegotiationError → List SaslBody → List SaslBody → Type 0
+causes_by Idle e given sent = ⊥
+causes_by (Client x) e given sent = client_causes x e given sent
+causes_by (Listener x) e given sent = server_causes stored_for x e given sent
+
+abbrev pub owes_by : Authentication → SaslBody → Type 0
+owes_by Idle body = ⊥
+owes_by (Client x) body = client_owes x body
+owes_by (Listener x) body = server_owes x body
+
+abbrev pub turn_by : Authentication → Turn
+turn_by Idle = Receive
+turn_by (Client x) = client_turn x
+turn_by (Listener x) = server_turn x
+
+abbrev pub left_by : Authentication → ℕ
+left_by Idle = 0
+left_by (Client x) = client_left x
+left_by (Listener x) = server_left x
+
+abbrev pub same_by : Authentication → Authentication → Type 0
+same_by Idle Idle = ⊤
+same_by Idle (Client y) = ⊥
+same_by Idle (Listener y) = ⊥
+same_by (Client x) Idle = ⊥
+same_by (Client x) (Client y) = ClientSame x y
+same_by (Client x) (Listener y) = ⊥
+same_by (Listener x) Idle = ⊥
+same_by (Listener x) (Client y) = ⊥
+same_by (Listener x) (Listener y) = ServerSame x y
+
+abbrev pub peer_mechanism : Mechanism Authentication
+peer_mechanism = record {
+  holds = holds_by;
+  causes = causes_by;
+  owes = owes_by;
+  turn_of = turn_by;
+  left = left_by;
+  same = same_by;
+}
+
+-- ---- the calls that begin it
+
+-- a client's end for this user, password, nonce and host
+pub record IsClientFor (user password nonce : List ℕ) (hostname : Option (List ℕ)) (x : ClientEnd) : Type 0 where
+  pub user_is : x.client.user ≡ user
+  pub password_is : x.client.password ≡ password
+  pub nonce_is : x.client.nonce ≡ nonce
+  pub hostname_is : x.hostname ≡ hostname
+
+-- a listener's end for this user, with what is kept of the password with a salt and a count (RFC 5802, section 3)
+pub record IsListenerFor (user password salt : List ℕ) (iterations : ℕ) (nonce : List ℕ) (x : ServerEnd Account) : Type 0 where
+  pub account : x.server.provider ≡ record { user = user; password = password; stored = Some (stored_of sha256 64 32 password salt iterations) }
+  pub nonce_is : x.server.nonce ≡ nonce
+
+-- the exchange is the one that a call begins
+abbrev pub MadeFor : SaslCall → Authentication → Type 0
+MadeFor (call.Client (profile.ScramSha256 user password nonce) hostname) Idle = ⊥
+MadeFor (call.Client (profile.ScramSha256 user password nonce) hostname) (Client x) = IsClientFor user password nonce hostname x
+MadeFor (call.Client (profile.ScramSha256 user password nonce) hostname) (Listener x) = ⊥
+MadeFor (call.Listener (accept.ScramSha256 user password salt iterations nonce)) Idle = ⊥
+MadeFor (call.Listener (accept.ScramSha256 user password salt iterations nonce)) (Client x) = ⊥
+MadeFor (call.Listener (accept.ScramSha256 user password salt iterations nonce)) (Listener x) = IsListenerFor user password salt iterations nonce x
+
+-- user and password are in the profile
+abbrev pub HasAllowedTexts : SaslCall → Type 0
+HasAllowedTexts (call.Client (profile.ScramSha256 user password nonce) hostname) = IsAllowedUser user × IsAllowedPassword password
+HasAllowedTexts (call.Listener (accept.ScramSha256 user password salt iterations nonce)) = IsAllowedUser user × IsAllowedPassword password
+
+-- why a call begins no exchange
+abbrev pub IsCallRefusal : SaslCall → NegotiationError → Type 0
+IsCallRefusal asked (Memory a) = ⊤
+IsCallRefusal asked (ProtocolHeaderMismatch h) = ⊥
+IsCallRefusal asked NotImplemented = ⊥
+IsCallRefusal asked (SaslError code payload) = ⊥
+IsCallRefusal asked (ScramError kind) = (kind ≡ scram.TextNotAllowed) × (¬ HasAllowedTexts asked)
+IsCallRefusal asked (Io kind) = ⊥
+IsCallRefusal asked DecodeError = ⊥
+IsCallRefusal asked IllegalState = ⊥
+IsCallRefusal asked FramingError = ⊥
+
+-- the error of a negotiation that a kind of SCRAM comes to
+abbrev pub IsErrorOf : ScramErrorKind → NegotiationError → Type 0
+IsErrorOf (scram.Memory a) e = e ≡ Memory a
+IsErrorOf scram.TextNotAllowed e = e ≡ ScramError scram.TextNotAllowed
+IsErrorOf scram.Malformed e = e ≡ ScramError scram.Malformed
+IsErrorOf scram.NonceMismatch e = e ≡ ScramError scram.NonceMismatch
+IsErrorOf scram.Iterations e = e ≡ ScramError scram.Iterations
+IsErrorOf scram.Base64 e = e ≡ ScramError scram.Base64
+IsErrorOf scram.Signature e = e ≡ ScramError scram.Signature
+IsErrorOf scram.UserUnknown e = e ≡ ScramError scram.UserUnknown
+IsErrorOf scram.ProofMismatch e = e ≡ ScramError scram.ProofMismatch
+
+-- ---- the laws of the mechanism
+
+pub peer_refusal : (x : Authentication) (code : SaslCode) (given sent : List SaslBody) → turn_by x ≡ Refuse code → holds_by x given sent → causes_by x (refused_with code) given sent
+peer_refusal Idle code given sent t h = absurd h
+peer_refusal (Client x) code given sent t h = client_refusal x code given sent t h
+peer_refusal (Listener x) code given sent t h = server_refusal stored_for x code given sent t h
+
+pub peer_same_self : (x : Authentication) → same_by x x
+peer_same_self Idle = tt
+peer_same_self (Client x) = client_same_self x
+peer_same_self (Listener x) = server_same_self x
+
+pub peer_same_then : (x y z : Authentication) → same_by x y → same_by y z → same_by x z
+peer_same_then Idle Idle Idle p q = tt
+peer_same_then Idle Idle (Client z) p q = absurd q
+peer_same_then Idle Idle (Listener z) p q = absurd q
+peer_same_then Idle (Client y) z p q = absurd p
+peer_same_then Idle (Listener y) z p q = absurd p
+peer_same_then (Client x) Idle z p q = absurd p
+peer_same_then (Client x) (Client y) Idle p q = absurd q
+peer_same_then (Client x) (Client y) (Client z) p q = client_same_then x y z p q
+peer_same_then (Client x) (Client y) (Listener z) p q = absurd q
+peer_same_then (Client x) (Listener y) z p q = absurd p
+peer_same_then (Listener x) Idle z p q = absurd p
+peer_same_then (Listener x) (Client y) z p q = absurd p
+peer_same_then (Listener x) (Listener y) Idle p q = absurd q
+peer_same_then (Listener x) (Listener y) (Client z) p q = absurd q
+peer_same_then (Listener x) (Listener y) (Listener z) p q = server_same_then x y z p q

@@ -1,0 +1,4 @@
+pub mod Permission
+pub mod Authentication
+pub mod Opening
+pub mod Gated

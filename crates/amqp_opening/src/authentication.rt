@@ -1,0 +1,164 @@
+//! The SASL exchange of an end: a client's, or a listener's with one user (OASIS AMQP 1.0, part 5, section 5.3).
+ghost use Rattle.std.specs.Prelude.{◌≡◌, List, [], IfOk, IfErr};
+ghost use Rattle.amqp_opening.specs.Authentication.{holds_by, causes_by, owes_by, turn_by, left_by, same_by, peer_refusal, peer_same_self, peer_same_then, MadeFor, IsCallRefusal, IsErrorOf};
+ghost use Rattle.amqp_opening.specs.Permission.{IsAllowedProfile, IsAllowedSasl, IsAllowedSaslCall};
+
+use crate::acceptor::AcceptSasl;
+use amqp_composites::sasl_body::SaslBody;
+use amqp_text::Text;
+use kdf_core::Sha256Fn;
+use sasl_gate::gate::exchange::{Exchange, Turn, Verdict};
+use sasl_gate::{
+    ClientExchange, NegotiationError, OneUser, SaslProfile, ScramErrorKind, ServerExchange,
+    StoredPassword,
+};
+use std::alloc::{AllocError, Global};
+
+/// The exchange that an end is asked for.
+#[derive(Debug, Drop)]
+pub enum SaslCall {
+    /// A client's.
+    Client {
+        /// What it authenticates with.
+        profile: SaslProfile,
+        /// The host that it names in its init (part 5, section 5.3.3.2).
+        hostname: Option<Text>,
+    },
+    /// A listener's, which lets this user in.
+    Listener(AcceptSasl),
+}
+
+/// The exchange of an end.
+#[derive(Drop)]
+pub enum Authentication {
+    /// No call was made.
+    Idle,
+    /// A client's.
+    Client(ClientExchange),
+    /// A listener's.
+    Listener(ServerExchange<OneUser>),
+}
+
+impl Exchange for Authentication {
+    ghost holds = { holds_by };
+
+    ghost causes = { causes_by };
+
+    ghost owes = { owes_by };
+
+    ghost turn_of = { turn_by };
+
+    ghost left = { left_by };
+
+    ghost same = { same_by };
+
+    fn turn(&self) -> Turn {
+        match self {
+            Authentication::Idle => Turn::Receive,
+            Authentication::Client(exchange) => exchange.turn(),
+            Authentication::Listener(exchange) => exchange.turn(),
+        }
+    }
+
+    fn next_body(&self, alloc: Global) -> Result<SaslBody, AllocError> {
+        match self {
+            Authentication::Idle => unreachable!(),
+            Authentication::Client(exchange) => exchange.next_body(alloc),
+            Authentication::Listener(exchange) => exchange.next_body(alloc),
+        }
+    }
+
+    fn on_sent(&mut self) {
+        match self {
+            Authentication::Idle => unreachable!(),
+            Authentication::Client(exchange) => exchange.on_sent(),
+            Authentication::Listener(exchange) => exchange.on_sent(),
+        }
+    }
+
+    fn on_body(&mut self, alloc: Global, body: SaslBody) -> Result<Verdict, AllocError> {
+        match self {
+            Authentication::Idle => Ok(Verdict::Refused(NegotiationError::IllegalState)),
+            Authentication::Client(exchange) => exchange.on_body(alloc, body),
+            Authentication::Listener(exchange) => exchange.on_body(alloc, body),
+        }
+    }
+
+    ghost refusal = { peer_refusal };
+
+    ghost same_self = { peer_same_self };
+
+    ghost same_then = { peer_same_then };
+}
+
+// The error of a negotiation that a kind of SCRAM comes to.
+fn error_of(kind: ScramErrorKind) -> NegotiationError
+    ensures { IsErrorOf kind result }
+{
+    match kind {
+        ScramErrorKind::Memory(error) => NegotiationError::Memory(error),
+        _ => NegotiationError::ScramError(kind),
+    }
+}
+
+// The client's exchange; it takes no memory.
+fn client_exchange(
+    profile: SaslProfile,
+    hostname: Option<Text>,
+) -> Result<Authentication, NegotiationError>
+    requires { IsAllowedProfile profile }
+    ensures ok { IfOk result (MadeFor (SaslCall.Client profile hostname)) }
+    ensures begins { IfOk result (λ x. holds_by x [] []) }
+    ensures err { IfErr result (IsCallRefusal (SaslCall.Client profile hostname)) }
+{
+    match ClientExchange::new(profile, hostname) {
+        Ok(exchange) => Ok(Authentication::Client(exchange)),
+        Err(kind) => Err(NegotiationError::ScramError(kind)),
+    }
+}
+
+// The one user of a listener, with what it keeps of the password.
+fn listener_exchange(
+    alloc: Global,
+    acceptor: AcceptSasl,
+) -> Result<Authentication, NegotiationError>
+    requires { IsAllowedSasl acceptor }
+    ensures ok { IfOk result (MadeFor (SaslCall.Listener acceptor)) }
+    ensures begins { IfOk result (λ x. holds_by x [] []) }
+    ensures err { IfErr result (IsCallRefusal (SaslCall.Listener acceptor)) }
+{
+    let AcceptSasl::ScramSha256 {
+        username,
+        password,
+        salt,
+        iterations,
+        nonce,
+    } = acceptor;
+    let stored = match StoredPassword::derive::<Sha256Fn>(
+        alloc,
+        password.as_str(),
+        salt.as_slice(),
+        iterations,
+    ) {
+        Ok(stored) => stored,
+        Err(kind) => return Err(error_of(kind)),
+    };
+    match OneUser::new(username, password, Some(stored)) {
+        Ok(user) => Ok(Authentication::Listener(ServerExchange::new(user, nonce))),
+        Err(kind) => Err(NegotiationError::ScramError(kind)),
+    }
+}
+
+/// The exchange that is asked for. `ScramError(TextNotAllowed)` comes exactly where the user or the
+/// password is outside the profile, and the other error is want of memory.
+pub fn exchange_for(alloc: Global, call: SaslCall) -> Result<Authentication, NegotiationError>
+    requires { IsAllowedSaslCall call }
+    ensures ok { IfOk result (MadeFor call) }
+    ensures begins { IfOk result (λ x. holds_by x [] []) }
+    ensures err { IfErr result (IsCallRefusal call) }
+{
+    match call {
+        SaslCall::Client { profile, hostname } => client_exchange(profile, hostname),
+        SaslCall::Listener(acceptor) => listener_exchange(alloc, acceptor),
+    }
+}

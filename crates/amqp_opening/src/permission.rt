@@ -1,0 +1,54 @@
+//! Which exchanges of the SASL layer may be asked for.
+ghost use Rattle.std.specs.Prelude.{◌↔◌, IsTrue};
+ghost use Rattle.sasl_gate.specs.Profile.{IsAllowedCount};
+ghost use Rattle.amqp_opening.specs.Permission.{IsAllowedProfile, IsAllowedSasl, IsAllowedSaslCall};
+
+use crate::acceptor::AcceptSasl;
+use crate::authentication::SaslCall;
+use sasl_gate::SaslProfile;
+use sasl_gate::scram::profile::is_nonce;
+
+fn is_allowed_count(count: u32) -> bool
+    ensures { IsTrue result ↔ IsAllowedCount count }
+{
+    (1..=10_000_000).contains(&count)
+}
+
+/// Whether a client may authenticate with this: its nonce is 1 or more visible ASCII characters other than the comma.
+pub fn is_allowed_profile(profile: &SaslProfile) -> bool
+    ensures { IsTrue result ↔ IsAllowedProfile profile.now }
+{
+    match profile {
+        SaslProfile::ScramSha256 { nonce, .. } => is_nonce(nonce.as_bytes()),
+    }
+}
+
+/// Whether a listener may let this user in: its nonce is 1 or more visible ASCII characters other than the comma, the
+/// salt has 1 to 64 bytes, and there are 1 to 10,000,000 iterations.
+pub fn is_allowed_acceptor(acceptor: &AcceptSasl) -> bool
+    ensures { IsTrue result ↔ IsAllowedSasl acceptor.now }
+{
+    match acceptor {
+        AcceptSasl::ScramSha256 {
+            salt,
+            iterations,
+            nonce,
+            ..
+        } => {
+            is_nonce(nonce.as_bytes())
+                && salt.len() >= 1
+                && salt.len() <= 64
+                && is_allowed_count(*iterations)
+        }
+    }
+}
+
+/// Whether this exchange may be asked for, as `is_allowed_profile` and `is_allowed_acceptor` say.
+pub fn is_allowed(call: &SaslCall) -> bool
+    ensures { IsTrue result ↔ IsAllowedSaslCall call.now }
+{
+    match call {
+        SaslCall::Client { profile, .. } => is_allowed_profile(profile),
+        SaslCall::Listener(acceptor) => is_allowed_acceptor(acceptor),
+    }
+}
