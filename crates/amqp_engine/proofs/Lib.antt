@@ -1,6 +1,7 @@
 pub mod Reading
 pub mod Said
-pub mod Limits
+pub mod Hearing
+pub mod Writes
 pub mod Runs
 pub mod Steps
 pub mod Says
