@@ -203,7 +203,7 @@ record Acted {L : Type 0} (link : Ghosts L) (at : ℕ) (old : State L) (result :
 
 -- no frame is given
 moment_none : {L : Type 0} (link : Ghosts L) (at : ℕ) (old new : State L) (events : List LinkEvent) (queued : List Frame) → RanBy link old events [] queued new → IsMoment at old [] new
-moment_none link at old new events queued r = inl (refl, r.run.since r.given)
+moment_none link at old new events queued r = inl (refl, r.run.since r.given_is)
 
 moment_after : {L : Type 0} (link : Ghosts L) (at : ℕ) (old : State L) (wire : Wire L) (answer : Result (Next Frame) TransportFault) (result : Result EngineStep Error) (new : State L) (g : Grew link 0 amqp_spells old.wire at answer wire) → After at (record old { wire = wire }) answer result new → new.wire.clock ≡ wire.clock → RanBy link old g.events (frames_of answer) [] new → IsMoment at old (frames_of answer) new
 moment_after link at old wire (Ok (next.Frame x)) result new g a c r = inr (x, refl, ap (λ (k : IdleClock). k.since) (c ∙ g.clock))
@@ -306,11 +306,11 @@ stepped_so : {L : Type 0} (link : Ghosts L) (at : ℕ) (old : State L) (events :
 stepped_so link at old events given queued result new b f m t =
     record {
       run = b.run;
-      few = subst (λ (es : List LinkEvent). reads_in es ≤ 1) (sym b.events) f;
-      moment = subst (λ (gs : List Frame). IsMoment at old gs new) (sym b.given) m;
-      told = subst (λ (es : List LinkEvent). IsTold at old es b.run.given b.run.queued result new) (sym b.events)
-          (subst (λ (gs : List Frame). IsTold at old events gs b.run.queued result new) (sym b.given)
-          (subst (λ (qs : List Frame). IsTold at old events given qs result new) (sym b.queued) t));
+      few = subst (λ (es : List LinkEvent). reads_in es ≤ 1) (sym b.events_is) f;
+      moment = subst (λ (gs : List Frame). IsMoment at old gs new) (sym b.given_is) m;
+      told = subst (λ (es : List LinkEvent). IsTold at old es b.run.given b.run.queued result new) (sym b.events_is)
+          (subst (λ (gs : List Frame). IsTold at old events gs b.run.queued result new) (sym b.given_is)
+          (subst (λ (qs : List Frame). IsTold at old events given qs result new) (sym b.queued_is) t));
     }
 
 -- after the link took bytes
@@ -410,7 +410,7 @@ closed_told old y (Err (error.RemoteClosedWithError e)) new q = absurd q
 
 closed_so : {L : Type 0} (link : Ghosts L) (old : State L) (y : Option AmqpError) (queued : List Frame) (result : Result Unit Error) (new : State L) → RanBy link old [] [] queued new → IsClosedBy old y queued result new → HasClosed link old y result new
 closed_so link old y queued result new b t =
-    record { run = b.run; silent = b.events; none = b.given; told = subst (λ (qs : List Frame). IsClosedBy old y qs result new) (sym b.queued) t }
+    record { run = b.run; silent = b.events_is; none = b.given_is; told = subst (λ (qs : List Frame). IsClosedBy old y qs result new) (sym b.queued_is) t }
 
 closed_if : {L : Type 0} (open_now : Bool) (link : Ghosts L) (old : State L) (y : Option AmqpError) (result : Result Unit Error) (new : State L) → is_open old.phase ≡ open_now → SendsIf open_now old (close_frame y) (closing old y) result new → HasClosed link old y result new
 closed_if true link old y result new o q =

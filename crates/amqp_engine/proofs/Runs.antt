@@ -118,9 +118,9 @@ alike_failing {L} old new e =
 -- a run by these events, with these frames given and queued
 pub record RanBy {L : Type 0} (link : Ghosts L) (old : State L) (events : List LinkEvent) (given queued : List Frame) (new : State L) : Type 0 where
   pub run : Ran link old new
-  pub events : run.events ≡ events
-  pub given : run.given ≡ given
-  pub queued : run.queued ≡ queued
+  pub events_is : run.events ≡ events
+  pub given_is : run.given ≡ given
+  pub queued_is : run.queued ≡ queued
 
 joined_none : (bytes : List ℕ) (frames : List Frame) (from to : List ℕ) → to ≡ from → Joined 0 amqp_spells bytes frames from → Joined 0 amqp_spells (bytes ++ []) (frames ++ []) to
 joined_none bytes frames from to e j =
@@ -153,9 +153,9 @@ none_by {L} link old new a =
         stays = a.beside.stays;
         limits = λ l. let m = a.beside.limits l in (m.0, m.1, tt);
       };
-      events = refl;
-      given = refl;
-      queued = refl;
+      events_is = refl;
+      given_is = refl;
+      queued_is = refl;
     }
 
 pub ran_none : {L : Type 0} (link : Ghosts L) (old new : State L) → Alike old new → Ran link old new
@@ -217,9 +217,9 @@ unfolding ran_then
 then_by link a b c es fs gs hs qs rs m n =
     record {
       run = ran_then link a b c m.run n.run;
-      events = ap₂ (λ (u v : List LinkEvent). u ++ v) n.events m.events;
-      given = ap₂ (λ (u v : List Frame). u ++ v) m.given n.given;
-      queued = ap₂ (λ (u v : List Frame). u ++ v) m.queued n.queued;
+      events_is = ap₂ (λ (u v : List LinkEvent). u ++ v) n.events_is m.events_is;
+      given_is = ap₂ (λ (u v : List Frame). u ++ v) m.given_is n.given_is;
+      queued_is = ap₂ (λ (u v : List Frame). u ++ v) m.queued_is n.queued_is;
     }
 
 -- what may follow where a frame is queued
@@ -266,9 +266,9 @@ put_by {L} link old new x f fits =
           (omega (arith, lim, fits), tt),
         );
       };
-      events = refl;
-      given = refl;
-      queued = refl;
+      events_is = refl;
+      given_is = refl;
+      queued_is = refl;
     }
 
 idle_after : {X : Type 0} (answer : Result (Next X) TransportFault) (at : ℕ) (c : IdleClock) → (clock_after answer at c).idle ≡ c.idle
@@ -300,14 +300,14 @@ read_by {L} link at old wire answer new g b heard calm =
         idle = ap (λ (c : IdleClock). c.idle) (b.clock ∙ g.clock) ∙ idle_after answer at old.wire.clock;
         since = λ e. ap (λ (c : IdleClock). c.since) (b.clock ∙ g.clock) ∙ since_after answer at old.wire.clock e;
         calm = calm;
-        stays = b.stays;
+        stays = λ e. let f = b.stays e in record { phase = f.phase; reason = f.reason; none = f.none };
         limits = λ l.
             let m = b.limits (record { told = l.told ∙ sym lim; least = omega (arith, lim, l.least); first = λ f. lim ∙ l.first f }) in
             (m.0, omega (arith, lim, m.1), tt);
       };
-      events = refl;
-      given = refl;
-      queued = refl;
+      events_is = refl;
+      given_is = refl;
+      queued_is = refl;
     }
 
 -- bytes were written
@@ -332,7 +332,7 @@ flushed_by {L} link old wire answer f =
         stays = λ e. record { phase = e; reason = refl; none = refl };
         limits = λ l. (record { told = l.told ∙ sym lim; least = omega (arith, lim, l.least); first = λ e. lim ∙ l.first e }, omega (arith, lim), tt);
       };
-      events = refl;
-      given = refl;
-      queued = refl;
+      events_is = refl;
+      given_is = refl;
+      queued_is = refl;
     }
