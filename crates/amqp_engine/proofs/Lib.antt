@@ -7,3 +7,4 @@ pub mod Steps
 pub mod Says
 pub mod Seats
 pub mod Outcomes
+pub mod Reasons

@@ -67,3 +67,17 @@ IsHeard p.CloseSent reason given = IsGreeted given × (reason ≡ own_reason Non
 IsHeard p.Discarding reason given = IsGreeted given × (own : AmqpError) × (reason ≡ own_reason (Some own))
 IsHeard p.Ended reason given = IsOver reason given
 IsHeard p.Failed reason given = (reason ≡ why.Closed) ⊎ IsOver reason given
+
+-- the peer's Close came last, for that error, in place of Open or behind it (part 2, section 2.7.9)
+pub record HasLeft (error : Option AmqpError) (given : List Frame) : Type 0 where
+  pub front : List Frame
+  pub channel : ℕ
+  pub before : (front ≡ []) ⊎ IsGreeted front
+  pub is : given ≡ front ++ record { channel = channel; body = b.Close (record { error = error }) } ∷ []
+
+-- what a reason says of the frames that were read: where it is the peer's, its Close was read, for that error (part 2, section 2.4.3)
+abbrev pub IsReason : ConnectionStopReason → List Frame → Type 0
+IsReason why.Closed given = Unit {0}
+IsReason (why.ClosedWithError e) given = IsGreeted given ⊎ IsAnswered (why.ClosedWithError e) given
+IsReason why.RemoteClosed given = HasLeft None given
+IsReason (why.RemoteClosedWithError e) given = HasLeft (Some e) given

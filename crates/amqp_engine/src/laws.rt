@@ -12,17 +12,19 @@ ghost use Rattle.amqp_engine.specs.declared.engine.EngineStep.TheVariants as ste
 ghost use Rattle.amqp_engine.specs.declared.error.Error.{Error};
 ghost use Rattle.amqp_composites.specs.declared.error.Error.{Error as AmqpError};
 ghost use Rattle.amqp_engine.specs.State.{State, closing, close_frame};
+ghost use Rattle.amqp_engine.specs.Heard.{IsReason};
 ghost use Rattle.amqp_engine.specs.Sentence.{Ran, Has, IsCalm, History, grown, begun, IsSentence};
 
 use amqp_wire::link::Link;
 
 /// What was written is at every moment the front of: what was queued before, Open, frames of sessions and empty frames, at most
 /// one Close, and nothing after it; no frame is above the limit that is told. The frames that were given, joined with what is
-/// left, are the bytes that were read.
+/// left, are the bytes that were read. Where the reason of the stop is the peer's, its Close was the last frame, for that error.
 pub fn says_a_sentence<L: Link>()
     ensures start { (before arrived : List ℕ) (w : Wire L) (end : EndKind) (s : State L) → OpensTo w end (Ok s) → w.codec.output ≡ before → w.codec.input ≡ arrived → Has before arrived s (begun end) }
     ensures goes_on { (before arrived : List ℕ) (old new : State L) (h : History) (ran : Ran L.Link old new) → Has before arrived old h → Has before arrived new (grown h ran) }
     ensures written { (before arrived : List ℕ) (s : State L) (h : History) → Has before arrived s h → IsSentence s.settings.largest_written before (wrote_of h.events) }
+    ensures reason { (before arrived : List ℕ) (s : State L) (h : History) → Has before arrived s h → IsReason s.reason h.given }
 {}
 
 /// A transport that keeps no error makes an engine that keeps none, until the transport has ended it.
