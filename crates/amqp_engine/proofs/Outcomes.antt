@@ -1,5 +1,5 @@
 -- What an answer says of its call.
-use Rattle.std.proofs.Common.{◌≡◌, ◌≤◌, ◌⊎◌, [], ◌∷◌, ◌++◌, inl, inr, ℕ, List, Bool, true, false, Option, Some, None, Result, Ok, Err, arith, ◌+◌, refl, sym, ap, ◌∙◌, subst, length}
+use Rattle.std.proofs.Common.{◌≡◌, ◌≤◌, ◌⊎◌, [], ◌∷◌, ◌++◌, inl, inr, ℕ, List, Bool, true, false, Option, Some, None, Result, Ok, Err, arith, refl, sym, ap, ◌∙◌, subst}
 use Rattle.std.specs.Prelude.{◌↔◌}
 use Rattle.amqp_wire.specs.declared.link.Link.{Ghosts}
 use Rattle.amqp_wire.specs.declared.link.Held.{Held}
@@ -21,7 +21,7 @@ use Rattle.amqp_transport.specs.declared.transport.Error.TheVariants as fault
 use Rattle.amqp_transport.specs.declared.transport.Flush.{Flush}
 use Rattle.amqp_transport.specs.declared.transport.Next.{Next}
 use Rattle.amqp_transport.specs.declared.transport.Next.TheVariants as next
-use Rattle.amqp_transport.specs.Causes.{IsCause, IsUnspelled, Allows}
+use Rattle.amqp_transport.specs.Causes.{IsUnspelled, Allows}
 use Rattle.amqp_transport.specs.Clocks.{IsDue}
 use Rattle.amqp_transport.specs.Kinds.{amqp_spells, no_frame}
 use Rattle.amqp_transport.specs.Stream.{Grew, frames_of}
@@ -38,17 +38,16 @@ use Rattle.amqp_engine.specs.declared.sessions.Plan.{Plan}
 use Rattle.amqp_engine.specs.declared.sessions.Plan.TheVariants as plan
 use Rattle.amqp_engine.specs.Phases.{is_stopped, has_failed, is_open}
 use Rattle.amqp_engine.specs.Plans.{rejection_told}
-use Rattle.amqp_engine.specs.Heard.{IsOver}
 use Rattle.amqp_engine.specs.Machine.{received, answer_to, plan_of, admitted_answer, phase_after, awaited, awaited_answer, arrived, arrived_answer}
-use Rattle.amqp_engine.specs.State.{State, queueing, failing, closing, close_frame, error_for, beating}
-use Rattle.amqp_engine.specs.Calls.{IsTooLarge, Puts, IsMemory, Steps, Acts, ThenActs, Reads, After, Writes, Flushes, FlushesIf, AfterFlush, Answers, Sends, SendsIf}
-use Rattle.amqp_engine.specs.Sentence.{Ran, IsCalm}
-use Rattle.amqp_engine.specs.Faults.{IsFault, IsOwed, OwesTooMuch, input_of}
+use Rattle.amqp_engine.specs.State.{State, failing, closing, close_frame, error_for, beating}
+use Rattle.amqp_engine.specs.Calls.{Puts, IsMemory, Steps, Acts, ThenActs, Reads, After, Writes, Flushes, FlushesIf, AfterFlush, Sends, SendsIf}
+use Rattle.amqp_engine.specs.Sentence.{IsCalm}
+use Rattle.amqp_engine.specs.Faults.{IsFault, IsOwed, input_of}
 use Rattle.amqp_engine.specs.Outcomes.{IsWritten, HasWaited, HasRested, IsRefusal, HasWorked, IsTold, IsMoment, Stepped, IsClosedBy, HasClosed}
 use Rattle.amqp_engine.proofs.Hearing.{IsListening}
 use Rattle.amqp_engine.proofs.Runs.{RanBy, CanFollow, alike_refl, alike_same, alike_failing, none_by, then_by, read_by, flushed_by}
 use Rattle.amqp_engine.proofs.Steps.{in_phase, heard_in, listening_holds, queued_of, puts_by, reached, beats_follow, answers_follow, closes_follow, open_follows, is_open_only}
-use Rattle.amqp_engine.proofs.Writes.{write_events, writes_read, writes_reads}
+use Rattle.amqp_engine.proofs.Writes.{write_events}
 
 -- an answer to a frame that calls for a Close
 record Refuses (result : Result EngineStep Error) (phase : Phase) : Type 0 where

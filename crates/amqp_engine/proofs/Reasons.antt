@@ -9,7 +9,7 @@ use Rattle.amqp_transport.specs.declared.frames.Frame.{Frame}
 use Rattle.amqp_engine.specs.declared.phase.Phase.{Phase}
 use Rattle.amqp_engine.specs.declared.phase.Phase.TheVariants as p
 use Rattle.amqp_engine.specs.State.{State, remote_reason, own_reason, answered_reason}
-use Rattle.amqp_engine.specs.Heard.{IsHeard, IsGreeted, IsParted, IsMistaken, IsAnswered, IsOver, IsReason, HasLeft}
+use Rattle.amqp_engine.specs.Heard.{IsHeard, IsGreeted, IsParted, IsAnswered, IsOver, IsReason, HasLeft}
 use Rattle.amqp_engine.specs.Sentence.{Has, History}
 
 reason_is : (given : List Frame) (reason other : ConnectionStopReason) → reason ≡ other → IsReason other given → IsReason reason given

@@ -1,5 +1,5 @@
 -- Each call is a run.
-use Rattle.std.proofs.Common.{arith, ◌≡◌, inl, inr, ℕ, List, [], ◌∷◌, ◌++◌, Bool, true, false, Option, Some, None, Result, Ok, Err, refl, sym, ap, ◌∙◌, subst}
+use Rattle.std.proofs.Common.{arith, ◌≡◌, ℕ, List, [], ◌∷◌, ◌++◌, Bool, true, false, Option, Some, None, Result, Ok, Err, refl, sym, ap, ◌∙◌, subst}
 use Rattle.amqp_wire.specs.declared.link.Link.{Ghosts}
 use Rattle.amqp_composites.specs.declared.error.Error.{Error as AmqpError}
 use Rattle.amqp_frames.specs.declared.body.FrameBody.{FrameBody}
@@ -25,18 +25,18 @@ use Rattle.amqp_engine.specs.declared.error.Error.TheVariants as error
 use Rattle.amqp_engine.specs.declared.phase.Phase.{Phase}
 use Rattle.amqp_engine.specs.declared.phase.Phase.TheVariants as p
 use Rattle.amqp_engine.specs.Phases.{has_failed, is_open, is_stopped, kind_of, IsInner}
-use Rattle.amqp_engine.specs.State.{State, queueing, failing, failed_reason, closing, close_frame, close_phase, error_for, entered, beating, remote_reason, answered_reason}
+use Rattle.amqp_engine.specs.State.{State, queueing, failing, failed_reason, closing, close_frame, close_phase, entered, beating, remote_reason, answered_reason}
 use Rattle.amqp_engine.specs.declared.sessions.Plan.{Plan}
 use Rattle.amqp_engine.specs.declared.sessions.Plan.TheVariants as plan
 use Rattle.amqp_engine.specs.declared.error.AllocSessionError.{AllocSessionError}
 use Rattle.amqp_engine.specs.declared.error.AllocSessionError.TheVariants as alloc
 use Rattle.amqp_engine.specs.Channels.{Channels, taken_in}
 use Rattle.amqp_engine.specs.Machine.{received, awaited, arrived, outlasted, admitted, plan_of}
-use Rattle.amqp_engine.specs.Calls.{Puts, After, AfterFlush, failing_by, Reads, FlushesIf, Flushes, SendsIf, Sends, with_channels, Allocates}
+use Rattle.amqp_engine.specs.Calls.{Puts, After, AfterFlush, failing_by, FlushesIf, Flushes, SendsIf, Sends, with_channels, Allocates}
 use Rattle.amqp_engine.specs.Heard.{IsHeard, IsGreeted, IsOver}
 use Rattle.amqp_engine.specs.Sentence.{Ran, IsCalm, IsSaid, IsBegun, IsClosed}
 use Rattle.amqp_engine.proofs.Said.{said_closing, closed_push, begun_push, session_is_inner}
-use Rattle.amqp_engine.proofs.Runs.{Alike, Beside, RanBy, CanFollow, beside_refl, beside_moves, beside_failing, calm_failing, alike_same, alike_failing, within, heard_none, none_by, put_by, read_by, flushed_by, ran_none, ran_then}
+use Rattle.amqp_engine.proofs.Runs.{Alike, Beside, RanBy, CanFollow, beside_refl, beside_moves, beside_failing, calm_failing, alike_same, alike_failing, within, heard_none, none_by, put_by, flushed_by, ran_none, ran_then}
 use Rattle.amqp_engine.proofs.Hearing.{IsListening, heard_received, heard_failed, heard_closing}
 
 pub in_phase : {L : Type 0} (old : State L) (q : Phase) (sent : List Frame) → old.phase ≡ q → IsSaid old.phase sent → IsSaid q sent
