@@ -8,3 +8,4 @@ pub mod Says
 pub mod Seats
 pub mod Outcomes
 pub mod Reasons
+pub mod Owed

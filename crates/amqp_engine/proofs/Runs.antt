@@ -222,6 +222,10 @@ then_by link a b c es fs gs hs qs rs m n =
       queued_is = ap₂ (λ (u v : List Frame). u ++ v) m.queued_is n.queued_is;
     }
 
+-- a run by what is told of it
+pub by_itself : {L : Type 0} (link : Ghosts L) (old new : State L) (r : Ran link old new) → RanBy link old r.events r.given r.queued new
+by_itself link old new r = record { run = r; events_is = refl; given_is = refl; queued_is = refl }
+
 -- what may follow where a frame is queued
 pub record CanFollow {L : Type 0} (old : State L) (x : Frame) (after : State L) : Type 0 where
   pub wire : after.wire ≡ (queueing old x).wire

@@ -5,6 +5,7 @@ ghost use Rattle.amqp_transport.specs.Wire.{Wire};
 ghost use Rattle.amqp_engine.specs.declared.connection.EndKind.{EndKind};
 ghost use Rattle.amqp_engine.specs.Calls.{OpensTo, Steps, Sends};
 ghost use Rattle.amqp_engine.specs.Channels.{first_free, taken_up_to};
+ghost use Rattle.amqp_engine.specs.Faults.{OwesTooMuch};
 ghost use Rattle.amqp_engine.specs.Outcomes.{Stepped, HasClosed};
 ghost use Rattle.amqp_engine.specs.Phases.{is_stopped};
 ghost use Rattle.amqp_engine.specs.declared.engine.EngineStep.{EngineStep};
@@ -13,7 +14,7 @@ ghost use Rattle.amqp_engine.specs.declared.error.Error.{Error};
 ghost use Rattle.amqp_composites.specs.declared.error.Error.{Error as AmqpError};
 ghost use Rattle.amqp_engine.specs.State.{State, closing, close_frame};
 ghost use Rattle.amqp_engine.specs.Heard.{IsReason};
-ghost use Rattle.amqp_engine.specs.Sentence.{Ran, Has, IsCalm, History, grown, begun, IsSentence};
+ghost use Rattle.amqp_engine.specs.Sentence.{Ran, Has, IsCalm, IsLimited, History, grown, begun, IsSentence};
 
 use amqp_wire::link::Link;
 
@@ -35,11 +36,12 @@ pub fn keeps_no_error<L: Link>()
 
 /// `Pending` comes only where no heartbeat was due and the link answered in this call that nothing is there. `Stopped` comes
 /// exactly where the connection had stopped, unless what is queued could not be written. `Worked` and a refusal come only where a
-/// frame was given or queued, and an error of the transport has its cause in this call.
+/// frame was given or queued, and an error of the transport has its cause in this call. No frame that an end owes is too large.
 pub fn tells_of_its_call<L: Link>()
     ensures step { (at : ℕ) (old new : State L) (result : Result EngineStep Error) → Steps L.Link at old result new → Stepped L.Link at old result new }
     ensures stopped { (at : ℕ) (old new : State L) (answer : EngineStep) → Steps L.Link at old (Ok answer) new → (answer ≡ step.Stopped) ↔ (is_stopped old.phase ≡ true) }
     ensures close { (old new : State L) (y : Option AmqpError) (result : Result Unit Error) → Sends old (close_frame y) (closing old y) result new → HasClosed L.Link old y result new }
+    ensures owed { (s : State L) → IsLimited s → OwesTooMuch s → ⊥ }
 {}
 
 /// The lowest free channel is above the highest exactly where the sessions on channels up to the highest number one more than it.

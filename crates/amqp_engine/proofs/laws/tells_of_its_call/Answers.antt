@@ -1,3 +1,4 @@
+use Rattle.amqp_engine.proofs.Owed.{owes_little}
 use Rattle.amqp_engine.proofs.Outcomes.{stepped, stops_so, closed}
 use Rattle.amqp_engine.proofs.laws.tells_of_its_call.Goals as goal
 
@@ -9,3 +10,6 @@ returns-clause-stopped g c = stops_so g.L.Link
 
 pub returns-clause-close : goal.returns-clause-close
 returns-clause-close g c = λ old new y result. closed g.L.Link old y result new
+
+pub returns-clause-owed : goal.returns-clause-owed
+returns-clause-owed g c = owes_little
