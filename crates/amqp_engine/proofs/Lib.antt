@@ -1,8 +1,11 @@
 pub mod Reading
 pub mod Said
-pub mod Limits
+pub mod Hearing
+pub mod Writes
 pub mod Runs
 pub mod Steps
 pub mod Says
 pub mod Seats
 pub mod Outcomes
+pub mod Reasons
+pub mod Owed

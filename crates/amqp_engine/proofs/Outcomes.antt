@@ -1,211 +1,436 @@
--- What a step's answer says of its call.
-use Rattle.std.proofs.Common.{◌≡◌, [], ◌∷◌, inl, inr, ℕ, List, Bool, true, false, Option, Some, None, Result, Ok, Err, arith, ◌+◌, refl, sym, ap, subst}
+-- What an answer says of its call.
+use Rattle.std.proofs.Common.{◌≡◌, ◌≤◌, ◌⊎◌, [], ◌∷◌, ◌++◌, inl, inr, ℕ, List, Bool, true, false, Option, Some, None, Result, Ok, Err, arith, refl, sym, ap, ◌∙◌, subst}
 use Rattle.std.specs.Prelude.{◌↔◌}
 use Rattle.amqp_wire.specs.declared.link.Link.{Ghosts}
-use Rattle.amqp_wire.specs.declared.link.Stop.{Stop}
-use Rattle.amqp_wire.specs.declared.link.Stop.TheVariants.{Empty, End, Failed}
-use Rattle.amqp_wire.specs.declared.frame.Front.{Front}
-use Rattle.amqp_wire.specs.declared.frame.Front.TheVariants.{Partial, Refused, Foreign, Whole}
-use Rattle.amqp_wire.specs.Steps.{ReadBy}
+use Rattle.amqp_wire.specs.declared.link.Held.{Held}
+use Rattle.amqp_wire.specs.declared.link.Held.TheVariants.{Full, Failed as HeldFailed, Memory as HeldMemory}
+use Rattle.amqp_wire.specs.declared.link.Stop.TheVariants.{End as EndStop, Failed}
+use Rattle.amqp_wire.specs.declared.link.IoKind.TheVariants.{Fault, End}
+use Rattle.amqp_wire.specs.declared.frame.Front.TheVariants.{Refused, Foreign}
+use Rattle.amqp_wire.specs.Events.{LinkEvent, NotRead, NotWritten, Includes, read_of, reads_in}
+use Rattle.amqp_wire.specs.Frame.{IsFront}
+use Rattle.amqp_wire.specs.Codec.{Codec}
+use Rattle.amqp_wire.proofs.Events.{includes_left, includes_right, read_of-append, reads_in-append}
+use Rattle.amqp_composites.specs.declared.error.Error.{Error as AmqpError}
+use Rattle.amqp_frames.specs.declared.body.FrameBody.{FrameBody}
+use Rattle.amqp_frames.specs.declared.body.FrameBody.TheVariants as b
 use Rattle.amqp_transport.specs.declared.frames.Frame.{Frame}
+use Rattle.amqp_transport.specs.declared.idle_clock.IdleClock.{IdleClock}
 use Rattle.amqp_transport.specs.declared.transport.Error.{Error as TransportFault}
+use Rattle.amqp_transport.specs.declared.transport.Error.TheVariants as fault
 use Rattle.amqp_transport.specs.declared.transport.Flush.{Flush}
 use Rattle.amqp_transport.specs.declared.transport.Next.{Next}
 use Rattle.amqp_transport.specs.declared.transport.Next.TheVariants as next
-use Rattle.amqp_transport.specs.declared.transport.Error.TheVariants as fault
-use Rattle.amqp_wire.specs.declared.link.IoKind.TheVariants.{Fault}
+use Rattle.amqp_transport.specs.Causes.{IsUnspelled, Allows}
 use Rattle.amqp_transport.specs.Clocks.{IsDue}
-use Rattle.amqp_transport.specs.Kinds.{amqp_spells}
-use Rattle.std.proofs.lemmas.Bool.{cases_lt}
-use Rattle.amqp_frames.specs.declared.body.FrameBody.{FrameBody}
-use Rattle.amqp_frames.specs.declared.body.FrameBody.TheVariants as b
-use Rattle.amqp_transport.specs.Wire.{Wire, Polled, PolledAt, Answered, Waits, Ends, keeping}
+use Rattle.amqp_transport.specs.Kinds.{amqp_spells, no_frame}
+use Rattle.amqp_transport.specs.Stream.{Grew, frames_of}
+use Rattle.amqp_transport.specs.Wire.{Wire, flush_of}
 use Rattle.amqp_engine.specs.declared.engine.EngineStep.{EngineStep}
 use Rattle.amqp_engine.specs.declared.engine.EngineStep.TheVariants as step
 use Rattle.amqp_engine.specs.declared.error.Error.{Error}
+use Rattle.amqp_engine.specs.declared.error.Error.TheVariants as error
 use Rattle.amqp_engine.specs.declared.phase.Phase.{Phase}
 use Rattle.amqp_engine.specs.declared.phase.Phase.TheVariants as p
-use Rattle.amqp_engine.specs.Phases.{is_stopped, has_failed}
 use Rattle.amqp_engine.specs.declared.phase.Rejection.{Rejection}
+use Rattle.amqp_engine.specs.declared.phase.Rejection.TheVariants as rejection
 use Rattle.amqp_engine.specs.declared.sessions.Plan.{Plan}
 use Rattle.amqp_engine.specs.declared.sessions.Plan.TheVariants as plan
+use Rattle.amqp_engine.specs.Phases.{is_stopped, has_failed, is_open}
 use Rattle.amqp_engine.specs.Plans.{rejection_told}
-use Rattle.amqp_engine.specs.Machine.{answer_to, plan_of, admitted_answer, awaited_answer, arrived_answer}
-use Rattle.amqp_engine.specs.State.{State}
-use Rattle.amqp_engine.specs.Calls.{Steps, Acts, ThenActs, Reads, After, Flushes, FlushesIf, AfterFlush}
-use Rattle.amqp_engine.specs.Outcomes.{Waited}
+use Rattle.amqp_engine.specs.Machine.{received, answer_to, plan_of, admitted_answer, phase_after, awaited, awaited_answer, arrived, arrived_answer}
+use Rattle.amqp_engine.specs.State.{State, failing, closing, close_frame, error_for, beating}
+use Rattle.amqp_engine.specs.Calls.{Puts, IsMemory, Steps, Acts, ThenActs, Reads, After, Writes, Flushes, FlushesIf, AfterFlush, Sends, SendsIf}
+use Rattle.amqp_engine.specs.Sentence.{IsCalm}
+use Rattle.amqp_engine.specs.Faults.{IsFault, IsOwed, input_of}
+use Rattle.amqp_engine.specs.Outcomes.{IsWritten, HasWaited, HasRested, IsRefusal, HasWorked, IsTold, IsMoment, Stepped, IsClosedBy, HasClosed}
+use Rattle.amqp_engine.proofs.Hearing.{IsListening}
+use Rattle.amqp_engine.proofs.Runs.{RanBy, CanFollow, alike_refl, alike_same, alike_failing, none_by, then_by, read_by, flushed_by}
+use Rattle.amqp_engine.proofs.Steps.{in_phase, heard_in, listening_holds, queued_of, puts_by, reached, beats_follow, answers_follow, closes_follow, open_follows, is_open_only}
+use Rattle.amqp_engine.proofs.Writes.{write_events}
 
--- a transport that gives nothing yet has found its link empty
-record FoundEmpty {L : Type 0} (link : Ghosts L) (old new : L) : Type 0 where
-  pub bytes : List ℕ
-  pub reads : ReadBy link old bytes (Some Empty) new
+-- an answer to a frame that calls for a Close
+record Refuses (result : Result EngineStep Error) (phase : Phase) : Type 0 where
+  pub error : Error
+  pub is : result ≡ Err error
+  pub refusal : IsRefusal error phase
 
-waits_pending : {L X : Type 0} (at : ℕ) (old : Wire L) (otherwise : Result (Next X) TransportFault) (after new : Wire L) → Waits at old otherwise after (Ok next.Pending) new → (Ok next.Pending ≡ otherwise) × (new ≡ after)
-waits_pending {L} {X} at old otherwise after new w =
-    elim (cases_lt 0 old.clock.idle) [
-      | inl pos ↦ elim (cases_lt at (old.clock.since + old.clock.idle)) [
-        | inl less ↦ w.other (λ i. absurd (omega (arith, i.passed, less)))
-        | inr past ↦ absurd (cc (w.idle (record { runs = pos; passed = past })).error)
-      ]
-      | inr none ↦ w.other (λ i. absurd (omega (arith, i.runs, none)))
+refused : Refuses (Err error.IllegalState) p.Refused
+refused = record { error = error.IllegalState; is = refl; refusal = inl (refl, refl) }
+
+awaited_so : {L : Type 0} (at : ℕ) (s : State L) (body : FrameBody) → (awaited_answer body ≡ Ok step.Worked) ⊎ Refuses (awaited_answer body) (awaited at s body).phase
+awaited_so at s (b.Open y) = inl refl
+awaited_so at s (b.Close y) = inl refl
+awaited_so at s b.Empty = inr refused
+awaited_so at s (b.Begin y) = inr refused
+awaited_so at s (b.Attach y) = inr refused
+awaited_so at s (b.Flow y) = inr refused
+awaited_so at s (b.Transfer y z) = inr refused
+awaited_so at s (b.Disposition y) = inr refused
+awaited_so at s (b.Detach y) = inr refused
+awaited_so at s (b.End y) = inr refused
+
+rejected : (why : Rejection) → Refuses (Err (rejection_told why)) (p.Rejected why)
+rejected why = record { error = rejection_told why; is = refl; refusal = inr (why, refl, refl) }
+
+admitted_so : (q : Plan) (phase : Phase) → (admitted_answer q ≡ Ok step.Worked) ⊎ Refuses (admitted_answer q) (phase_after q phase)
+admitted_so (plan.Reject why) phase = inr (rejected why)
+admitted_so plan.Deliver phase = inl refl
+admitted_so plan.Answer phase = inl refl
+admitted_so plan.End phase = inl refl
+admitted_so plan.Ask phase = inl refl
+
+arrived_so : {L : Type 0} (s : State L) (x : Frame) (body : FrameBody) → (arrived_answer (plan_of s x) body ≡ Ok step.Worked) ⊎ Refuses (arrived_answer (plan_of s x) body) (arrived s x body).phase
+arrived_so s x (b.Open y) = inr (rejected rejection.IllegalState)
+arrived_so s x (b.Close y) = inl refl
+arrived_so s x b.Empty = inl refl
+arrived_so s x (b.Begin y) = admitted_so (plan_of s x) s.phase
+arrived_so s x (b.Attach y) = admitted_so (plan_of s x) s.phase
+arrived_so s x (b.Flow y) = admitted_so (plan_of s x) s.phase
+arrived_so s x (b.Transfer y z) = admitted_so (plan_of s x) s.phase
+arrived_so s x (b.Disposition y) = admitted_so (plan_of s x) s.phase
+arrived_so s x (b.Detach y) = admitted_so (plan_of s x) s.phase
+arrived_so s x (b.End y) = admitted_so (plan_of s x) s.phase
+
+-- a frame that is read is answered by Worked, or refused
+answer_so : {L : Type 0} (q : Phase) (at : ℕ) (s : State L) (x : Frame) → (answer_to q s x ≡ Ok step.Worked) ⊎ Refuses (answer_to q s x) (received q at s x).phase
+answer_so p.OpenSent at s x = awaited_so at s x.body
+answer_so p.Opened at s x = arrived_so s x x.body
+answer_so p.CloseReceived at s x = inl refl
+answer_so p.Refused at s x = inl refl
+answer_so (p.Rejected why) at s x = inl refl
+answer_so p.CloseSent at s x = inl refl
+answer_so p.Discarding at s x = inl refl
+answer_so p.Ended at s x = inl refl
+answer_so p.Failed at s x = inl refl
+
+told_is : {L : Type 0} (at : ℕ) (old : State L) (events : List LinkEvent) (given queued : List Frame) (result other : Result EngineStep Error) (new : State L) → result ≡ other → IsTold at old events given queued other new → IsTold at old events given queued result new
+told_is at old events given queued result other new e t = subst (λ (r : Result EngineStep Error). IsTold at old events given queued r new) (sym e) t
+
+rejection_is : {L : Type 0} (at : ℕ) (old : State L) (events : List LinkEvent) (given queued : List Frame) (why : Rejection) (new : State L) → HasWorked given queued → new.phase ≡ p.Rejected why → IsTold at old events given queued (Err (rejection_told why)) new
+rejection_is at old events given queued rejection.IllegalState new w e = (w, inr (rejection.IllegalState, refl, e))
+rejection_is at old events given queued rejection.NotImplemented new w e = (w, inr (rejection.NotImplemented, refl, e))
+rejection_is at old events given queued rejection.NotFound new w e = (w, inr (rejection.NotFound, refl, e))
+
+told_refusal : {L : Type 0} (at : ℕ) (old : State L) (events : List LinkEvent) (given queued : List Frame) (e : Error) (new : State L) → HasWorked given queued → IsRefusal e new.phase → IsTold at old events given queued (Err e) new
+told_refusal at old events given queued e new w (inl r) = told_is at old events given queued (Err e) (Err error.IllegalState) new (ap (λ (z : Error). Err z) r.0) (w, inl (refl, r.1))
+told_refusal at old events given queued e new w (inr r) = told_is at old events given queued (Err e) (Err (rejection_told r.0)) new (ap (λ (z : Error). Err z) r.1) (rejection_is at old events given queued r.0 new w r.2)
+
+-- an error of the transport, which ends the engine
+told_fault : {L : Type 0} (at : ℕ) (old s : State L) (events : List LinkEvent) (given queued : List Frame) (e : TransportFault) (result : Result EngineStep Error) (new : State L) → result ≡ Err (error.TransportError e) → new ≡ failing s → (IsCalm old → IsFault at old events e) → IsTold at old events given queued result new
+told_fault {L} at old s events given queued e result new r n f = told_is at old events given queued result (Err (error.TransportError e)) new r (ap (λ (t : State L). has_failed t.phase) n, f)
+
+-- an answer that gives something comes only where no error is kept
+fresh : (kept : Option TransportFault) (y : Next Frame) → Allows kept (Ok y) → kept ≡ None
+fresh None y a = refl
+fresh (Some e) y a = absurd (cc a)
+
+-- what passed before moved no bytes in
+input_is : {L : Type 0} (old : State L) (es fs : List LinkEvent) → read_of es ≡ [] → input_of old (fs ++ es) ≡ input_of old fs
+input_is old es fs n = ap (λ (u : List ℕ). old.wire.codec.input ++ u) (read_of-append fs es ∙ ap (λ (u : List ℕ). u ++ read_of fs) n)
+
+-- the transport gave an error
+told_err : {L : Type 0} (link : Ghosts L) (at : ℕ) (old : State L) (wire : Wire L) (e : TransportFault) (result : Result EngineStep Error) (new : State L) (g : Grew link 0 amqp_spells old.wire at (Err e) wire) (es : List LinkEvent) → IsListening old.phase → read_of es ≡ [] → After at (record old { wire = wire }) (Err e) result new → IsTold at old (g.events ++ es) [] [] result new
+told_err link at old wire (fault.Memory m) result new g es l n a = told_is at old (g.events ++ es) [] [] result (Err (error.Memory m)) new a.0 tt
+told_err link at old wire (fault.Io Fault) result new g es l n a =
+    told_fault at old (record old { wire = wire }) (g.events ++ es) [] [] (fault.Io Fault) result new a.0 a.1 (λ c. inl (includes_left g.events es (NotRead Failed) (g.cause (c (listening_holds old.phase l)))))
+told_err link at old wire (fault.Io End) result new g es l n a =
+    told_fault at old (record old { wire = wire }) (g.events ++ es) [] [] (fault.Io End) result new a.0 a.1 (λ c. includes_left g.events es (NotRead EndStop) (g.cause (c (listening_holds old.phase l))))
+told_err link at old wire fault.IdleTimeoutElapsed result new g es l n a =
+    told_fault at old (record old { wire = wire }) (g.events ++ es) [] [] fault.IdleTimeoutElapsed result new a.0 a.1 (λ c. g.cause (c (listening_holds old.phase l)))
+told_err link at old wire fault.DecodeError result new g es l n a =
+    told_fault at old (record old { wire = wire }) (g.events ++ es) [] [] fault.DecodeError result new a.0 a.1
+    (λ c. subst (λ (u : List ℕ). IsUnspelled 0 amqp_spells old.wire.codec.decoder u) (sym (input_is old es g.events n)) (g.cause (c (listening_holds old.phase l))))
+told_err link at old wire fault.NotImplemented result new g es l n a =
+    told_fault at old (record old { wire = wire }) (g.events ++ es) [] [] fault.NotImplemented result new a.0 a.1
+    (λ c. subst (λ (u : List ℕ). IsFront 0 old.wire.codec.decoder u Foreign) (sym (input_is old es g.events n)) (g.cause (c (listening_holds old.phase l))))
+told_err link at old wire fault.FramingError result new g es l n a =
+    told_fault at old (record old { wire = wire }) (g.events ++ es) [] [] fault.FramingError result new a.0 a.1
+    (λ c. inl (subst (λ (u : List ℕ). IsFront 0 old.wire.codec.decoder u Refused) (sym (input_is old es g.events n)) (g.cause (c (listening_holds old.phase l)))))
+
+listening_live : (q : Phase) → IsListening q → is_stopped q ≡ false
+listening_live p.OpenSent l = refl
+listening_live p.Opened l = refl
+listening_live p.CloseReceived l = refl
+listening_live p.Refused l = refl
+listening_live (p.Rejected why) l = refl
+listening_live p.CloseSent l = refl
+listening_live p.Discarding l = refl
+listening_live p.Ended l = absurd l
+listening_live p.Failed l = absurd l
+
+-- what was written before is written, where nothing is queued since
+written_then : {L : Type 0} (old new : State L) (fs es : List LinkEvent) → has_failed old.phase ≡ false → new.wire.codec.output ≡ old.wire.codec.output → IsWritten old.phase es old.wire.codec.output → Includes (fs ++ es) (NotWritten Full) ⊎ (new.wire.codec.output ≡ [])
+written_then old new fs es h o (inl f) = absurd (cc (h, f))
+written_then old new fs es h o (inr (inl i)) = inl (includes_right fs es (NotWritten Full) i)
+written_then old new fs es h o (inr (inr e)) = inr (o ∙ e)
+
+told_pending : {L : Type 0} (link : Ghosts L) (at : ℕ) (old : State L) (wire : Wire L) (new : State L) (g : Grew link 0 amqp_spells old.wire at (Ok next.Pending) wire) (es : List LinkEvent) → IsListening old.phase → (old.phase ≡ p.Opened → IsDue old.beat at → ⊥) → IsWritten old.phase es old.wire.codec.output → new ≡ record old { wire = wire } → HasWaited at old (g.events ++ es) new
+told_pending {L} link at old wire new g es l u w n =
+    let phase : new.phase ≡ old.phase = ap (λ (t : State L). t.phase) n in
+    record {
+      found = includes_left g.events es _ (g.cause (fresh old.wire.kept next.Pending g.again));
+      written = written_then old new g.events es (listening_holds old.phase l) (ap (λ (t : State L). t.wire.codec.output) n ∙ g.output) w;
+      phase = phase;
+      live = ap is_stopped phase ∙ listening_live old.phase l;
+      undue = u;
+    }
+
+told_after : {L : Type 0} (link : Ghosts L) (at : ℕ) (old : State L) (wire : Wire L) (answer : Result (Next Frame) TransportFault) (result : Result EngineStep Error) (new : State L) (g : Grew link 0 amqp_spells old.wire at answer wire) (es : List LinkEvent) → IsListening old.phase → (old.phase ≡ p.Opened → IsDue old.beat at → ⊥) → read_of es ≡ [] → IsWritten old.phase es old.wire.codec.output → After at (record old { wire = wire }) answer result new → IsTold at old (g.events ++ es) (frames_of answer) [] result new
+told_after {L} link at old wire (Ok (next.Frame x)) result new g es l u n w a =
+    let worked : HasWorked (x ∷ []) [] = omega arith in
+    elim (answer_so old.phase at (record old { wire = wire }) x) [
+      | inl k ↦ told_is at old (g.events ++ es) (x ∷ []) [] result (Ok step.Worked) new (a.0 ∙ k) worked
+      | inr r ↦ told_is at old (g.events ++ es) (x ∷ []) [] result (Err r.error) new (a.0 ∙ r.is)
+          (told_refusal at old (g.events ++ es) (x ∷ []) [] r.error new worked (subst (λ (q : Phase). IsRefusal r.error q) (sym (ap (λ (t : State L). t.phase) a.1)) r.refusal))
     ]
+told_after link at old wire (Ok next.Pending) result new g es l u n w a =
+    told_is at old (g.events ++ es) [] [] result (Ok step.Pending) new a.0 (told_pending link at old wire new g es l u w a.1)
+told_after link at old wire (Ok next.Ended) result new g es l u n w a =
+    told_fault at old (record old { wire = wire }) (g.events ++ es) [] [] (fault.Io End) result new a.0 a.1 (λ c. includes_left g.events es (NotRead EndStop) (g.cause (fresh old.wire.kept next.Ended g.again)).0)
+told_after link at old wire (Err e) result new g es l u n w a = told_err link at old wire e result new g es l n a
 
-ends_pending : {L X : Type 0} (input : List ℕ) (old new : Wire L) → old.codec.input ≡ input → Ends {X = X} old (Ok next.Pending) new → ⊥
-ends_pending [] old new e w = absurd (cc (w.whole e).0)
-ends_pending (b ∷ bs) old new e w = absurd (cc (w.cut (λ n. absurd (cc (e, n)))).error)
+-- what is done after the flush, with what its answer says, whatever was written before
+record Acted {L : Type 0} (link : Ghosts L) (at : ℕ) (old : State L) (result : Result EngineStep Error) (new : State L) : Type 0 where
+  pub events : List LinkEvent
+  pub given : List Frame
+  pub queued : List Frame
+  pub by : RanBy link old events given queued new
+  pub few : reads_in events ≤ 1
+  pub moment : IsMoment at old given new
+  pub told : (es : List LinkEvent) → read_of es ≡ [] → IsWritten old.phase es old.wire.codec.output → IsTold at old (events ++ es) given queued result new
 
-empty_answered : {L X : Type 0} (link : Ghosts L) (spells : ℕ → List ℕ → X → Type 0) (front : Front) (stop : Option Stop) (at : ℕ) (start : L) (bytes : List ℕ) (old new : Wire L) → ReadBy link start bytes stop old.codec.link → Answered spells front stop at old (Ok next.Pending) new → FoundEmpty link start new.codec.link
-empty_answered link spells (Whole size begins channel) stop at start bytes old new r a = absurd a
-empty_answered link spells Refused stop at start bytes old new r a = absurd (cc a.error)
-empty_answered link spells Foreign stop at start bytes old new r a = absurd (cc a.error)
-empty_answered link spells Partial None at start bytes old new r a = absurd a
-empty_answered {L} {X} link spells Partial (Some Empty) at start bytes old new r a =
-    let w = waits_pending at old (Ok next.Pending) old new a in
-    record { bytes = bytes; reads = subst (λ (v : Wire L). ReadBy link start bytes (Some Empty) v.codec.link) (sym w.1) r }
-empty_answered {L} {X} link spells Partial (Some End) at start bytes old new r a = absurd (ends_pending {X = X} old.codec.input old new refl a)
-empty_answered link spells Partial (Some Failed) at start bytes old new r a =
-    let w = waits_pending at old (Err (fault.Io Fault)) (keeping old (fault.Io Fault)) new a in absurd (cc w.0)
+-- no frame is given
+moment_none : {L : Type 0} (link : Ghosts L) (at : ℕ) (old new : State L) (events : List LinkEvent) (queued : List Frame) → RanBy link old events [] queued new → IsMoment at old [] new
+moment_none link at old new events queued r = inl (refl, r.run.since r.given_is)
 
-empty_polled : {L X : Type 0} (link : Ghosts L) (kind : ℕ) (spells : ℕ → List ℕ → X → Type 0) (kept : Option TransportFault) (at : ℕ) (old new : Wire L) → PolledAt kept link kind spells old at (Ok next.Pending) new → FoundEmpty link old.codec.link new.codec.link
-empty_polled link kind spells (Some e) at old new q = absurd (cc q.0)
-empty_polled link kind spells None at old new (inr (m, w)) = absurd m
-empty_polled link kind spells None at old new (inl a) = empty_answered link spells a.front a.stop at old.codec.link a.bytes (record old { codec = a.fed }) new a.reads a.answer
+moment_after : {L : Type 0} (link : Ghosts L) (at : ℕ) (old : State L) (wire : Wire L) (answer : Result (Next Frame) TransportFault) (result : Result EngineStep Error) (new : State L) (g : Grew link 0 amqp_spells old.wire at answer wire) → After at (record old { wire = wire }) answer result new → new.wire.clock ≡ wire.clock → RanBy link old g.events (frames_of answer) [] new → IsMoment at old (frames_of answer) new
+moment_after link at old wire (Ok (next.Frame x)) result new g a c r = inr (x, refl, ap (λ (k : IdleClock). k.since) (c ∙ g.clock))
+moment_after link at old wire (Ok next.Pending) result new g a c r = moment_none link at old new g.events [] r
+moment_after link at old wire (Ok next.Ended) result new g a c r = moment_none link at old new g.events [] r
+moment_after link at old wire (Err e) result new g a c r = moment_none link at old new g.events [] r
 
--- a frame that is read is never answered by Pending
-told_not : (why : Rejection) → Ok step.Pending ≡ Err (rejection_told why) → ⊥
-told_not why e = absurd (cc e)
+acted_reads : {L : Type 0} (link : Ghosts L) (at : ℕ) (old : State L) (result : Result EngineStep Error) (new : State L) → IsListening old.phase → (old.phase ≡ p.Opened → IsDue old.beat at → ⊥) → Reads link at old result new → Acted link at old result new
+acted_reads link at old result new l u r =
+    let k = reached link at old r.wire r.answer result new l r.joined r.does in
+    let by = read_by link at old r.wire r.answer new r.joined k.beside k.heard k.calm in
+    record {
+      events = r.joined.events;
+      given = frames_of r.answer;
+      queued = [];
+      by = by;
+      few = r.joined.few;
+      moment = moment_after link at old r.wire r.answer result new r.joined r.does k.beside.clock by;
+      told = λ es n w. told_after link at old r.wire r.answer result new r.joined es l u n w r.does;
+    }
 
-admitted_not : (q : Plan) → Ok step.Pending ≡ admitted_answer q → ⊥
-admitted_not (plan.Reject why) e = told_not why e
-admitted_not plan.Deliver e = absurd (cc e)
-admitted_not plan.Answer e = absurd (cc e)
-admitted_not plan.End e = absurd (cc e)
-admitted_not plan.Ask e = absurd (cc e)
+-- nothing was done
+acted_none : {L : Type 0} (link : Ghosts L) (at : ℕ) (old : State L) (result : Result EngineStep Error) (new : State L) → RanBy link old [] [] [] new → ((es : List LinkEvent) → IsWritten old.phase es old.wire.codec.output → IsTold at old es [] [] result new) → Acted link at old result new
+acted_none link at old result new r t =
+    record { events = []; given = []; queued = []; by = r; few = omega arith; moment = moment_none link at old new [] [] r; told = λ es n w. t es w }
 
-awaited_not : (body : FrameBody) → Ok step.Pending ≡ awaited_answer body → ⊥
-awaited_not (b.Open y) e = absurd (cc e)
-awaited_not (b.Close y) e = absurd (cc e)
-awaited_not b.Empty e = absurd (cc e)
-awaited_not (b.Begin y) e = absurd (cc e)
-awaited_not (b.Attach y) e = absurd (cc e)
-awaited_not (b.Flow y) e = absurd (cc e)
-awaited_not (b.Transfer y z) e = absurd (cc e)
-awaited_not (b.Disposition y) e = absurd (cc e)
-awaited_not (b.Detach y) e = absurd (cc e)
-awaited_not (b.End y) e = absurd (cc e)
+-- memory was wanting
+acted_wants : {L : Type 0} (link : Ghosts L) (at : ℕ) (old : State L) (result : Result EngineStep Error) (new : State L) → IsMemory result → new ≡ old → Acted link at old result new
+acted_wants link at old (Ok v) new m e = absurd m
+acted_wants link at old (Err (error.Memory a)) new m e = acted_none link at old (Err (error.Memory a)) new (none_by link old new (alike_same old new e)) (λ es w. tt)
+acted_wants link at old (Err (error.TransportError f)) new m e = absurd m
+acted_wants link at old (Err error.IllegalState) new m e = absurd m
+acted_wants link at old (Err error.NotImplemented) new m e = absurd m
+acted_wants link at old (Err error.NotFound) new m e = absurd m
+acted_wants link at old (Err error.RemoteClosed) new m e = absurd m
+acted_wants link at old (Err (error.RemoteClosedWithError f)) new m e = absurd m
 
-arrived_not : (q : Plan) (body : FrameBody) → Ok step.Pending ≡ arrived_answer q body → ⊥
-arrived_not q (b.Open y) e = absurd (cc e)
-arrived_not q (b.Close y) e = absurd (cc e)
-arrived_not q b.Empty e = absurd (cc e)
-arrived_not q (b.Begin y) e = admitted_not q e
-arrived_not q (b.Attach y) e = admitted_not q e
-arrived_not q (b.Flow y) e = admitted_not q e
-arrived_not q (b.Transfer y z) e = admitted_not q e
-arrived_not q (b.Disposition y) e = admitted_not q e
-arrived_not q (b.Detach y) e = admitted_not q e
-arrived_not q (b.End y) e = admitted_not q e
+told_puts : {L : Type 0} (at : ℕ) (old : State L) (x : Frame) (after : State L) (es : List LinkEvent) (result : Result EngineStep Error) (new : State L) → IsOwed old.phase x → Puts old x after step.Worked result new → IsTold at old es [] (queued_of x result) result new
+told_puts at old x after es (Ok v) new o q =
+    let worked : HasWorked [] (x ∷ []) = omega arith in
+    told_is at old es [] (x ∷ []) (Ok v) (Ok step.Worked) new (ap (λ (z : EngineStep). Ok z) q.0) worked
+told_puts at old x after es (Err (error.Memory a)) new o q = tt
+told_puts at old x after es (Err (error.TransportError fault.FramingError)) new o q =
+    told_fault at old old es [] [] fault.FramingError (Err (error.TransportError fault.FramingError)) new refl q.1 (λ c. inr (x, o, q.0))
+told_puts at old x after es (Err (error.TransportError (fault.Memory a))) new o q = absurd q
+told_puts at old x after es (Err (error.TransportError (fault.Io k))) new o q = absurd q
+told_puts at old x after es (Err (error.TransportError fault.IdleTimeoutElapsed)) new o q = absurd q
+told_puts at old x after es (Err (error.TransportError fault.DecodeError)) new o q = absurd q
+told_puts at old x after es (Err (error.TransportError fault.NotImplemented)) new o q = absurd q
+told_puts at old x after es (Err error.IllegalState) new o q = absurd q
+told_puts at old x after es (Err error.NotImplemented) new o q = absurd q
+told_puts at old x after es (Err error.NotFound) new o q = absurd q
+told_puts at old x after es (Err error.RemoteClosed) new o q = absurd q
+told_puts at old x after es (Err (error.RemoteClosedWithError y)) new o q = absurd q
 
-answer_not : {L : Type 0} (q : Phase) (s : State L) (x : Frame) → Ok step.Pending ≡ answer_to q s x → ⊥
-answer_not p.OpenSent s x e = awaited_not x.body e
-answer_not p.Opened s x e = arrived_not (plan_of s x) x.body e
-answer_not p.CloseReceived s x e = absurd (cc e)
-answer_not p.Refused s x e = absurd (cc e)
-answer_not (p.Rejected why) s x e = absurd (cc e)
-answer_not p.CloseSent s x e = absurd (cc e)
-answer_not p.Discarding s x e = absurd (cc e)
-answer_not p.Ended s x e = absurd (cc e)
-answer_not p.Failed s x e = absurd (cc e)
+-- a frame that is owed
+acted_puts : {L : Type 0} (link : Ghosts L) (at : ℕ) (old : State L) (x : Frame) (after : State L) (result : Result EngineStep Error) (new : State L) → CanFollow old x after → IsOwed old.phase x → Puts old x after step.Worked result new → Acted link at old result new
+acted_puts link at old x after result new f o q =
+    let by = puts_by link old x after step.Worked result new f q in
+    record {
+      events = [];
+      given = [];
+      queued = queued_of x result;
+      by = by;
+      few = omega arith;
+      moment = moment_none link at old new [] (queued_of x result) by;
+      told = λ es n w. told_puts at old x after es result new o q;
+    }
 
-pending_after : {L : Type 0} (link : Ghosts L) (at : ℕ) (old : State L) (wire : Wire L) (answer : Result (Next Frame) TransportFault) (new : State L) → Polled link 0 amqp_spells old.wire at answer wire → After at (record old { wire = wire }) answer (Ok step.Pending) new → FoundEmpty link old.wire.codec.link new.wire.codec.link
-pending_after link at old wire (Ok (next.Frame x)) new q a = absurd (answer_not old.phase (record old { wire = wire }) x a.0)
-pending_after {L} link at old wire (Ok next.Pending) new q a = subst (λ (t : State L). FoundEmpty link old.wire.codec.link t.wire.codec.link) (sym a.1) (empty_polled link 0 amqp_spells old.wire.kept at old.wire wire q)
-pending_after link at old wire (Ok next.Ended) new q a = absurd (cc a.0)
-pending_after link at old wire (Err e) new q a = absurd (cc a.0)
+owed_in : {L : Type 0} (old : State L) (q : Phase) (x : Frame) → old.phase ≡ q → IsOwed q x → IsOwed old.phase x
+owed_in old q x e o = subst (λ (r : Phase). IsOwed r x) (sym e) o
 
-pending_reads : {L : Type 0} (link : Ghosts L) (at : ℕ) (old new : State L) → Reads link at old (Ok step.Pending) new → FoundEmpty link old.wire.codec.link new.wire.codec.link
-pending_reads link at old new r = pending_after link at old r.wire r.answer new r.polled r.does
+listens_in : {L : Type 0} (old : State L) (q : Phase) → old.phase ≡ q → IsListening q → IsListening old.phase
+listens_in old q e l = subst (λ (r : Phase). IsListening r) (sym e) l
 
--- what a phase does, where it answers Pending
-record PendingIn {L : Type 0} (link : Ghosts L) (at : ℕ) (q : Phase) (old new : State L) : Type 0 where
-  pub undue : q ≡ p.Opened → IsDue old.beat at → ⊥
-  pub found : FoundEmpty link old.wire.codec.link new.wire.codec.link
+acted_rests : {L : Type 0} (link : Ghosts L) (at : ℕ) (old : State L) (result : Result EngineStep Error) (new : State L) → is_stopped old.phase ≡ true → result ≡ Ok step.Stopped → new ≡ old → Acted link at old result new
+acted_rests {L} link at old result new s r n =
+    acted_none link at old result new (none_by link old new (alike_same old new n))
+    (λ es w. told_is at old es [] [] result (Ok step.Stopped) new r (subst (λ (t : State L). HasRested old es t) (sym n) (record { stopped = s; phase = refl; written = w })))
 
-pending_acts : {L : Type 0} (q : Phase) (link : Ghosts L) (at : ℕ) (old new : State L) → Acts q link at old (Ok step.Pending) new → PendingIn link at q old new
-pending_acts p.OpenSent link at old new a = record { undue = λ e. absurd (cc e); found = pending_reads link at old new a }
-pending_acts p.Opened link at old new (inl w) = absurd (cc w.1.0)
-pending_acts p.Opened link at old new (inr (n, inl r)) = record { undue = λ e. n; found = pending_reads link at old new r }
-pending_acts p.Opened link at old new (inr (n, inr m)) = absurd m.0
-pending_acts p.CloseReceived link at old new a = absurd (cc a.0)
-pending_acts p.Refused link at old new a = absurd (cc a.0)
-pending_acts (p.Rejected why) link at old new (inl a) = absurd (cc a.0)
-pending_acts (p.Rejected why) link at old new (inr m) = absurd m.0
-pending_acts p.CloseSent link at old new a = record { undue = λ e. absurd (cc e); found = pending_reads link at old new a }
-pending_acts p.Discarding link at old new a = record { undue = λ e. absurd (cc e); found = pending_reads link at old new a }
-pending_acts p.Ended link at old new a = absurd (cc a.0)
-pending_acts p.Failed link at old new a = absurd (cc a.0)
+acted : {L : Type 0} (q : Phase) (link : Ghosts L) (at : ℕ) (old : State L) (result : Result EngineStep Error) (new : State L) → old.phase ≡ q → Acts q link at old result new → Acted link at old result new
+acted p.OpenSent link at old result new e a = acted_reads link at old result new (listens_in old p.OpenSent e tt) (λ f. absurd (cc (e, f))) a
+acted p.Opened link at old result new e (inl w) = acted_puts link at old no_frame (beating old no_frame at) result new (beats_follow old at e) (owed_in old p.Opened no_frame e refl) w.1
+acted p.Opened link at old result new e (inr (n, inl r)) = acted_reads link at old result new (listens_in old p.Opened e tt) (λ f. n) r
+acted p.Opened link at old result new e (inr (n, inr m)) = acted_wants link at old result new m.0 m.1
+acted p.CloseReceived link at old result new e a =
+    acted_puts link at old (close_frame None) _ result new (answers_follow old (λ sent s. in_phase old p.CloseReceived sent e s) (λ before h. inl (heard_in old p.CloseReceived before e h)) (ap is_stopped e)) (owed_in old p.CloseReceived (close_frame None) e refl) a
+acted p.Refused link at old result new e a =
+    acted_puts link at old (close_frame None) _ result new (answers_follow old (λ sent s. in_phase old p.Refused sent e s) (λ before h. inr (inl (heard_in old p.Refused before e h))) (ap is_stopped e)) (owed_in old p.Refused (close_frame None) e refl) a
+acted (p.Rejected why) link at old result new e (inl a) =
+    acted_puts link at old (close_frame (Some (error_for why))) (closing old (Some (error_for why))) result new
+    (closes_follow old (Some (error_for why)) (λ sent s. in_phase old (p.Rejected why) sent e s) (λ before h. (heard_in old (p.Rejected why) before e h).0) (ap is_stopped e)) (owed_in old (p.Rejected why) (close_frame (Some (error_for why))) e refl) a
+acted (p.Rejected why) link at old result new e (inr m) = acted_wants link at old result new m.0 m.1
+acted p.CloseSent link at old result new e a = acted_reads link at old result new (listens_in old p.CloseSent e tt) (λ f. absurd (cc (e, f))) a
+acted p.Discarding link at old result new e a = acted_reads link at old result new (listens_in old p.Discarding e tt) (λ f. absurd (cc (e, f))) a
+acted p.Ended link at old result new e a = acted_rests link at old result new (ap is_stopped e) a.0 a.1
+acted p.Failed link at old result new e a = acted_rests link at old result new (ap is_stopped e) a.0 a.1
 
-pending_then : {L : Type 0} (link : Ghosts L) (at : ℕ) (flush : Result Flush Error) (old mid new : State L) → Flushes link old flush mid → ThenActs link at flush mid (Ok step.Pending) new → Waited link at old new
-pending_then link at (Ok f) old mid new w a =
-    let k = pending_acts mid.phase link at mid new a in
-    record { mid = mid; flush = f; flushes = w; undue = k.undue; bytes = k.found.bytes; reads = k.found.reads }
-pending_then link at (Err e) old mid new w a = absurd (cc a.0)
+stepped_so : {L : Type 0} (link : Ghosts L) (at : ℕ) (old : State L) (events : List LinkEvent) (given queued : List Frame) (result : Result EngineStep Error) (new : State L) → RanBy link old events given queued new → reads_in events ≤ 1 → IsMoment at old given new → IsTold at old events given queued result new → Stepped link at old result new
+stepped_so link at old events given queued result new b f m t =
+    record {
+      run = b.run;
+      few = subst (λ (es : List LinkEvent). reads_in es ≤ 1) (sym b.events_is) f;
+      moment = subst (λ (gs : List Frame). IsMoment at old gs new) (sym b.given_is) m;
+      told = subst (λ (es : List LinkEvent). IsTold at old es b.run.given b.run.queued result new) (sym b.events_is)
+          (subst (λ (gs : List Frame). IsTold at old events gs b.run.queued result new) (sym b.given_is)
+          (subst (λ (qs : List Frame). IsTold at old events given qs result new) (sym b.queued_is) t));
+    }
 
-pub waited : {L : Type 0} (link : Ghosts L) (at : ℕ) (old new : State L) → Steps link at old (Ok step.Pending) new → Waited link at old new
-waited link at old new s = pending_then link at s.flush old s.mid new s.flushes s.acts
+-- after the link took bytes
+abbrev sent_state : {L : Type 0} → State L → L → List ℕ → State L
+sent_state s link output = record s { wire = record s.wire { codec = record s.wire.codec { link = link; output = output } } }
+
+told_fault_before : {L : Type 0} (at : ℕ) (old : State L) (to : L) (output : List ℕ) (events : List LinkEvent) (e : TransportFault) → IsFault at (sent_state old to output) events e → IsFault at old events e
+told_fault_before at old to output events (fault.Memory a) f = f
+told_fault_before at old to output events (fault.Io Fault) f = f
+told_fault_before at old to output events (fault.Io End) f = f
+told_fault_before at old to output events fault.IdleTimeoutElapsed f = f
+told_fault_before at old to output events fault.DecodeError f = f
+told_fault_before at old to output events fault.NotImplemented f = f
+told_fault_before at old to output events fault.FramingError f = f
+
+told_before : {L : Type 0} (at : ℕ) (old : State L) (to : L) (output : List ℕ) (events : List LinkEvent) (given queued : List Frame) (result : Result EngineStep Error) (new : State L) → IsTold at (sent_state old to output) events given queued result new → IsTold at old events given queued result new
+told_before at old to output events given queued (Ok step.Worked) new t = t
+told_before at old to output events given queued (Ok step.Pending) new t = record { found = t.found; written = t.written; phase = t.phase; live = t.live; undue = t.undue }
+told_before at old to output events given queued (Ok step.Stopped) new t = record { stopped = t.stopped; phase = t.phase; written = t.written }
+told_before at old to output events given queued (Err (error.Memory a)) new t = t
+told_before at old to output events given queued (Err (error.TransportError e)) new t = (t.0, λ c. told_fault_before at old to output events e (t.1 c))
+told_before at old to output events given queued (Err error.IllegalState) new t = t
+told_before at old to output events given queued (Err error.NotImplemented) new t = t
+told_before at old to output events given queued (Err error.NotFound) new t = t
+told_before at old to output events given queued (Err error.RemoteClosed) new t = t
+told_before at old to output events given queued (Err (error.RemoteClosedWithError e)) new t = t
+
+few_then : (es fs : List LinkEvent) → reads_in es ≡ 0 → reads_in fs ≤ 1 → reads_in (fs ++ es) ≤ 1
+few_then es fs n f = omega (arith, reads_in-append fs es, n, f)
+
+-- what was written, and then what was done
+stepped_acts : {L : Type 0} (link : Ghosts L) (at : ℕ) (old : State L) (to : L) (output : List ℕ) (es : List LinkEvent) (result : Result EngineStep Error) (new : State L) → RanBy link old es [] [] (sent_state old to output) → reads_in es ≡ 0 → read_of es ≡ [] → IsWritten old.phase es output → Acted link at (sent_state old to output) result new → Stepped link at old result new
+stepped_acts link at old to output es result new b n r w a =
+    stepped_so link at old (a.events ++ es) a.given a.queued result new (then_by link old (sent_state old to output) new es a.events [] a.given [] a.queued b a.by)
+    (few_then es a.events n a.few) a.moment (told_before at old to output (a.events ++ es) a.given a.queued result new (a.told es r w))
+
+-- the flush failed, or memory was wanting
+stepped_held : {L : Type 0} (link : Ghosts L) (at : ℕ) (old : State L) (to : L) (output : List ℕ) (es : List LinkEvent) (result : Result EngineStep Error) (new : State L) → RanBy link old es [] [] (sent_state old to output) → reads_in es ≡ 0 → RanBy link (sent_state old to output) [] [] [] new → IsTold at old es [] [] result new → Stepped link at old result new
+stepped_held link at old to output es result new b n c t =
+    let by = then_by link old (sent_state old to output) new es [] [] [] [] [] b c in
+    stepped_so link at old es [] [] result new by (omega (arith, n)) (moment_none link at old new es [] by) t
+
+acts_of : {L : Type 0} (link : Ghosts L) (at : ℕ) (f : Flush) (flush : Result Flush Error) (s mid : State L) (result : Result EngineStep Error) (new : State L) → flush ≡ Ok f → mid ≡ s → ThenActs link at flush mid result new → Acted link at s result new
+acts_of {L} link at f flush s mid result new e m a =
+    let d : ThenActs link at (Ok f) s result new = subst (λ (t : State L). ThenActs link at (Ok f) t result new) m (subst (λ (r : Result Flush Error). ThenActs link at r mid result new) e a) in
+    acted s.phase link at s result new refl d
+
+-- by how the flush ended
+stepped_flush : {L : Type 0} (link : Ghosts L) (at : ℕ) (old : State L) (to : L) (output : List ℕ) (bytes : List ℕ) (held : Option Held) (flush : Result Flush Error) (mid : State L) (result : Result EngineStep Error) (new : State L) → RanBy link old (write_events bytes held) [] [] (sent_state old to output) → (held ≡ None → output ≡ []) → AfterFlush (sent_state old to output) (flush_of held) flush mid → ThenActs link at flush mid result new → Stepped link at old result new
+stepped_flush link at old to output bytes None flush mid result new b all d a =
+    stepped_acts link at old to output (write_events bytes None) result new b refl refl (inr (inr (all refl))) (acts_of link at _ flush (sent_state old to output) mid result new d.0 d.1 a)
+stepped_flush link at old to output bytes (Some Full) flush mid result new b all d a =
+    stepped_acts link at old to output (write_events bytes (Some Full)) result new b refl refl (inr (inl (inl refl))) (acts_of link at _ flush (sent_state old to output) mid result new d.0 d.1 a)
+stepped_flush {L} link at old to output bytes (Some HeldFailed) flush mid result new b all d a =
+    let e : ThenActs link at (Err (error.TransportError (fault.Io Fault))) mid result new = subst (λ (r : Result Flush Error). ThenActs link at r mid result new) d.0 a in
+    let n : new ≡ failing (sent_state old to output) = e.1 ∙ d.1 in
+    stepped_held link at old to output (write_events bytes (Some HeldFailed)) result new b refl (none_by link (sent_state old to output) new (alike_failing (sent_state old to output) new n))
+    (told_fault at old (sent_state old to output) (write_events bytes (Some HeldFailed)) [] [] (fault.Io Fault) result new e.0 n (λ c. inr (inl refl)))
+stepped_flush {L} link at old to output bytes (Some HeldMemory) flush mid result new b all d a =
+    let e : ThenActs link at (Err (error.Memory (record {}))) mid result new = subst (λ (r : Result Flush Error). ThenActs link at r mid result new) d.0 a in
+    stepped_held link at old to output (write_events bytes (Some HeldMemory)) result new b refl (none_by link (sent_state old to output) new (alike_same (sent_state old to output) new (e.1 ∙ d.1)))
+    (told_is at old (write_events bytes (Some HeldMemory)) [] [] result (Err (error.Memory (record {}))) new e.0 tt)
+
+-- the answer of the flush and what is left of the transport are told by how the flush ended
+stepped_writes : {L : Type 0} (link : Ghosts L) (at : ℕ) (old : State L) (flush : Result Flush Error) (mid : State L) (result : Result EngineStep Error) (new : State L) → Writes link old flush mid → ThenActs link at flush mid result new → Stepped link at old result new
+stepped_writes {L} link at old flush mid result new w a =
+    let f = w.flushed in
+    let same : record old { wire = w.wire } ≡ sent_state old w.wire.codec.link w.wire.codec.output =
+        ap (λ (v : Wire L). record old { wire = v }) (f.rest ∙ ap (λ (c : Codec L). record old.wire { codec = c }) f.flushed.rest) in
+    stepped_flush link at old w.wire.codec.link w.wire.codec.output f.flushed.bytes f.held flush mid result new
+    (subst (λ (t : State L). RanBy link old (write_events f.flushed.bytes f.held) [] [] t) same (flushed_by link old w.wire w.answer f)) f.flushed.all
+    (subst (λ (t : State L). AfterFlush t (flush_of f.held) flush mid) same (subst (λ (r : Result Flush TransportFault). AfterFlush (record old { wire = w.wire }) r flush mid) f.answer w.does)) a
+
+stepped_if : {L : Type 0} (failed : Bool) (link : Ghosts L) (at : ℕ) (old : State L) (flush : Result Flush Error) (mid : State L) (result : Result EngineStep Error) (new : State L) → has_failed old.phase ≡ failed → FlushesIf failed link old flush mid → ThenActs link at flush mid result new → Stepped link at old result new
+stepped_if true link at old flush mid result new h f a =
+    stepped_acts link at old old.wire.codec.link old.wire.codec.output [] result new (none_by link old old (alike_refl old)) refl refl (inl h) (acts_of link at _ flush old mid result new f.0 f.1 a)
+stepped_if false link at old flush mid result new h w a = stepped_writes link at old flush mid result new w a
+
+pub stepped : {L : Type 0} (link : Ghosts L) (at : ℕ) (old : State L) (result : Result EngineStep Error) (new : State L) → Steps link at old result new → Stepped link at old result new
+stepped link at old result new s = stepped_if (has_failed old.phase) link at old s.flush s.mid result new refl s.flushes s.acts
+
+-- a Close
+closed_told : {L : Type 0} (old : State L) (y : Option AmqpError) (result : Result Unit Error) (new : State L) → Puts old (close_frame y) (closing old y) tt result new → IsClosedBy old y (queued_of (close_frame y) result) result new
+closed_told old y (Ok v) new q = (refl, q.2)
+closed_told old y (Err (error.Memory a)) new q = (refl, q)
+closed_told old y (Err (error.TransportError fault.FramingError)) new q = (refl, q.0, q.1)
+closed_told old y (Err (error.TransportError (fault.Memory a))) new q = absurd q
+closed_told old y (Err (error.TransportError (fault.Io k))) new q = absurd q
+closed_told old y (Err (error.TransportError fault.IdleTimeoutElapsed)) new q = absurd q
+closed_told old y (Err (error.TransportError fault.DecodeError)) new q = absurd q
+closed_told old y (Err (error.TransportError fault.NotImplemented)) new q = absurd q
+closed_told old y (Err error.IllegalState) new q = absurd q
+closed_told old y (Err error.NotImplemented) new q = absurd q
+closed_told old y (Err error.NotFound) new q = absurd q
+closed_told old y (Err error.RemoteClosed) new q = absurd q
+closed_told old y (Err (error.RemoteClosedWithError e)) new q = absurd q
+
+closed_so : {L : Type 0} (link : Ghosts L) (old : State L) (y : Option AmqpError) (queued : List Frame) (result : Result Unit Error) (new : State L) → RanBy link old [] [] queued new → IsClosedBy old y queued result new → HasClosed link old y result new
+closed_so link old y queued result new b t =
+    record { run = b.run; silent = b.events_is; none = b.given_is; told = subst (λ (qs : List Frame). IsClosedBy old y qs result new) (sym b.queued_is) t }
+
+closed_if : {L : Type 0} (open_now : Bool) (link : Ghosts L) (old : State L) (y : Option AmqpError) (result : Result Unit Error) (new : State L) → is_open old.phase ≡ open_now → SendsIf open_now old (close_frame y) (closing old y) result new → HasClosed link old y result new
+closed_if true link old y result new o q =
+    closed_so link old y (queued_of (close_frame y) result) result new (puts_by link old (close_frame y) (closing old y) tt result new (open_follows old y (is_open_only old.phase o)) q) (closed_told old y result new q)
+closed_if false link old y result new o q =
+    closed_so link old y [] result new (none_by link old new (alike_same old new q.1))
+    (subst (λ (r : Result Unit Error). IsClosedBy old y [] r new) (sym q.0) (refl, o, q.1))
+
+pub closed : {L : Type 0} (link : Ghosts L) (old : State L) (y : Option AmqpError) (result : Result Unit Error) (new : State L) → Sends old (close_frame y) (closing old y) result new → HasClosed link old y result new
+closed link old y result new q = closed_if (is_open old.phase) link old y result new refl q
+
+-- Stopped comes exactly where the connection had stopped
+after_stops_not : {L : Type 0} (at : ℕ) (s : State L) (answer : Result (Next Frame) TransportFault) (new : State L) → After at s answer (Ok step.Stopped) new → ⊥
+after_stops_not at s (Ok (next.Frame x)) new a = elim (answer_so s.phase at s x) [ inl k ↦ absurd (cc (a.0, k)) | inr r ↦ absurd (cc (a.0, r.is)) ]
+after_stops_not at s (Ok next.Pending) new a = absurd (cc a.0)
+after_stops_not at s (Ok next.Ended) new a = absurd (cc a.0)
+after_stops_not at s (Err e) new a = absurd (cc a.0)
 
 flushed_phase : {L : Type 0} (s : State L) (answer : Result Flush TransportFault) (f : Flush) (mid : State L) → AfterFlush s answer (Ok f) mid → mid.phase ≡ s.phase
 flushed_phase {L} s (Ok g) f mid w = ap (λ (t : State L). t.phase) w.1
 flushed_phase s (Err e) f mid w = absurd (cc w.0)
-
--- a frame that is read is never answered by Stopped
-admitted_stops_not : (q : Plan) → Ok step.Stopped ≡ admitted_answer q → ⊥
-admitted_stops_not (plan.Reject why) e = absurd (cc e)
-admitted_stops_not plan.Deliver e = absurd (cc e)
-admitted_stops_not plan.Answer e = absurd (cc e)
-admitted_stops_not plan.End e = absurd (cc e)
-admitted_stops_not plan.Ask e = absurd (cc e)
-
-awaited_stops_not : (body : FrameBody) → Ok step.Stopped ≡ awaited_answer body → ⊥
-awaited_stops_not (b.Open y) e = absurd (cc e)
-awaited_stops_not (b.Close y) e = absurd (cc e)
-awaited_stops_not b.Empty e = absurd (cc e)
-awaited_stops_not (b.Begin y) e = absurd (cc e)
-awaited_stops_not (b.Attach y) e = absurd (cc e)
-awaited_stops_not (b.Flow y) e = absurd (cc e)
-awaited_stops_not (b.Transfer y z) e = absurd (cc e)
-awaited_stops_not (b.Disposition y) e = absurd (cc e)
-awaited_stops_not (b.Detach y) e = absurd (cc e)
-awaited_stops_not (b.End y) e = absurd (cc e)
-
-arrived_stops_not : (q : Plan) (body : FrameBody) → Ok step.Stopped ≡ arrived_answer q body → ⊥
-arrived_stops_not q (b.Open y) e = absurd (cc e)
-arrived_stops_not q (b.Close y) e = absurd (cc e)
-arrived_stops_not q b.Empty e = absurd (cc e)
-arrived_stops_not q (b.Begin y) e = admitted_stops_not q e
-arrived_stops_not q (b.Attach y) e = admitted_stops_not q e
-arrived_stops_not q (b.Flow y) e = admitted_stops_not q e
-arrived_stops_not q (b.Transfer y z) e = admitted_stops_not q e
-arrived_stops_not q (b.Disposition y) e = admitted_stops_not q e
-arrived_stops_not q (b.Detach y) e = admitted_stops_not q e
-arrived_stops_not q (b.End y) e = admitted_stops_not q e
-
-answer_stops_not : {L : Type 0} (q : Phase) (s : State L) (x : Frame) → Ok step.Stopped ≡ answer_to q s x → ⊥
-answer_stops_not p.OpenSent s x e = awaited_stops_not x.body e
-answer_stops_not p.Opened s x e = arrived_stops_not (plan_of s x) x.body e
-answer_stops_not p.CloseReceived s x e = absurd (cc e)
-answer_stops_not p.Refused s x e = absurd (cc e)
-answer_stops_not (p.Rejected why) s x e = absurd (cc e)
-answer_stops_not p.CloseSent s x e = absurd (cc e)
-answer_stops_not p.Discarding s x e = absurd (cc e)
-answer_stops_not p.Ended s x e = absurd (cc e)
-answer_stops_not p.Failed s x e = absurd (cc e)
-
-after_stops_not : {L : Type 0} (at : ℕ) (s : State L) (answer : Result (Next Frame) TransportFault) (new : State L) → After at s answer (Ok step.Stopped) new → ⊥
-after_stops_not at s (Ok (next.Frame x)) new a = absurd (answer_stops_not s.phase s x a.0)
-after_stops_not at s (Ok next.Pending) new a = absurd (cc a.0)
-after_stops_not at s (Ok next.Ended) new a = absurd (cc a.0)
-after_stops_not at s (Err e) new a = absurd (cc a.0)
 
 reads_stops_not : {L : Type 0} (link : Ghosts L) (at : ℕ) (old : State L) (answer : EngineStep) (new : State L) → answer ≡ step.Stopped → Reads link at old (Ok answer) new → ⊥
 reads_stops_not {L} link at old answer new e r = after_stops_not at (record old { wire = r.wire }) r.answer new (subst (λ (x : EngineStep). After at (record old { wire = r.wire }) r.answer (Ok x) new) e r.does)

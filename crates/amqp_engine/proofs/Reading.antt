@@ -21,7 +21,7 @@ use Rattle.amqp_engine.specs.Machine.{arrived, arrived_answer, admitted, admitte
 use Rattle.amqp_engine.specs.Calls.{Reads, After}
 
 -- the transport gave that
-pub reads_so : {L : Type 0} (link : Ghosts L) (at : ℕ) (old new : State L) (answer given : Result (Next Frame) TransportFault) (wire : Wire L) (result : Result EngineStep Error) → Polled link 0 amqp_spells old.wire at answer wire → Grew link 0 amqp_spells old.wire answer wire → answer ≡ given → After at (record old { wire = wire }) given result new → Reads link at old result new
+pub reads_so : {L : Type 0} (link : Ghosts L) (at : ℕ) (old new : State L) (answer given : Result (Next Frame) TransportFault) (wire : Wire L) (result : Result EngineStep Error) → Polled link 0 amqp_spells old.wire at answer wire → Grew link 0 amqp_spells old.wire at answer wire → answer ≡ given → After at (record old { wire = wire }) given result new → Reads link at old result new
 reads_so {L} link at old new answer given wire result p j e d =
     record { answer = answer; wire = wire; polled = p; joined = j; does = subst (λ (a : Result (Next Frame) TransportFault). After at (record old { wire = wire }) a result new) (sym e) d }
 

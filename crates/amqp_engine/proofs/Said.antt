@@ -7,9 +7,9 @@ use Rattle.amqp_transport.specs.declared.frames.Frame.{Frame}
 use Rattle.amqp_engine.specs.declared.phase.Phase.{Phase}
 use Rattle.amqp_engine.specs.declared.phase.Phase.TheVariants as p
 use Rattle.amqp_composites.specs.declared.error.Error.{Error as AmqpError}
-use Rattle.amqp_engine.specs.Phases.{kind_of}
+use Rattle.amqp_engine.specs.Phases.{kind_of, IsInner, IsClose}
 use Rattle.amqp_engine.specs.State.{close_phase}
-use Rattle.amqp_engine.specs.Sentence.{IsSaid, IsBegun, IsClosed, IsInner, IsClose, AllInner}
+use Rattle.amqp_engine.specs.Sentence.{IsSaid, IsBegun, IsClosed, AllInner}
 
 pub said_failed : (q : Phase) (sent : List Frame) → IsSaid q sent → IsSaid p.Failed sent
 said_failed p.OpenSent sent s = inl s

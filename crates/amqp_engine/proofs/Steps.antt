@@ -1,5 +1,5 @@
 -- Each call is a run.
-use Rattle.std.proofs.Common.{arith, ◌≡◌, inl, inr, ℕ, List, [], ◌∷◌, ◌++◌, Bool, true, false, Option, Some, None, Result, Ok, Err, refl, sym, ap, ◌∙◌, subst}
+use Rattle.std.proofs.Common.{arith, ◌≡◌, ℕ, List, [], ◌∷◌, ◌++◌, Bool, true, false, Option, Some, None, Result, Ok, Err, refl, sym, ap, ◌∙◌, subst}
 use Rattle.amqp_wire.specs.declared.link.Link.{Ghosts}
 use Rattle.amqp_composites.specs.declared.error.Error.{Error as AmqpError}
 use Rattle.amqp_frames.specs.declared.body.FrameBody.{FrameBody}
@@ -11,32 +11,39 @@ use Rattle.amqp_transport.specs.declared.transport.Error.TheVariants as fault
 use Rattle.amqp_transport.specs.declared.transport.Flush.{Flush}
 use Rattle.amqp_transport.specs.declared.transport.Next.{Next}
 use Rattle.amqp_transport.specs.declared.transport.Next.TheVariants as next
+use Rattle.amqp_transport.specs.Causes.{kept_after}
 use Rattle.amqp_transport.specs.Kinds.{no_frame, amqp_spells}
+use Rattle.amqp_transport.specs.Stream.{Grew, frames_of}
+use Rattle.amqp_transport.specs.Wire.{Wire}
 use Rattle.amqp_composites.specs.declared.open.Open.{Open}
 use Rattle.amqp_frames.specs.declared.shared.ConnectionStopReason.{ConnectionStopReason}
 use Rattle.amqp_engine.specs.declared.phase.Rejection.{Rejection}
 use Rattle.amqp_engine.specs.declared.phase.Rejection.TheVariants as rejection
 use Rattle.amqp_engine.specs.declared.engine.EngineStep.{EngineStep}
-use Rattle.amqp_engine.proofs.Limits.{polled_limit}
 use Rattle.amqp_engine.specs.declared.error.Error.{Error}
 use Rattle.amqp_engine.specs.declared.error.Error.TheVariants as error
 use Rattle.amqp_engine.specs.declared.phase.Phase.{Phase}
 use Rattle.amqp_engine.specs.declared.phase.Phase.TheVariants as p
-use Rattle.amqp_engine.specs.Phases.{has_failed, is_open, is_stopped, kind_of}
-use Rattle.amqp_engine.specs.State.{State, queueing, closing, close_frame, close_phase, error_for, entered, beating, remote_reason, answered_reason}
+use Rattle.amqp_engine.specs.Phases.{has_failed, is_open, is_stopped, kind_of, IsInner}
+use Rattle.amqp_engine.specs.State.{State, queueing, failing, failed_reason, closing, close_frame, close_phase, entered, beating, remote_reason, answered_reason}
 use Rattle.amqp_engine.specs.declared.sessions.Plan.{Plan}
 use Rattle.amqp_engine.specs.declared.sessions.Plan.TheVariants as plan
 use Rattle.amqp_engine.specs.declared.error.AllocSessionError.{AllocSessionError}
 use Rattle.amqp_engine.specs.declared.error.AllocSessionError.TheVariants as alloc
 use Rattle.amqp_engine.specs.Channels.{Channels, taken_in}
 use Rattle.amqp_engine.specs.Machine.{received, awaited, arrived, outlasted, admitted, plan_of}
-use Rattle.amqp_engine.specs.Calls.{Puts, After, AfterFlush, failing_by, Reads, ReadsOrWants, Works, Answers, Acts, FlushesIf, Flushes, ThenActs, Steps, SendsIf, Sends, with_channels, Allocates}
-use Rattle.amqp_engine.specs.Sentence.{Ran, IsSaid, IsBegun, IsClosed, IsInner}
+use Rattle.amqp_engine.specs.Calls.{Puts, After, AfterFlush, failing_by, FlushesIf, Flushes, SendsIf, Sends, with_channels, Allocates}
+use Rattle.amqp_engine.specs.Heard.{IsHeard, IsGreeted, IsOver}
+use Rattle.amqp_engine.specs.Sentence.{Ran, IsCalm, IsSaid, IsBegun, IsClosed}
 use Rattle.amqp_engine.proofs.Said.{said_closing, closed_push, begun_push, session_is_inner}
-use Rattle.amqp_engine.proofs.Runs.{Alike, alike_refl, alike_same, alike_moves, alike_failing, within, ran_none, ran_then, ran_put, ran_grew, ran_flushed}
+use Rattle.amqp_engine.proofs.Runs.{Alike, Beside, RanBy, CanFollow, beside_refl, beside_moves, beside_failing, calm_failing, alike_same, alike_failing, within, heard_none, none_by, put_by, flushed_by, ran_none, ran_then}
+use Rattle.amqp_engine.proofs.Hearing.{IsListening, heard_received, heard_failed, heard_closing}
 
-in_phase : {L : Type 0} (old : State L) (q : Phase) (sent : List Frame) → old.phase ≡ q → IsSaid old.phase sent → IsSaid q sent
+pub in_phase : {L : Type 0} (old : State L) (q : Phase) (sent : List Frame) → old.phase ≡ q → IsSaid old.phase sent → IsSaid q sent
 in_phase old q sent e s = subst (λ (r : Phase). IsSaid r sent) e s
+
+pub heard_in : {L : Type 0} (old : State L) (q : Phase) (before : List Frame) → old.phase ≡ q → IsHeard old.phase old.reason before → IsHeard q old.reason before
+heard_in old q before e h = subst (λ (r : Phase). IsHeard r old.reason before) e h
 
 opened_not : p.Opened ≡ p.OpenSent → ⊥
 opened_not e = absurd (cc e)
@@ -60,29 +67,26 @@ closing_not (Some y) e = absurd (cc e)
 pub ran_same : {L : Type 0} (link : Ghosts L) (old new : State L) → new ≡ old → Ran link old new
 ran_same link old new e = ran_none link old new (alike_same old new e)
 
--- a state that may follow where a frame is queued
-pub record CanFollow {L : Type 0} (old : State L) (x : Frame) (after : State L) : Type 0 where
-  pub wire : after.wire ≡ (queueing old x).wire
-  pub settings : after.settings ≡ old.settings
-  pub said : (sent : List Frame) → IsSaid old.phase sent → IsSaid after.phase (sent ++ x ∷ [])
-  pub live : is_stopped old.phase ≡ false
-  pub phase : after.phase ≡ p.OpenSent → ⊥
+-- the frame where it was queued
+abbrev pub queued_of : {A : Type 0} → Frame → Result A Error → List Frame
+queued_of x (Ok v) = x ∷ []
+queued_of x (Err e) = []
 
 -- a frame was queued, or refused
-pub ran_puts : {L A : Type 0} (link : Ghosts L) (old : State L) (x : Frame) (after : State L) (value : A) (result : Result A Error) (new : State L) → CanFollow old x after → Puts old x after value result new → Ran link old new
-ran_puts {L} link old x after value (Ok v) new f q = subst (λ (t : State L). Ran link old t) (sym q.2) (ran_put link old after x f.wire f.settings f.said f.live f.phase (within old.wire.codec.encoder x q.1))
-ran_puts link old x after value (Err (error.Memory a)) new f q = ran_same link old new q
-ran_puts link old x after value (Err (error.TransportError fault.FramingError)) new f q = ran_none link old new (alike_failing old new q.1)
-ran_puts link old x after value (Err (error.TransportError (fault.Memory a))) new f q = absurd q
-ran_puts link old x after value (Err (error.TransportError (fault.Io k))) new f q = absurd q
-ran_puts link old x after value (Err (error.TransportError fault.IdleTimeoutElapsed)) new f q = absurd q
-ran_puts link old x after value (Err (error.TransportError fault.DecodeError)) new f q = absurd q
-ran_puts link old x after value (Err (error.TransportError fault.NotImplemented)) new f q = absurd q
-ran_puts link old x after value (Err error.IllegalState) new f q = absurd q
-ran_puts link old x after value (Err error.NotImplemented) new f q = absurd q
-ran_puts link old x after value (Err error.NotFound) new f q = absurd q
-ran_puts link old x after value (Err error.RemoteClosed) new f q = absurd q
-ran_puts link old x after value (Err (error.RemoteClosedWithError y)) new f q = absurd q
+pub puts_by : {L A : Type 0} (link : Ghosts L) (old : State L) (x : Frame) (after : State L) (value : A) (result : Result A Error) (new : State L) → CanFollow old x after → Puts old x after value result new → RanBy link old [] [] (queued_of x result) new
+puts_by {L} link old x after value (Ok v) new f q = subst (λ (t : State L). RanBy link old [] [] (x ∷ []) t) (sym q.2) (put_by link old after x f (within old.wire.codec.encoder x q.1))
+puts_by link old x after value (Err (error.Memory a)) new f q = none_by link old new (alike_same old new q)
+puts_by link old x after value (Err (error.TransportError fault.FramingError)) new f q = none_by link old new (alike_failing old new q.1)
+puts_by link old x after value (Err (error.TransportError (fault.Memory a))) new f q = absurd q
+puts_by link old x after value (Err (error.TransportError (fault.Io k))) new f q = absurd q
+puts_by link old x after value (Err (error.TransportError fault.IdleTimeoutElapsed)) new f q = absurd q
+puts_by link old x after value (Err (error.TransportError fault.DecodeError)) new f q = absurd q
+puts_by link old x after value (Err (error.TransportError fault.NotImplemented)) new f q = absurd q
+puts_by link old x after value (Err error.IllegalState) new f q = absurd q
+puts_by link old x after value (Err error.NotImplemented) new f q = absurd q
+puts_by link old x after value (Err error.NotFound) new f q = absurd q
+puts_by link old x after value (Err error.RemoteClosed) new f q = absurd q
+puts_by link old x after value (Err (error.RemoteClosedWithError y)) new f q = absurd q
 
 alike_failing_by : {L : Type 0} (old new : State L) (e : TransportFault) → new ≡ failing_by e old → Alike old new
 alike_failing_by old new (fault.Memory a) e = alike_same old new e
@@ -93,12 +97,14 @@ alike_failing_by old new fault.NotImplemented e = alike_failing old new e
 alike_failing_by old new fault.FramingError e = alike_failing old new e
 
 -- the peer's Open was read
-alike_entered : {L : Type 0} (at : ℕ) (s : State L) (y : Open) → s.phase ≡ p.OpenSent → Alike s (entered at s y)
-alike_entered at s y e =
+beside_entered : {L : Type 0} (at : ℕ) (s : State L) (y : Open) → s.phase ≡ p.OpenSent → Beside s (entered at s y)
+beside_entered at s y e =
     record {
       link = refl;
       input = refl;
       output = refl;
+      clock = refl;
+      kept = refl;
       said = λ sent i. in_phase s p.OpenSent sent e i;
       stays = λ f. let g : is_stopped s.phase ≡ false = ap is_stopped e in absurd (cc (f, g));
       limits = λ l.
@@ -106,126 +112,173 @@ alike_entered at s y e =
           (record { told = omega arith; least = omega arith; first = λ f. absurd (opened_not f) }, omega (arith, old));
     }
 
-awaited_moves : {L : Type 0} (s : State L) (q : Phase) (reason : ConnectionStopReason) → s.phase ≡ p.OpenSent → ((sent : List Frame) → IsBegun sent → IsSaid q sent) → (q ≡ p.OpenSent → ⊥) → Alike s (record s { phase = q; reason = reason })
-awaited_moves s q reason e i n = alike_moves s q reason (λ sent j. i sent (in_phase s p.OpenSent sent e j)) n (ap is_stopped e)
+awaited_moves : {L : Type 0} (s : State L) (q : Phase) (reason : ConnectionStopReason) → s.phase ≡ p.OpenSent → ((sent : List Frame) → IsBegun sent → IsSaid q sent) → (q ≡ p.OpenSent → ⊥) → Beside s (record s { phase = q; reason = reason })
+awaited_moves s q reason e i n = beside_moves s q reason (λ sent j. i sent (in_phase s p.OpenSent sent e j)) n (ap is_stopped e)
 
-alike_awaited : {L : Type 0} (at : ℕ) (s : State L) (body : FrameBody) → s.phase ≡ p.OpenSent → Alike s (awaited at s body)
-alike_awaited at s (b.Open y) e = alike_entered at s y e
-alike_awaited at s (b.Close y) e = awaited_moves s p.CloseReceived (remote_reason y.error) e (λ sent i. i) received_not
-alike_awaited at s b.Empty e = awaited_moves s p.Refused s.reason e (λ sent i. i) refused_not
-alike_awaited at s (b.Begin y) e = awaited_moves s p.Refused s.reason e (λ sent i. i) refused_not
-alike_awaited at s (b.Attach y) e = awaited_moves s p.Refused s.reason e (λ sent i. i) refused_not
-alike_awaited at s (b.Flow y) e = awaited_moves s p.Refused s.reason e (λ sent i. i) refused_not
-alike_awaited at s (b.Transfer y z) e = awaited_moves s p.Refused s.reason e (λ sent i. i) refused_not
-alike_awaited at s (b.Disposition y) e = awaited_moves s p.Refused s.reason e (λ sent i. i) refused_not
-alike_awaited at s (b.Detach y) e = awaited_moves s p.Refused s.reason e (λ sent i. i) refused_not
-alike_awaited at s (b.End y) e = awaited_moves s p.Refused s.reason e (λ sent i. i) refused_not
+beside_awaited : {L : Type 0} (at : ℕ) (s : State L) (body : FrameBody) → s.phase ≡ p.OpenSent → Beside s (awaited at s body)
+beside_awaited at s (b.Open y) e = beside_entered at s y e
+beside_awaited at s (b.Close y) e = awaited_moves s p.CloseReceived (remote_reason y.error) e (λ sent i. i) received_not
+beside_awaited at s b.Empty e = awaited_moves s p.Refused s.reason e (λ sent i. i) refused_not
+beside_awaited at s (b.Begin y) e = awaited_moves s p.Refused s.reason e (λ sent i. i) refused_not
+beside_awaited at s (b.Attach y) e = awaited_moves s p.Refused s.reason e (λ sent i. i) refused_not
+beside_awaited at s (b.Flow y) e = awaited_moves s p.Refused s.reason e (λ sent i. i) refused_not
+beside_awaited at s (b.Transfer y z) e = awaited_moves s p.Refused s.reason e (λ sent i. i) refused_not
+beside_awaited at s (b.Disposition y) e = awaited_moves s p.Refused s.reason e (λ sent i. i) refused_not
+beside_awaited at s (b.Detach y) e = awaited_moves s p.Refused s.reason e (λ sent i. i) refused_not
+beside_awaited at s (b.End y) e = awaited_moves s p.Refused s.reason e (λ sent i. i) refused_not
 
 -- only the channels change
-pub alike_channels : {L : Type 0} (s : State L) (c : Channels) → Alike s (with_channels s c)
-alike_channels s c =
+beside_channels : {L : Type 0} (s : State L) (c : Channels) → Beside s (with_channels s c)
+beside_channels s c =
     record {
       link = refl;
       input = refl;
       output = refl;
+      clock = refl;
+      kept = refl;
       said = λ sent i. i;
       stays = λ e. record { phase = e; reason = refl; none = refl };
       limits = λ l. (record { told = l.told; least = l.least; first = l.first }, omega arith);
     }
 
-arrived_moves : {L : Type 0} (s : State L) (q : Phase) (reason : ConnectionStopReason) → s.phase ≡ p.Opened → ((sent : List Frame) → IsBegun sent → IsSaid q sent) → (q ≡ p.OpenSent → ⊥) → Alike s (record s { phase = q; reason = reason })
-arrived_moves s q reason e i n = alike_moves s q reason (λ sent j. i sent (in_phase s p.Opened sent e j)) n (ap is_stopped e)
+pub alike_channels : {L : Type 0} (s : State L) (c : Channels) → Alike s (with_channels s c)
+alike_channels s c = record { beside = beside_channels s c; heard = λ before h. h; calm = λ k. k }
 
-alike_admitted : {L : Type 0} (s : State L) (x : Frame) (q : Plan) → s.phase ≡ p.Opened → Alike s (admitted q s x)
-alike_admitted s x (plan.Reject why) e = arrived_moves s (p.Rejected why) s.reason e (λ sent i. i) rejected_not
-alike_admitted s x plan.Deliver e = alike_channels s (taken_in plan.Deliver s.channels x)
-alike_admitted s x plan.Answer e = alike_channels s (taken_in plan.Answer s.channels x)
-alike_admitted s x plan.End e = alike_channels s (taken_in plan.End s.channels x)
-alike_admitted s x plan.Ask e = alike_channels s (taken_in plan.Ask s.channels x)
+arrived_moves : {L : Type 0} (s : State L) (q : Phase) (reason : ConnectionStopReason) → s.phase ≡ p.Opened → ((sent : List Frame) → IsBegun sent → IsSaid q sent) → (q ≡ p.OpenSent → ⊥) → Beside s (record s { phase = q; reason = reason })
+arrived_moves s q reason e i n = beside_moves s q reason (λ sent j. i sent (in_phase s p.Opened sent e j)) n (ap is_stopped e)
 
-alike_arrived : {L : Type 0} (s : State L) (x : Frame) (body : FrameBody) → s.phase ≡ p.Opened → Alike s (arrived s x body)
-alike_arrived s x (b.Open y) e = arrived_moves s (p.Rejected rejection.IllegalState) s.reason e (λ sent i. i) rejected_not
-alike_arrived s x (b.Close y) e = arrived_moves s p.CloseReceived (remote_reason y.error) e (λ sent i. i) received_not
-alike_arrived s x b.Empty e = alike_refl s
-alike_arrived s x (b.Begin y) e = alike_admitted s x (plan_of s x) e
-alike_arrived s x (b.Attach y) e = alike_admitted s x (plan_of s x) e
-alike_arrived s x (b.Flow y) e = alike_admitted s x (plan_of s x) e
-alike_arrived s x (b.Transfer y z) e = alike_admitted s x (plan_of s x) e
-alike_arrived s x (b.Disposition y) e = alike_admitted s x (plan_of s x) e
-alike_arrived s x (b.Detach y) e = alike_admitted s x (plan_of s x) e
-alike_arrived s x (b.End y) e = alike_admitted s x (plan_of s x) e
+beside_admitted : {L : Type 0} (s : State L) (x : Frame) (q : Plan) → s.phase ≡ p.Opened → Beside s (admitted q s x)
+beside_admitted s x (plan.Reject why) e = arrived_moves s (p.Rejected why) s.reason e (λ sent i. i) rejected_not
+beside_admitted s x plan.Deliver e = beside_channels s (taken_in plan.Deliver s.channels x)
+beside_admitted s x plan.Answer e = beside_channels s (taken_in plan.Answer s.channels x)
+beside_admitted s x plan.End e = beside_channels s (taken_in plan.End s.channels x)
+beside_admitted s x plan.Ask e = beside_channels s (taken_in plan.Ask s.channels x)
 
-alike_outlasted : {L : Type 0} (s : State L) (body : FrameBody) → ((sent : List Frame) → IsSaid s.phase sent → IsClosed sent) → is_stopped s.phase ≡ false → Alike s (outlasted s body)
-alike_outlasted s (b.Close y) i e = alike_moves s p.Ended (answered_reason s.reason y.error) i ended_not e
-alike_outlasted s (b.Open y) i e = alike_refl s
-alike_outlasted s b.Empty i e = alike_refl s
-alike_outlasted s (b.Begin y) i e = alike_refl s
-alike_outlasted s (b.Attach y) i e = alike_refl s
-alike_outlasted s (b.Flow y) i e = alike_refl s
-alike_outlasted s (b.Transfer y z) i e = alike_refl s
-alike_outlasted s (b.Disposition y) i e = alike_refl s
-alike_outlasted s (b.Detach y) i e = alike_refl s
-alike_outlasted s (b.End y) i e = alike_refl s
+beside_arrived : {L : Type 0} (s : State L) (x : Frame) (body : FrameBody) → s.phase ≡ p.Opened → Beside s (arrived s x body)
+beside_arrived s x (b.Open y) e = arrived_moves s (p.Rejected rejection.IllegalState) s.reason e (λ sent i. i) rejected_not
+beside_arrived s x (b.Close y) e = arrived_moves s p.CloseReceived (remote_reason y.error) e (λ sent i. i) received_not
+beside_arrived s x b.Empty e = beside_refl s
+beside_arrived s x (b.Begin y) e = beside_admitted s x (plan_of s x) e
+beside_arrived s x (b.Attach y) e = beside_admitted s x (plan_of s x) e
+beside_arrived s x (b.Flow y) e = beside_admitted s x (plan_of s x) e
+beside_arrived s x (b.Transfer y z) e = beside_admitted s x (plan_of s x) e
+beside_arrived s x (b.Disposition y) e = beside_admitted s x (plan_of s x) e
+beside_arrived s x (b.Detach y) e = beside_admitted s x (plan_of s x) e
+beside_arrived s x (b.End y) e = beside_admitted s x (plan_of s x) e
 
-alike_received : {L : Type 0} (q : Phase) (at : ℕ) (s : State L) (x : Frame) → s.phase ≡ q → Alike s (received q at s x)
-alike_received p.OpenSent at s x e = alike_awaited at s x.body e
-alike_received p.Opened at s x e = alike_arrived s x x.body e
-alike_received p.CloseSent at s x e = alike_outlasted s x.body (λ sent i. in_phase s p.CloseSent sent e i) (ap is_stopped e)
-alike_received p.Discarding at s x e = alike_outlasted s x.body (λ sent i. in_phase s p.Discarding sent e i) (ap is_stopped e)
-alike_received p.CloseReceived at s x e = alike_refl s
-alike_received p.Refused at s x e = alike_refl s
-alike_received (p.Rejected why) at s x e = alike_refl s
-alike_received p.Ended at s x e = alike_refl s
-alike_received p.Failed at s x e = alike_refl s
+beside_outlasted : {L : Type 0} (s : State L) (body : FrameBody) → ((sent : List Frame) → IsSaid s.phase sent → IsClosed sent) → is_stopped s.phase ≡ false → Beside s (outlasted s body)
+beside_outlasted s (b.Close y) i e = beside_moves s p.Ended (answered_reason s.reason y.error) i ended_not e
+beside_outlasted s (b.Open y) i e = beside_refl s
+beside_outlasted s b.Empty i e = beside_refl s
+beside_outlasted s (b.Begin y) i e = beside_refl s
+beside_outlasted s (b.Attach y) i e = beside_refl s
+beside_outlasted s (b.Flow y) i e = beside_refl s
+beside_outlasted s (b.Transfer y z) i e = beside_refl s
+beside_outlasted s (b.Disposition y) i e = beside_refl s
+beside_outlasted s (b.Detach y) i e = beside_refl s
+beside_outlasted s (b.End y) i e = beside_refl s
 
-alike_after : {L : Type 0} (at : ℕ) (s : State L) (answer : Result (Next Frame) TransportFault) (result : Result EngineStep Error) (new : State L) → After at s answer result new → Alike s new
-alike_after {L} at s (Ok (next.Frame x)) result new a = subst (λ (t : State L). Alike s t) (sym a.1) (alike_received s.phase at s x refl)
-alike_after at s (Ok next.Pending) result new a = alike_same s new a.1
-alike_after at s (Ok next.Ended) result new a = alike_failing s new a.1
-alike_after at s (Err e) result new a = alike_failing_by s new e a.1
+beside_received : {L : Type 0} (q : Phase) (at : ℕ) (s : State L) (x : Frame) → s.phase ≡ q → Beside s (received q at s x)
+beside_received p.OpenSent at s x e = beside_awaited at s x.body e
+beside_received p.Opened at s x e = beside_arrived s x x.body e
+beside_received p.CloseSent at s x e = beside_outlasted s x.body (λ sent i. in_phase s p.CloseSent sent e i) (ap is_stopped e)
+beside_received p.Discarding at s x e = beside_outlasted s x.body (λ sent i. in_phase s p.Discarding sent e i) (ap is_stopped e)
+beside_received p.CloseReceived at s x e = beside_refl s
+beside_received p.Refused at s x e = beside_refl s
+beside_received (p.Rejected why) at s x e = beside_refl s
+beside_received p.Ended at s x e = beside_refl s
+beside_received p.Failed at s x e = beside_refl s
 
-pub ran_reads : {L : Type 0} (link : Ghosts L) (at : ℕ) (old : State L) (result : Result EngineStep Error) (new : State L) → Reads link at old result new → Ran link old new
-ran_reads link at old result new r =
-    ran_then link old (record old { wire = r.wire }) new (ran_grew link old r.wire r.answer (polled_limit link 0 amqp_spells old.wire at r.answer r.wire r.polled) r.joined) (ran_none link (record old { wire = r.wire }) new (alike_after at (record old { wire = r.wire }) r.answer result new r.does))
+beside_failing_by : {L : Type 0} (s : State L) (e : TransportFault) → Beside s (failing_by e s)
+beside_failing_by s (fault.Memory a) = beside_refl s
+beside_failing_by s (fault.Io k) = beside_failing s
+beside_failing_by s fault.IdleTimeoutElapsed = beside_failing s
+beside_failing_by s fault.DecodeError = beside_failing s
+beside_failing_by s fault.NotImplemented = beside_failing s
+beside_failing_by s fault.FramingError = beside_failing s
 
-ran_reads_or : {L : Type 0} (link : Ghosts L) (at : ℕ) (old : State L) (result : Result EngineStep Error) (new : State L) → ReadsOrWants link at old result new → Ran link old new
-ran_reads_or link at old result new (inl r) = ran_reads link at old result new r
-ran_reads_or link at old result new (inr w) = ran_same link old new w.1
+-- what a poll of the transport leaves to be known of the engine
+pub record Reached {L : Type 0} (old s new : State L) (given : List Frame) : Type 0 where
+  pub beside : Beside s new
+  pub heard : (before : List Frame) → IsHeard old.phase old.reason before → IsHeard new.phase new.reason (before ++ given)
+  pub calm : IsCalm old → IsCalm new
+
+reached_is : {L : Type 0} (old s new after : State L) (given : List Frame) → new ≡ after → Reached old s after given → Reached old s new given
+reached_is {L} old s new after given e r = subst (λ (t : State L). Reached old s t given) (sym e) r
+
+pub listening_holds : (q : Phase) → IsListening q → has_failed q ≡ false
+listening_holds p.OpenSent l = refl
+listening_holds p.Opened l = refl
+listening_holds p.CloseReceived l = refl
+listening_holds p.Refused l = refl
+listening_holds (p.Rejected why) l = refl
+listening_holds p.CloseSent l = refl
+listening_holds p.Discarding l = refl
+listening_holds p.Ended l = refl
+listening_holds p.Failed l = absurd l
+
+reached_failing : {L : Type 0} (old s : State L) → s.phase ≡ old.phase → s.reason ≡ old.reason → Reached old s (failing s) []
+reached_failing {L} old s q r =
+    record {
+      beside = beside_failing s;
+      heard = λ before h. heard_none p.Failed (failed_reason s.phase s.reason) before (heard_failed s.phase s.reason before
+          (subst (λ (z : Phase). IsHeard z s.reason before) (sym q) (subst (λ (z : ConnectionStopReason). IsHeard old.phase z before) (sym r) h)));
+      calm = λ c. calm_failing s;
+    }
+
+reached_still : {L : Type 0} (old : State L) (wire : Wire L) → wire.kept ≡ old.wire.kept → Reached old (record old { wire = wire }) (record old { wire = wire }) []
+reached_still old wire k =
+    record { beside = beside_refl (record old { wire = wire }); heard = λ before h. heard_none old.phase old.reason before h; calm = λ c f. k ∙ c f }
+
+reached_by : {L : Type 0} (old : State L) (wire : Wire L) (e : TransportFault) → wire.kept ≡ kept_after {X = Frame} (Err e) old.wire.kept → Reached old (record old { wire = wire }) (failing_by e (record old { wire = wire })) []
+reached_by old wire (fault.Memory a) k = reached_still old wire k
+reached_by old wire (fault.Io i) k = reached_failing old (record old { wire = wire }) refl refl
+reached_by old wire fault.IdleTimeoutElapsed k = reached_failing old (record old { wire = wire }) refl refl
+reached_by old wire fault.DecodeError k = reached_failing old (record old { wire = wire }) refl refl
+reached_by old wire fault.NotImplemented k = reached_failing old (record old { wire = wire }) refl refl
+reached_by old wire fault.FramingError k = reached_failing old (record old { wire = wire }) refl refl
+
+pub reached : {L : Type 0} (link : Ghosts L) (at : ℕ) (old : State L) (wire : Wire L) (answer : Result (Next Frame) TransportFault) (result : Result EngineStep Error) (new : State L) → IsListening old.phase → Grew link 0 amqp_spells old.wire at answer wire → After at (record old { wire = wire }) answer result new → Reached old (record old { wire = wire }) new (frames_of answer)
+reached {L} link at old wire (Ok (next.Frame x)) result new l g a =
+    let s : State L = record old { wire = wire } in
+    let b = beside_received old.phase at s x refl in
+    reached_is old s new (received old.phase at s x) (x ∷ []) a.1
+    (record { beside = b; heard = λ before h. heard_received old.phase at s before x refl l h; calm = λ c f. b.kept ∙ g.kept ∙ c (listening_holds old.phase l) })
+reached link at old wire (Ok next.Pending) result new l g a = reached_is old (record old { wire = wire }) new (record old { wire = wire }) [] a.1 (reached_still old wire g.kept)
+reached link at old wire (Ok next.Ended) result new l g a = reached_is old (record old { wire = wire }) new _ [] a.1 (reached_failing old (record old { wire = wire }) refl refl)
+reached link at old wire (Err e) result new l g a = reached_is old (record old { wire = wire }) new _ [] a.1 (reached_by old wire e g.kept)
 
 -- a frame between Open and Close
-inner_follows : {L : Type 0} (old : State L) (x : Frame) (after : State L) → old.phase ≡ p.Opened → after.wire ≡ (queueing old x).wire → after.settings ≡ old.settings → after.phase ≡ old.phase → IsInner (kind_of x.body) → CanFollow old x after
-inner_follows old x after e w set q i =
+inner_follows : {L : Type 0} (old : State L) (x : Frame) (after : State L) → old.phase ≡ p.Opened → after.wire ≡ (queueing old x).wire → after.settings ≡ old.settings → after.phase ≡ old.phase → after.reason ≡ old.reason → IsInner (kind_of x.body) → CanFollow old x after
+inner_follows old x after e w set q r i =
     record {
       wire = w;
       settings = set;
       said = λ sent s. subst (λ (r : Phase). IsSaid r (sent ++ x ∷ [])) (sym (q ∙ e)) (begun_push sent x i (in_phase old p.Opened sent e s));
+      heard = λ before h. subst (λ (z : Phase). IsHeard z after.reason before) (sym q) (subst (λ (z : ConnectionStopReason). IsHeard old.phase z before) (sym r) h);
       live = ap is_stopped e;
       phase = λ f. opened_not (sym (q ∙ e) ∙ f);
     }
 
-ran_works : {L : Type 0} (link : Ghosts L) (at : ℕ) (old : State L) (result : Result EngineStep Error) (new : State L) → old.phase ≡ p.Opened → Works link at old result new → Ran link old new
-ran_works {L} link at old result new e (inl w) = ran_puts link old no_frame (beating old no_frame at) _ result new (inner_follows old no_frame (beating old no_frame at) e refl refl refl tt) w.1
-ran_works link at old result new e (inr w) = ran_reads_or link at old result new w.1
+pub beats_follow : {L : Type 0} (old : State L) (at : ℕ) → old.phase ≡ p.Opened → CanFollow old no_frame (beating old no_frame at)
+beats_follow old at e = inner_follows old no_frame (beating old no_frame at) e refl refl refl refl tt
 
-ran_answers : {L : Type 0} (link : Ghosts L) (old : State L) (result : Result EngineStep Error) (new : State L) → ((sent : List Frame) → IsSaid old.phase sent → IsBegun sent) → is_stopped old.phase ≡ false → Answers old result new → Ran link old new
-ran_answers link old result new i live a =
-    ran_puts link old (close_frame None) _ _ result new (record { wire = refl; settings = refl; said = λ sent s. closed_push sent (close_frame None) tt (i sent s); live = live; phase = ended_not }) a
+-- a Close that answers what was read
+pub answers_follow : {L : Type 0} (old : State L) → ((sent : List Frame) → IsSaid old.phase sent → IsBegun sent) → ((before : List Frame) → IsHeard old.phase old.reason before → IsOver old.reason before) → is_stopped old.phase ≡ false → CanFollow old (close_frame None) (record (queueing old (close_frame None)) { phase = p.Ended })
+answers_follow old i o live =
+    record { wire = refl; settings = refl; said = λ sent s. closed_push sent (close_frame None) tt (i sent s); heard = o; live = live; phase = ended_not }
 
-ran_closes : {L A : Type 0} (link : Ghosts L) (old : State L) (y : Option AmqpError) (value : A) (result : Result A Error) (new : State L) → ((sent : List Frame) → IsSaid old.phase sent → IsBegun sent) → is_stopped old.phase ≡ false → Puts old (close_frame y) (closing old y) value result new → Ran link old new
-ran_closes link old y value result new i live a =
-    ran_puts link old (close_frame y) (closing old y) value result new (record { wire = refl; settings = refl; said = λ sent s. said_closing y (sent ++ close_frame y ∷ []) (closed_push sent (close_frame y) tt (i sent s)); live = live; phase = closing_not y }) a
-
-ran_acts : {L : Type 0} (q : Phase) (link : Ghosts L) (at : ℕ) (old : State L) (result : Result EngineStep Error) (new : State L) → old.phase ≡ q → Acts q link at old result new → Ran link old new
-ran_acts p.OpenSent link at old result new e a = ran_reads link at old result new a
-ran_acts p.Opened link at old result new e a = ran_works link at old result new e a
-ran_acts p.CloseReceived link at old result new e a = ran_answers link old result new (λ sent s. in_phase old p.CloseReceived sent e s) (ap is_stopped e) a
-ran_acts p.Refused link at old result new e a = ran_answers link old result new (λ sent s. in_phase old p.Refused sent e s) (ap is_stopped e) a
-ran_acts (p.Rejected why) link at old result new e (inl a) = ran_closes link old (Some (error_for why)) _ result new (λ sent s. in_phase old (p.Rejected why) sent e s) (ap is_stopped e) a
-ran_acts (p.Rejected why) link at old result new e (inr a) = ran_same link old new a.1
-ran_acts p.CloseSent link at old result new e a = ran_reads link at old result new a
-ran_acts p.Discarding link at old result new e a = ran_reads link at old result new a
-ran_acts p.Ended link at old result new e a = ran_same link old new a.1
-ran_acts p.Failed link at old result new e a = ran_same link old new a.1
+-- a Close of this end
+pub closes_follow : {L : Type 0} (old : State L) (y : Option AmqpError) → ((sent : List Frame) → IsSaid old.phase sent → IsBegun sent) → ((before : List Frame) → IsHeard old.phase old.reason before → IsGreeted before) → is_stopped old.phase ≡ false → CanFollow old (close_frame y) (closing old y)
+closes_follow old y i g live =
+    record {
+      wire = refl;
+      settings = refl;
+      said = λ sent s. said_closing y (sent ++ close_frame y ∷ []) (closed_push sent (close_frame y) tt (i sent s));
+      heard = λ before h. heard_closing y before (g before h);
+      live = live;
+      phase = closing_not y;
+    }
 
 alike_flush : {L : Type 0} (s : State L) (answer : Result Flush TransportFault) (result : Result Flush Error) (new : State L) → AfterFlush s answer result new → Alike s new
 alike_flush s (Ok f) result new a = alike_same s new a.1
@@ -234,35 +287,29 @@ alike_flush s (Err e) result new a = alike_failing_by s new e a.1
 flushes_if : {L : Type 0} (b : Bool) (link : Ghosts L) (old : State L) (result : Result Flush Error) (new : State L) → FlushesIf b link old result new → Ran link old new
 flushes_if true link old result new f = ran_same link old new f.1
 flushes_if false link old result new w =
-    ran_then link old (record old { wire = w.wire }) new (ran_flushed link old w.wire w.answer w.flushed) (ran_none link (record old { wire = w.wire }) new (alike_flush (record old { wire = w.wire }) w.answer result new w.does))
+    ran_then link old (record old { wire = w.wire }) new (flushed_by link old w.wire w.answer w.flushed).run (ran_none link (record old { wire = w.wire }) new (alike_flush (record old { wire = w.wire }) w.answer result new w.does))
 
 pub ran_flushes : {L : Type 0} (link : Ghosts L) (old : State L) (result : Result Flush Error) (new : State L) → Flushes link old result new → Ran link old new
 ran_flushes link old result new f = flushes_if (has_failed old.phase) link old result new f
 
-then_acts : {L : Type 0} (link : Ghosts L) (at : ℕ) (flush : Result Flush Error) (mid : State L) (result : Result EngineStep Error) (new : State L) → ThenActs link at flush mid result new → Ran link mid new
-then_acts link at (Ok f) mid result new a = ran_acts mid.phase link at mid result new refl a
-then_acts link at (Err e) mid result new a = ran_same link mid new a.1
+pub is_open_only : (q : Phase) → is_open q ≡ true → q ≡ p.Opened
+is_open_only p.Opened e = refl
+is_open_only p.OpenSent e = absurd (cc e)
+is_open_only p.CloseReceived e = absurd (cc e)
+is_open_only p.Refused e = absurd (cc e)
+is_open_only (p.Rejected why) e = absurd (cc e)
+is_open_only p.CloseSent e = absurd (cc e)
+is_open_only p.Discarding e = absurd (cc e)
+is_open_only p.Ended e = absurd (cc e)
+is_open_only p.Failed e = absurd (cc e)
 
-pub ran_steps : {L : Type 0} (link : Ghosts L) (at : ℕ) (old : State L) (result : Result EngineStep Error) (new : State L) → Steps link at old result new → Ran link old new
-ran_steps link at old result new s = ran_then link old s.mid new (ran_flushes link old s.flush s.mid s.flushes) (then_acts link at s.flush s.mid result new s.acts)
-
--- a call that queues a Close while the connection is open
-closes_if : {L : Type 0} (q : Phase) (link : Ghosts L) (old : State L) (y : Option AmqpError) (result : Result Unit Error) (new : State L) → old.phase ≡ q → SendsIf (is_open q) old (close_frame y) (closing old y) result new → Ran link old new
-closes_if p.Opened link old y result new e a = ran_closes link old y tt result new (λ sent s. in_phase old p.Opened sent e s) (ap is_stopped e) a
-closes_if p.OpenSent link old y result new e a = ran_same link old new a.1
-closes_if p.CloseReceived link old y result new e a = ran_same link old new a.1
-closes_if p.Refused link old y result new e a = ran_same link old new a.1
-closes_if (p.Rejected why) link old y result new e a = ran_same link old new a.1
-closes_if p.CloseSent link old y result new e a = ran_same link old new a.1
-closes_if p.Discarding link old y result new e a = ran_same link old new a.1
-closes_if p.Ended link old y result new e a = ran_same link old new a.1
-closes_if p.Failed link old y result new e a = ran_same link old new a.1
-
-pub ran_closes_if : {L : Type 0} (link : Ghosts L) (old : State L) (y : Option AmqpError) (result : Result Unit Error) (new : State L) → Sends old (close_frame y) (closing old y) result new → Ran link old new
-ran_closes_if link old y result new a = closes_if old.phase link old y result new refl a
+-- a Close of this end while the connection is open
+pub open_follows : {L : Type 0} (old : State L) (y : Option AmqpError) → old.phase ≡ p.Opened → CanFollow old (close_frame y) (closing old y)
+open_follows old y e =
+    closes_follow old y (λ sent s. in_phase old p.Opened sent e s) (λ before h. (heard_in old p.Opened before e h).0) (ap is_stopped e)
 
 ran_session : {L : Type 0} (q : Phase) (link : Ghosts L) (old : State L) (x : Frame) (result : Result Unit Error) (new : State L) → old.phase ≡ q → of_session x.body ≡ true → SendsIf (is_open q) old x (queueing old x) result new → Ran link old new
-ran_session p.Opened link old x result new e o a = ran_puts link old x (queueing old x) tt result new (inner_follows old x (queueing old x) e refl refl refl (session_is_inner x.body o)) a
+ran_session p.Opened link old x result new e o a = (puts_by link old x (queueing old x) tt result new (inner_follows old x (queueing old x) e refl refl refl refl (session_is_inner x.body o)) a).run
 ran_session p.OpenSent link old x result new e o a = ran_same link old new a.1
 ran_session p.CloseReceived link old x result new e o a = ran_same link old new a.1
 ran_session p.Refused link old x result new e o a = ran_same link old new a.1

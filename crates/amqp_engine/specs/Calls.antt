@@ -70,7 +70,7 @@ pub record Reads {L : Type 0} (link : Ghosts L) (at : ℕ) (old : State L) (resu
   pub answer : Result (Next Frame) TransportFault
   pub wire : Wire L
   pub polled : Polled link 0 amqp_spells old.wire at answer wire
-  pub joined : Grew link 0 amqp_spells old.wire answer wire
+  pub joined : Grew link 0 amqp_spells old.wire at answer wire
   pub does : After at (record old { wire = wire }) answer result new
 
 -- the same, or memory for the frame was wanting before

@@ -7,5 +7,7 @@ pub mod Channels
 pub mod State
 pub mod Machine
 pub mod Calls
+pub mod Heard
 pub mod Sentence
+pub mod Faults
 pub mod Outcomes

@@ -1,19 +1,88 @@
--- What a step's answer says of its call.
-use Rattle.std.specs.Prelude.{◌≡◌, ℕ, List, Some, Ok}
+-- What an answer says of its call.
+use Rattle.std.specs.Prelude.{◌≡◌, ◌≤◌, ◌+◌, ◌⊎◌, ℕ, List, [], ◌∷◌, length, true, false, Option, Result, Ok, Err, ⊤}
 use Rattle.amqp_wire.specs.declared.link.Link.{Ghosts}
 use Rattle.amqp_wire.specs.declared.link.Stop.TheVariants.{Empty}
-use Rattle.amqp_wire.specs.Steps.{ReadBy}
-use Rattle.amqp_transport.specs.declared.transport.Flush.{Flush}
+use Rattle.amqp_wire.specs.declared.link.Held.TheVariants.{Full}
+use Rattle.amqp_wire.specs.Events.{LinkEvent, NotRead, NotWritten, Includes, reads_in}
+use Rattle.amqp_composites.specs.declared.error.Error.{Error as AmqpError}
+use Rattle.amqp_transport.specs.declared.frames.Frame.{Frame}
+use Rattle.amqp_transport.specs.declared.transport.Error.TheVariants as fault
 use Rattle.amqp_transport.specs.Clocks.{IsDue}
+use Rattle.amqp_engine.specs.declared.engine.EngineStep.{EngineStep}
+use Rattle.amqp_engine.specs.declared.engine.EngineStep.TheVariants as step
+use Rattle.amqp_engine.specs.declared.error.Error.{Error}
+use Rattle.amqp_engine.specs.declared.error.Error.TheVariants as error
+use Rattle.amqp_engine.specs.declared.phase.Phase.{Phase}
 use Rattle.amqp_engine.specs.declared.phase.Phase.TheVariants as p
-use Rattle.amqp_engine.specs.Calls.{Flushes}
-use Rattle.amqp_engine.specs.State.{State}
+use Rattle.amqp_engine.specs.declared.phase.Rejection.{Rejection}
+use Rattle.amqp_engine.specs.Phases.{is_stopped, has_failed, is_open}
+use Rattle.amqp_engine.specs.Plans.{rejection_told}
+use Rattle.amqp_engine.specs.State.{State, failing, closing, close_frame}
+use Rattle.amqp_engine.specs.Calls.{IsTooLarge}
+use Rattle.amqp_engine.specs.Sentence.{Ran, IsCalm}
+use Rattle.amqp_engine.specs.Faults.{IsFault}
 
--- what was queued was written as far as the link took it, no heartbeat was due, and the last read found the link empty
-pub record Waited {L : Type 0} (link : Ghosts L) (at : ℕ) (old new : State L) : Type 0 where
-  pub mid : State L
-  pub flush : Flush
-  pub flushes : Flushes link old (Ok flush) mid
-  pub undue : mid.phase ≡ p.Opened → IsDue mid.beat at → ⊥
-  pub bytes : List ℕ
-  pub reads : ReadBy link mid.wire.codec.link bytes (Some Empty) new.wire.codec.link
+-- what was queued was written as far as the link took it, unless the transport failed before
+abbrev pub IsWritten : Phase → List LinkEvent → List ℕ → Type 0
+IsWritten phase events output = (has_failed phase ≡ true) ⊎ (Includes events (NotWritten Full) ⊎ (output ≡ []))
+
+-- nothing is there: no heartbeat was due, and the last read found the link empty
+pub record HasWaited {L : Type 0} (at : ℕ) (old : State L) (events : List LinkEvent) (new : State L) : Type 0 where
+  pub found : Includes events (NotRead Empty)
+  pub written : Includes events (NotWritten Full) ⊎ (new.wire.codec.output ≡ [])
+  pub phase : new.phase ≡ old.phase
+  pub live : is_stopped new.phase ≡ false
+  pub undue : old.phase ≡ p.Opened → IsDue old.beat at → ⊥
+
+-- the connection had stopped before
+pub record HasRested {L : Type 0} (old : State L) (events : List LinkEvent) (new : State L) : Type 0 where
+  pub stopped : is_stopped new.phase ≡ true
+  pub phase : new.phase ≡ old.phase
+  pub written : IsWritten new.phase events new.wire.codec.output
+
+-- a frame that was read calls for a Close, and this is told
+abbrev pub IsRefusal : Error → Phase → Type 0
+IsRefusal e phase = ((e ≡ error.IllegalState) × (phase ≡ p.Refused)) ⊎ ((why : Rejection) × (e ≡ rejection_told why) × (phase ≡ p.Rejected why))
+
+-- a frame was given or queued
+abbrev pub HasWorked : List Frame → List Frame → Type 0
+HasWorked given queued = 1 ≤ length given + length queued
+
+-- what the answer of a step says: nothing where memory was wanting
+abbrev pub IsTold : {L : Type 0} → ℕ → State L → List LinkEvent → List Frame → List Frame → Result EngineStep Error → State L → Type 0
+IsTold at old events given queued (Ok step.Worked) new = HasWorked given queued
+IsTold at old events given queued (Ok step.Pending) new = HasWaited at old events new
+IsTold at old events given queued (Ok step.Stopped) new = HasRested old events new
+IsTold at old events given queued (Err (error.Memory a)) new = ⊤
+IsTold at old events given queued (Err (error.TransportError e)) new = (has_failed new.phase ≡ true) × (IsCalm old → IsFault at old events e)
+IsTold at old events given queued (Err error.IllegalState) new = HasWorked given queued × IsRefusal error.IllegalState new.phase
+IsTold at old events given queued (Err error.NotImplemented) new = HasWorked given queued × IsRefusal error.NotImplemented new.phase
+IsTold at old events given queued (Err error.NotFound) new = HasWorked given queued × IsRefusal error.NotFound new.phase
+IsTold at old events given queued (Err error.RemoteClosed) new = ⊥
+IsTold at old events given queued (Err (error.RemoteClosedWithError e)) new = ⊥
+
+-- at most one frame was given, and the idle time starts anew with it
+abbrev pub IsMoment : {L : Type 0} → ℕ → State L → List Frame → State L → Type 0
+IsMoment at old given new = ((given ≡ []) × (new.wire.clock.since ≡ old.wire.clock.since)) ⊎ ((x : Frame) × (given ≡ x ∷ []) × (new.wire.clock.since ≡ at))
+
+-- a run of one step, with what its answer says
+pub record Stepped {L : Type 0} (link : Ghosts L) (at : ℕ) (old : State L) (result : Result EngineStep Error) (new : State L) : Type 0 where
+  pub run : Ran link old new
+  pub few : reads_in run.events ≤ 1
+  pub moment : IsMoment at old run.given new
+  pub told : IsTold at old run.events run.given run.queued result new
+
+-- what the answer of a close says: a Close is queued, or nothing is
+abbrev pub IsClosedBy : {L : Type 0} → State L → Option AmqpError → List Frame → Result Unit Error → State L → Type 0
+IsClosedBy old y queued (Ok u) new = (queued ≡ close_frame y ∷ []) × (new ≡ closing old y)
+IsClosedBy old y queued (Err (error.Memory a)) new = (queued ≡ []) × (new ≡ old)
+IsClosedBy old y queued (Err error.IllegalState) new = (queued ≡ []) × (is_open old.phase ≡ false) × (new ≡ old)
+IsClosedBy old y queued (Err (error.TransportError fault.FramingError)) new = (queued ≡ []) × IsTooLarge old.wire.codec.encoder (close_frame y) × (new ≡ failing old)
+IsClosedBy old y queued (Err e) new = ⊥
+
+-- a run of one close, in which nothing passed at the link, with what its answer says
+pub record HasClosed {L : Type 0} (link : Ghosts L) (old : State L) (y : Option AmqpError) (result : Result Unit Error) (new : State L) : Type 0 where
+  pub run : Ran link old new
+  pub silent : run.events ≡ []
+  pub none : run.given ≡ []
+  pub told : IsClosedBy old y run.queued result new

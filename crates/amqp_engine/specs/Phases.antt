@@ -50,3 +50,16 @@ awaits p.OpenSent = true
 awaits p.CloseSent = true
 awaits p.Discarding = true
 awaits phase = false
+
+-- it may stand between Open and Close
+abbrev pub IsInner : BodyKind → Type 0
+IsInner kind.Session = Unit {0}
+IsInner kind.Empty = Unit {0}
+IsInner kind.Open = ⊥
+IsInner kind.Close = ⊥
+
+abbrev pub IsClose : BodyKind → Type 0
+IsClose kind.Close = Unit {0}
+IsClose kind.Open = ⊥
+IsClose kind.Session = ⊥
+IsClose kind.Empty = ⊥

@@ -1,20 +1,19 @@
 -- What an end says on its connection (OASIS AMQP 1.0, part 2, section 2.4): Open, then frames of sessions and empty frames, then at
 -- most one Close, and nothing after it.
-use Rattle.std.specs.Prelude.{◌≡◌, ◌≤◌, ◌+◌, ℕ, List, [], ◌∷◌, ◌++◌, length, true, ◌⊎◌}
-use Rattle.list_laws.specs.Told.{Loses, Gains}
+use Rattle.std.specs.Prelude.{◌≡◌, ◌≤◌, ◌+◌, ℕ, List, [], ◌∷◌, ◌++◌, length, true, false, None, ◌⊎◌}
 use Rattle.amqp_wire.specs.declared.link.Link.{Ghosts}
+use Rattle.amqp_wire.specs.Events.{LinkEvent, Went, read_of, wrote_of}
 use Rattle.amqp_composites.specs.declared.open.Open.{Open}
 use Rattle.amqp_frames.specs.declared.body.FrameBody.TheVariants as b
 use Rattle.amqp_transport.specs.declared.frames.Frame.{Frame}
 use Rattle.amqp_transport.specs.Kinds.{amqp_bytes, amqp_channel, amqp_spells}
 use Rattle.amqp_transport.specs.Stream.{Joined, stream_of}
 use Rattle.amqp_engine.specs.declared.connection.EndKind.{EndKind}
-use Rattle.amqp_engine.specs.declared.phase.BodyKind.{BodyKind}
-use Rattle.amqp_engine.specs.declared.phase.BodyKind.TheVariants as kind
 use Rattle.amqp_engine.specs.declared.phase.Phase.{Phase}
 use Rattle.amqp_engine.specs.declared.phase.Phase.TheVariants as p
-use Rattle.amqp_engine.specs.Phases.{kind_of, is_stopped}
+use Rattle.amqp_engine.specs.Phases.{kind_of, is_stopped, has_failed, IsInner, IsClose}
 use Rattle.amqp_engine.specs.State.{State, open_frame}
+use Rattle.amqp_engine.specs.Heard.{IsHeard}
 
 -- the bytes of frames, one after another
 abbrev pub bytes_of_all : List Frame → List ℕ
@@ -24,19 +23,7 @@ bytes_of_all xs = stream_of 0 amqp_bytes amqp_channel xs
 abbrev pub size_of_frame : Frame → ℕ
 size_of_frame x = 8 + length (amqp_bytes x)
 
--- it may stand between Open and Close
-abbrev pub IsInner : BodyKind → Type 0
-IsInner kind.Session = Unit {0}
-IsInner kind.Empty = Unit {0}
-IsInner kind.Open = ⊥
-IsInner kind.Close = ⊥
-
-abbrev pub IsClose : BodyKind → Type 0
-IsClose kind.Close = Unit {0}
-IsClose kind.Open = ⊥
-IsClose kind.Session = ⊥
-IsClose kind.Empty = ⊥
-
+-- each may stand between Open and Close
 abbrev pub AllInner : List Frame → Type 0
 AllInner [] = Unit {0}
 AllInner (x ∷ xs) = IsInner (kind_of x.body) × AllInner xs
@@ -85,40 +72,45 @@ pub record HasStopped {L : Type 0} (old new : State L) (queued : List Frame) : T
   pub reason : new.reason ≡ old.reason
   pub none : queued ≡ []
 
--- Bytes were read and written, frames queued and given: what is queued and not yet written, and what is read and not yet given, stays.
+-- no error of the transport is kept, but where it has ended the connection
+abbrev pub IsCalm : {L : Type 0} → State L → Type 0
+IsCalm s = has_failed s.phase ≡ false → s.wire.kept ≡ None
+
+-- Something passed at the link, and frames were queued and given: what is queued and not yet written, and what is read and not yet
+-- given, stays.
 pub record Ran {L : Type 0} (link : Ghosts L) (old new : State L) : Type 0 where
-  pub read : List ℕ
-  pub wrote : List ℕ
+  pub events : List LinkEvent
   pub queued : List Frame
   pub given : List Frame
-  pub reads : Loses (link.input old.wire.codec.link) (link.input new.wire.codec.link) read
-  pub writes : Gains (link.output old.wire.codec.link) (link.output new.wire.codec.link) wrote
-  pub mark : link.mark new.wire.codec.link ≡ link.mark old.wire.codec.link
-  pub faults : link.faults old.wire.codec.link ≤ link.faults new.wire.codec.link
-  pub goes_out : old.wire.codec.output ++ bytes_of_all queued ≡ wrote ++ new.wire.codec.output
-  pub joined : (bytes : List ℕ) (frames : List Frame) → Joined 0 amqp_spells bytes frames old.wire.codec.input → Joined 0 amqp_spells (bytes ++ read) (frames ++ given) new.wire.codec.input
+  pub went : Went link old.wire.codec.link events new.wire.codec.link
+  pub goes_out : old.wire.codec.output ++ bytes_of_all queued ≡ wrote_of events ++ new.wire.codec.output
+  pub joined : (bytes : List ℕ) (frames : List Frame) → Joined 0 amqp_spells bytes frames old.wire.codec.input → Joined 0 amqp_spells (bytes ++ read_of events) (frames ++ given) new.wire.codec.input
   pub said : (sent : List Frame) → IsSaid old.phase sent → IsSaid new.phase (sent ++ queued)
+  pub heard : (before : List Frame) → IsHeard old.phase old.reason before → IsHeard new.phase new.reason (before ++ given)
+  pub idle : new.wire.clock.idle ≡ old.wire.clock.idle
+  pub since : given ≡ [] → new.wire.clock.since ≡ old.wire.clock.since
+  pub calm : IsCalm old → IsCalm new
   pub stays : is_stopped old.phase ≡ true → HasStopped old new queued
   pub limits : IsLimited old → IsLimited new × (old.wire.codec.encoder ≤ new.wire.codec.encoder) × AllWithin new.wire.codec.encoder queued
 
--- what has happened at an end: the bytes read and written, the frames given and queued
+-- what has happened at an end: what passed at its link, the newest first, and the frames given and queued
 pub record History : Type 0 where
-  pub read : List ℕ
-  pub wrote : List ℕ
+  pub events : List LinkEvent
   pub given : List Frame
   pub sent : List Frame
 
 abbrev pub begun : EndKind → History
-begun end = record { read = []; wrote = []; given = []; sent = open_frame end ∷ [] }
+begun end = record { events = []; given = []; sent = open_frame end ∷ [] }
 
 abbrev pub grown : {L : Type 0} {link : Ghosts L} {old new : State L} → History → Ran link old new → History
-grown h r = record { read = h.read ++ r.read; wrote = h.wrote ++ r.wrote; given = h.given ++ r.given; sent = h.sent ++ r.queued }
+grown h r = record { events = r.events ++ h.events; given = h.given ++ r.given; sent = h.sent ++ r.queued }
 
 -- a state after a history, where some bytes were queued before Open, and some were read
 pub record Has {L : Type 0} (before arrived : List ℕ) (s : State L) (h : History) : Type 0 where
-  pub out : h.wrote ++ s.wire.codec.output ≡ before ++ bytes_of_all h.sent
-  pub joined : Joined 0 amqp_spells (arrived ++ h.read) h.given s.wire.codec.input
+  pub out : wrote_of h.events ++ s.wire.codec.output ≡ before ++ bytes_of_all h.sent
+  pub joined : Joined 0 amqp_spells (arrived ++ read_of h.events) h.given s.wire.codec.input
   pub said : IsSaid s.phase h.sent
+  pub heard : IsHeard s.phase s.reason h.given
   pub limited : IsLimited s
   pub sized : AllWithin s.settings.largest_written h.sent
 

@@ -9,6 +9,7 @@ ghost use Rattle.amqp_engine.specs.Channels.{frame_in, first_of};
 ghost use Rattle.amqp_engine.specs.State.{State, queueing, failing, closing, close_frame, beating, own_reason, remote_reason, answered_reason, error_for, limited, idle_time, entered, close_phase, closed_for, stop_reason_of};
 ghost use Rattle.amqp_engine.specs.Machine.{awaited, awaited_answer, arrived, arrived_answer, outlasted, received, answer_to, admitted_answer, phase_after};
 ghost use Rattle.amqp_engine.specs.Sentence.{Ran};
+ghost use Rattle.amqp_engine.specs.Outcomes.{Stepped, HasClosed};
 ghost use Rattle.amqp_engine.specs.Errors.{error_of};
 ghost use Rattle.amqp_frames.specs.Session.{of_session};
 ghost use Rattle.amqp_engine.specs.Calls.{OpensTo, Writes, failing_by, Puts, Reads, ReadsOrWants, Rejects, Works, Answers, Acts, Flushes, Steps, Sends, Takes, TakesAsked, Allocates, freed};
@@ -211,7 +212,10 @@ impl<L: Link> ConnectionEngine<L> {
         }
     }
 
-    /// Writes what is queued, until the link takes nothing more. After a failure nothing is written.
+    /// Writes what is queued, until the link takes nothing more. After a failure nothing is written, and the answer is `Empty`.
+    ///
+    /// `TransportError` with `Io` says that the link failed, and ends the engine: the connection has stopped then. `Memory` says
+    /// that the link had no memory, and the engine goes on. No other error comes. What was not taken stays queued.
     pub fn flush(&mut self) -> Result<Flush, Error>
         ensures ran { Ran L.Link self.old self.new }
         ensures does { Flushes L.Link self.old result self.new }
@@ -493,8 +497,18 @@ impl<L: Link> ConnectionEngine<L> {
 
     /// Writes what is queued, and then does one thing: it queues a Close that is owed, or the empty frame that is due, or reads
     /// at most one frame. `Stopped` exactly where the stop reason is told.
+    ///
+    /// `IllegalState`, `NotImplemented` and `NotFound` say that the frame that was read may not come now, begins a session that
+    /// this end does not take, or names no session. The engine goes on: the next step queues the Close that is owed.
+    ///
+    /// `TransportError` ends the engine, and the connection has stopped then. `Io` says that the link failed or its input ended,
+    /// `IdleTimeoutElapsed` that no frame came for the idle time, `DecodeError`, `NotImplemented` and `FramingError` that what was
+    /// read is no frame of AMQP; `FramingError` comes also where a frame that this end owes is too large for the peer.
+    ///
+    /// `Memory` says that memory was wanting. What was read and what is queued stays, and the engine goes on with the next step.
+    /// No other error comes.
     pub fn step(&mut self, at: u64) -> Result<EngineStep, Error>
-        ensures ran { Ran L.Link self.old self.new }
+        ensures ran { Stepped L.Link at self.old result self.new }
         ensures does { Steps L.Link at self.old result self.new }
     {
         self.step_once(at)
@@ -510,6 +524,10 @@ impl<L: Link> ConnectionEngine<L> {
     }
 
     /// Queues a frame of a session, behind all that was queued.
+    ///
+    /// `IllegalState` says that the connection is not open: nothing changes. `TransportError` with `FramingError` says that the
+    /// frame is too large for the peer: nothing is queued, and the engine has ended. `Memory` says that memory was wanting:
+    /// nothing changes, and the engine goes on. No other error comes.
     pub fn send(&mut self, frame: SessionFrame) -> Result<(), Error>
         ensures ran { Ran L.Link self.old self.new }
         ensures does { Sends self.old (frame_in frame) (queueing self.old (frame_in frame)) result self.new }
@@ -531,8 +549,12 @@ impl<L: Link> ConnectionEngine<L> {
     }
 
     /// Queues a Close, behind all that was queued; it goes out with the next steps.
+    ///
+    /// `IllegalState` says that the connection is not open: nothing changes. `TransportError` with `FramingError` says that the
+    /// Close is too large for the peer: nothing is queued, and the engine has ended. `Memory` says that memory was wanting:
+    /// nothing changes, and the engine goes on. No other error comes.
     pub fn close(&mut self, error: Option<AmqpError>) -> Result<(), Error>
-        ensures ran { Ran L.Link self.old self.new }
+        ensures ran { HasClosed L.Link self.old error result self.new }
         ensures does { Sends self.old (close_frame error) (closing self.old error) result self.new }
     {
         self.close_if_open(error)

@@ -2,6 +2,7 @@ pub mod Header
 pub mod Clocks
 pub mod Arrivals
 pub mod Wire
+pub mod Causes
 pub mod Stream
 pub mod Exchange
 pub mod Kinds

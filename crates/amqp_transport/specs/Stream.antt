@@ -1,13 +1,15 @@
 -- The frames that bytes carry (OASIS AMQP 1.0, part 2, section 2.3).
-use Rattle.std.specs.Prelude.{◌≡◌, ◌<◌, ◌⊎◌, ◌+◌, ◌^◌, ℕ, List, [], ◌∷◌, ◌++◌, map, length, drop, flat_map, Result, Ok, Err}
+use Rattle.std.specs.Prelude.{◌≡◌, ◌<◌, ◌≤◌, ◌⊎◌, ◌+◌, ◌^◌, ℕ, List, [], ◌∷◌, ◌++◌, map, length, drop, flat_map, None, Result, Ok, Err}
 use Rattle.amqp_wire.specs.Size.{size_of}
 use Rattle.amqp_wire.specs.Frame.{HasBody, frame_of}
 use Rattle.amqp_wire.specs.declared.link.Link.{Ghosts}
 use Rattle.amqp_transport.specs.declared.transport.Error.{Error}
 use Rattle.amqp_transport.specs.declared.transport.Next.{Next}
 use Rattle.amqp_transport.specs.declared.transport.Next.TheVariants.{Frame, Pending, Ended}
-use Rattle.amqp_wire.specs.Steps.{Gave}
+use Rattle.amqp_wire.specs.Codec.{limits_of}
+use Rattle.amqp_wire.specs.Events.{LinkEvent, Went, read_of, wrote_of, reads_in}
 use Rattle.amqp_transport.specs.Wire.{Wire}
+use Rattle.amqp_transport.specs.Causes.{IsCause, Allows, clock_after, kept_after}
 
 -- bytes that are one frame, whose body spells x
 pub record IsFrame {X : Type 0} (kind : ℕ) (spells : ℕ → List ℕ → X → Type 0) (piece : List ℕ) (x : X) : Type 0 where
@@ -31,12 +33,20 @@ frames_of (Ok Pending) = []
 frames_of (Ok Ended) = []
 frames_of (Err e) = []
 
--- Bytes came in and at most one frame went out, so that the frames so far, joined with what is left, are the bytes so far.
-pub record Grew {L X : Type 0} (link : Ghosts L) (kind : ℕ) (spells : ℕ → List ℕ → X → Type 0) (old : Wire L) (result : Result (Next X) Error) (new : Wire L) : Type 0 where
-  pub bytes : List ℕ
-  pub gave : Gave link old.codec.link bytes new.codec.link
+-- At most one read gave bytes and at most one frame went out, so that the frames so far, joined with what is left, are the bytes
+-- so far. The answer has its cause, unless it is an error that is answered again.
+pub record Grew {L X : Type 0} (link : Ghosts L) (kind : ℕ) (spells : ℕ → List ℕ → X → Type 0) (old : Wire L) (at : ℕ) (result : Result (Next X) Error) (new : Wire L) : Type 0 where
+  pub events : List LinkEvent
+  pub went : Went link old.codec.link events new.codec.link
+  pub silent : wrote_of events ≡ []
+  pub few : reads_in events ≤ 1
   pub output : new.codec.output ≡ old.codec.output
-  pub grows : (read : List ℕ) (frames : List X) → Joined kind spells read frames old.codec.input → Joined kind spells (read ++ bytes) (frames ++ frames_of result) new.codec.input
+  pub limits : limits_of new.codec ≡ limits_of old.codec
+  pub clock : new.clock ≡ clock_after result at old.clock
+  pub kept : new.kept ≡ kept_after result old.kept
+  pub again : Allows old.kept result
+  pub cause : old.kept ≡ None → IsCause kind spells old.codec.decoder (old.codec.input ++ read_of events) old.clock at events result
+  pub grows : (read : List ℕ) (frames : List X) → Joined kind spells read frames old.codec.input → Joined kind spells (read ++ read_of events) (frames ++ frames_of result) new.codec.input
 
 -- the frames that are written
 abbrev pub stream_of : {X : Type 0} → ℕ → (X → List ℕ) → (X → ℕ) → List X → List ℕ

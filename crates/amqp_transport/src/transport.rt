@@ -221,7 +221,7 @@ impl<L: Link, F: FrameKind> Transport<L, F> {
     /// the next poll goes on.
     pub fn poll_next(&mut self, at: u64) -> Result<Next<F::Item>, Error>
         ensures answer { Polled L.Link F.TYPE F.spells self.old at result self.new }
-        ensures joined { Grew L.Link F.TYPE F.spells self.old result self.new }
+        ensures joined { Grew L.Link F.TYPE F.spells self.old at result self.new }
     {
         self.poll_once(at)
     }
