@@ -3,7 +3,7 @@ use crate::script::{ScriptError, parse};
 use crate::trace_text::text;
 use amqp_composites::error::Error as AmqpError;
 use amqp_composites::sasl_code::SaslCode;
-use amqp_data::{OrderedMap, Value};
+use amqp_data::{OrderedMap, Value, ValueList};
 use amqp_engine::error::Error as ConnectionError;
 use amqp_fields::FieldMap;
 use amqp_text::{Binary, Symbol, Text};
@@ -261,7 +261,7 @@ fn for_what_an_end_closes(rt: HostRuntime) -> Result<(), Fail> {
         let Act::Call(Call::Close { error }) = &step.act else {
             return Err(Fail::from("no close"));
         };
-        let condition = match error {
+        let condition: &[u8] = match error {
             Some(error) => error.as_slice(),
             None => b"-",
         };
@@ -427,12 +427,13 @@ fn text_of_transports(rt: HostRuntime) -> Result<(), Fail> {
         (transport::Error::NotImplemented, "NotImplemented"),
         (transport::Error::FramingError, "FramingError"),
     ];
+    let alloc = rt.alloc();
     for (error, word) in rows {
-        let text = answer(rt.alloc(), opening(error))?;
-        let wanted = format!(in rt.alloc(); "0 10 error Open.TransportError.{word}\n")?;
+        let text = answer(alloc, opening(error))?;
+        let wanted = format!(in alloc; "0 10 error Open.TransportError.{word}\n")?;
         assert_eq!(rt; text.as_slice(), wanted.as_bytes());
-        let text = answer(rt.alloc(), calling(error))?;
-        let wanted = format!(in rt.alloc(); "0 10 error Connection.TransportError.{word}\n")?;
+        let text = answer(alloc, calling(error))?;
+        let wanted = format!(in alloc; "0 10 error Connection.TransportError.{word}\n")?;
         assert_eq!(rt; text.as_slice(), wanted.as_bytes());
     }
     Ok(())
@@ -455,13 +456,15 @@ fn fault(
     })
 }
 
-/// A map of one entry: the symbol `k` and a number.
-fn info(alloc: Global) -> Result<FieldMap, Fail> {
+/// A map of one entry, with the symbol `k` as its key.
+fn info(alloc: Global, value: Value) -> Result<FieldMap, Fail> {
     let Ok(key) = Symbol::from_slice(alloc, b"k") else {
         return Err(Fail::from("no symbol"));
     };
-    let mut map = OrderedMap::new(alloc);
-    map.insert(Value::Symbol(key), Value::Uint(1))?;
+    let key = Value::Symbol(key);
+    let mut entries = Vec::new(alloc);
+    entries.push(amqp_data::Entry { key, value })?;
+    let map = OrderedMap::from_entries(alloc, entries)?;
     FieldMap::new(map).ok_or(Fail::from("no map"))
 }
 
@@ -469,17 +472,46 @@ fn info(alloc: Global) -> Result<FieldMap, Fail> {
 fn text_of_faults(rt: HostRuntime) -> Result<(), Fail> {
     let alloc = rt.alloc();
     let bare = fault(alloc, b"amqp:x", None, None)?;
-    let text = answer(alloc, Reply::OpenError(OpenError::RemoteClosedWithError(bare)))?;
+    let text = answer(
+        alloc,
+        Reply::OpenError(OpenError::RemoteClosedWithError(bare)),
+    )?;
     let wanted = "0 10 error Open.RemoteClosedWithError amqp:x - -\n";
     assert_eq!(rt; text.as_slice(), wanted.as_bytes());
     let description = Text::from_str(alloc, "h\u{e4}")?;
-    let full = fault(alloc, b"", Some(description), Some(info(alloc)?))?;
+    let info = info(alloc, Value::Uint(1))?;
+    let full = fault(alloc, b"", Some(description), Some(info))?;
     let text = answer(
         alloc,
         Reply::ConnectionError(ConnectionError::RemoteClosedWithError(full)),
     )?;
     // A map of 6 bytes behind its size, with 2 items: the symbol `k` and the small number 1 (part 1, section 1.6).
     let wanted = "0 10 error Connection.RemoteClosedWithError  x68c3a4 xc10602a3016b5201\n";
+    assert_eq!(rt; text.as_slice(), wanted.as_bytes());
+    Ok(())
+}
+
+/// The text of an error whose info is a map around so many lists, the innermost one empty.
+fn nested(alloc: Global, lists: u8) -> Result<Vec<u8>, Fail> {
+    let mut value = Value::List(ValueList::new(alloc));
+    for _ in 1..lists {
+        let mut list = ValueList::new(alloc);
+        list.push(value)?;
+        value = Value::List(list);
+    }
+    let info = info(alloc, value)?;
+    let error = fault(alloc, b"e", None, Some(info))?;
+    let reply = Reply::ConnectionError(ConnectionError::RemoteClosedWithError(error));
+    let text = answer(alloc, reply)?;
+    Ok(text)
+}
+
+#[test]
+fn text_of_a_map_that_is_nested_too_deep(rt: HostRuntime) -> Result<(), Fail> {
+    let text = nested(rt.alloc(), 31)?;
+    assert!(rt; text.starts_with(b"0 10 error Connection.RemoteClosedWithError e - xc1"));
+    let text = nested(rt.alloc(), 32)?;
+    let wanted = "0 10 error Connection.RemoteClosedWithError e - deep\n";
     assert_eq!(rt; text.as_slice(), wanted.as_bytes());
     Ok(())
 }
