@@ -1,6 +1,7 @@
 //! What an end is asked to do.
 ghost use Rattle.std.specs.Prelude.{◌≡◌, IfOk};
 
+use amqp_text::symbol::SymbolError;
 use amqp_text::{Binary, Symbol, Text};
 use sasl_gate::SaslProfile;
 use std::alloc::{AllocError, Global};
@@ -80,10 +81,11 @@ fn clone_symbol(symbol: &Option<Symbol>, alloc: Global) -> Result<Option<Symbol>
     ensures { IfOk result (λ s. s ≡ symbol.now) }
 {
     match symbol {
-        Some(symbol) => {
-            let symbol = symbol.try_clone(alloc)?;
-            Ok(Some(symbol))
-        }
+        Some(symbol) => match Symbol::from_slice(alloc, symbol.as_slice()) {
+            Ok(copy) => Ok(Some(copy)),
+            Err(SymbolError::Memory(error)) => Err(error),
+            Err(SymbolError::NotAscii) => unreachable!(),
+        },
         None => Ok(None),
     }
 }
