@@ -465,7 +465,10 @@ fn info(alloc: Global, value: Value) -> Result<FieldMap, Fail> {
     let mut entries = Vec::new(alloc);
     entries.push(amqp_data::Entry { key, value })?;
     let map = OrderedMap::from_entries(alloc, entries)?;
-    FieldMap::new(map).ok_or(Fail::from("no map"))
+    match FieldMap::new(map) {
+        Some(info) => Ok(info),
+        None => Err(Fail::from("no map")),
+    }
 }
 
 #[test]
