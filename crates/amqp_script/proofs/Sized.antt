@@ -1,9 +1,11 @@
--- The test of sizes tells whether each length has room.
-use Rattle.std.proofs.Common.{◌≡◌, ℕ, ◌<◌, ◌^◌, Bool, true, false, nat_lt, refl, length}
-use Rattle.std.proofs.lemmas.Bool.{and_from, and_parts, lt-ltb, ltb-true, false_from_ne_true}
-use Rattle.amqp_data.specs.Data.{Scalar, binary, string, symbol, Amqp, Items, Pairs, scalar, list, dict, array, described, no_items, item, no_pairs, pair}
+-- The test of sizes tells whether each length has room, and so which text a value has.
+use Rattle.std.proofs.Common.{◌≡◌, ℕ, ◌≤◌, List, [], true, false, codes, refl}
+use Rattle.std.proofs.lemmas.Bool.{and_from, and_parts, lt-ltb, le-ltb, ltb-true, false_from_ne_true}
+use Rattle.amqp_data.specs.Data.{Scalar, binary, string, symbol, Amqp, Items, Pairs, scalar, list, dict, array, described, no_items, item, no_pairs, pair, depth}
 use Rattle.amqp_value.specs.Canonical.{IsScalarSized, IsSized, AreSized, ArePairsSized}
-use Rattle.amqp_script.specs.Info.{is_scalar_sized, is_sized, are_sized, are_pairs_sized}
+use Rattle.amqp_value.specs.Writing.{Wrote}
+use Rattle.amqp_script.specs.Hex.{bytes_text}
+use Rattle.amqp_script.specs.Info.{is_scalar_sized, is_sized, are_sized, are_pairs_sized, value_text}
 
 scalar_test : (s : Scalar) → IsScalarSized s → is_scalar_sized s ≡ true
 scalar_test (binary s) h = lt-ltb _ _ h
@@ -60,3 +62,11 @@ mutual
 -- some length has no room, so the test does not pass
 pub unsized_test : (v : Amqp) → (IsSized v → ⊥) → is_sized v ≡ false
 unsized_test v h = false_from_ne_true (is_sized v) (λ e. h (sized_room v e))
+
+-- a value that was written
+pub text_written : (v : Amqp) (old new : List ℕ) → old ≡ [] → Wrote old new v × IsSized v × (depth v ≤ 32) → value_text v ≡ bytes_text new
+text_written v old new none h = rw (le-ltb 32 (depth v) h.2, sized_test v h.1, h.0.bytes, none) refl
+
+-- one with a length that has no room
+pub text_long : (v : Amqp) → depth v ≤ 32 → (IsSized v → ⊥) → value_text v ≡ codes "long"
+text_long v nests h = rw (le-ltb 32 (depth v) nests, unsized_test v h) refl

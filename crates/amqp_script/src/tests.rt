@@ -147,7 +147,10 @@ fn settings_line(alloc: Global, settings: &ConnectionSettings) -> Result<String,
     };
     let id = settings.container_id.as_str();
     let idle = settings.idle_time_out;
-    format!(in alloc; "{id} {host} {} {} {idle:?}", settings.max_frame_size, settings.channel_max)
+    format!(in alloc;
+        "{id} {host} {} {} {idle:?}",
+        settings.max_frame_size, settings.channel_max
+    )
 }
 
 /// The one step of a line.
@@ -169,7 +172,10 @@ fn settings_and_their_defaults(rt: HostRuntime) -> Result<(), Fail> {
     let rows = [
         ("c 0 open id=c\n", "c - 262144 255 None"),
         ("c 0 open id= host=\n", "  262144 255 None"),
-        ("c 0 open id=c saslhost=s idle=0\n", "c - 262144 255 Some(0)"),
+        (
+            "c 0 open id=c saslhost=s idle=0\n",
+            "c - 262144 255 Some(0)",
+        ),
         (
             "c 0 open channels=7 host=%C3%A4 idle=9 id=c max=8\n",
             "c \u{e4} 8 7 Some(9)",
@@ -203,11 +209,13 @@ fn what_a_client_opens_with(rt: HostRuntime) -> Result<(), Fail> {
     };
     assert!(rt; step.end == End::Listener);
     assert_eq!(rt; step.at, 9);
-    let Act::Call(Call::Open {
-        settings,
-        sasl_hostname: Some(host),
-        sasl: Some(sasl),
-    }) = &step.act
+    let Act::Call(
+        Call::Open {
+            settings,
+            sasl_hostname: Some(host),
+            sasl: Some(sasl),
+        },
+    ) = &step.act
     else {
         return Err(Fail::from("no open"));
     };
@@ -226,14 +234,16 @@ fn what_a_client_opens_with(rt: HostRuntime) -> Result<(), Fail> {
 
 #[test]
 fn whom_a_listener_lets_in(rt: HostRuntime) -> Result<(), Fail> {
-    let line =
-        "l 0 accept id=l sasl=sha256 user=user pass=pencil salt=AAH/ rounds=4096 nonce=n\n";
+    let line = "l 0 accept id=l sasl=sha256 user=user pass=pencil salt=AAH/ rounds=4096 nonce=n\n";
     let Some(step) = only_step(rt.alloc(), line)? else {
         return Err(Fail::from("a line of the grammar is refused"));
     };
-    let Act::Call(Call::Accept {
-        sasl: Some(sasl), ..
-    }) = &step.act
+    let Act::Call(
+        Call::Accept {
+            sasl: Some(sasl),
+            ..
+        },
+    ) = &step.act
     else {
         return Err(Fail::from("no accept"));
     };

@@ -1,7 +1,7 @@
 //! Errors in the text of a trace: the variants from outside inwards, joined by points, and the
 //! fields of the innermost one.
 ghost use Rattle.std.specs.Prelude.{◌≡◌, ◌++◌, OnOk};
-ghost use Rattle.amqp_script.specs.ErrorText.{io_word, scram_word, negotiation_text, transport_text, remote_text, open_text, connection_text};
+ghost use Rattle.amqp_script.specs.ErrorText.{io_word, scram_word, negotiation_text, transport_text, remote_text, opening_text, open_text, engine_text, connection_text};
 
 use crate::trace_text::fault::push_fault;
 use crate::trace_text::hex::{push_binary, push_named, push_word, push_words};
@@ -87,7 +87,10 @@ fn push_transport(out: &mut Vec<u8>, error: &transport::Error) -> Result<(), All
     match error {
         transport::Error::Memory(_) => push_word(out, b"TransportError.Memory"),
         transport::Error::Io(kind) => push_words(out, b"TransportError.Io.", io_name(*kind)),
-        transport::Error::IdleTimeoutElapsed => push_word(out, b"TransportError.IdleTimeoutElapsed"),
+        transport::Error::IdleTimeoutElapsed => push_word(
+            out,
+            b"TransportError.IdleTimeoutElapsed",
+        ),
         transport::Error::DecodeError => push_word(out, b"TransportError.DecodeError"),
         transport::Error::NotImplemented => push_word(out, b"TransportError.NotImplemented"),
         transport::Error::FramingError => push_word(out, b"TransportError.FramingError"),
@@ -98,14 +101,13 @@ fn push_remote(alloc: Global, out: &mut Vec<u8>, error: &AmqpError) -> Result<()
     ensures { OnOk result (out.new.items ≡ out.old.items ++ remote_text error.now) }
 {
     out.extend_from_slice(b"RemoteClosedWithError ")?;
-    push_fault(alloc, out, error)
+    push_fault(alloc, out, error)?;
+    Ok(())
 }
 
-/// Adds why a connection is not opened.
-pub fn push_open(alloc: Global, out: &mut Vec<u8>, error: &OpenError) -> Result<(), AllocError>
-    ensures { OnOk result (out.new.items ≡ out.old.items ++ open_text error.now) }
+fn push_opening(alloc: Global, out: &mut Vec<u8>, error: &OpenError) -> Result<(), AllocError>
+    ensures { OnOk result (out.new.items ≡ out.old.items ++ opening_text error.now) }
 {
-    out.extend_from_slice(b"Open.")?;
     match error {
         OpenError::Negotiation(error) => {
             out.extend_from_slice(b"Negotiation.")?;
@@ -118,15 +120,18 @@ pub fn push_open(alloc: Global, out: &mut Vec<u8>, error: &OpenError) -> Result<
     }
 }
 
-/// Adds why a call on a connection does not do what it was asked.
-pub fn push_connection(
-    alloc: Global,
-    out: &mut Vec<u8>,
-    error: &ConnectionError,
-) -> Result<(), AllocError>
-    ensures { OnOk result (out.new.items ≡ out.old.items ++ connection_text error.now) }
+/// Adds why a connection is not opened.
+pub fn push_open(alloc: Global, out: &mut Vec<u8>, error: &OpenError) -> Result<(), AllocError>
+    ensures { OnOk result (out.new.items ≡ out.old.items ++ open_text error.now) }
 {
-    out.extend_from_slice(b"Connection.")?;
+    out.extend_from_slice(b"Open.")?;
+    push_opening(alloc, out, error)?;
+    Ok(())
+}
+
+fn push_engine(alloc: Global, out: &mut Vec<u8>, error: &ConnectionError) -> Result<(), AllocError>
+    ensures { OnOk result (out.new.items ≡ out.old.items ++ engine_text error.now) }
+{
     match error {
         ConnectionError::Memory(_) => push_word(out, b"Memory"),
         ConnectionError::TransportError(error) => push_transport(out, error),
@@ -136,4 +141,17 @@ pub fn push_connection(
         ConnectionError::RemoteClosed => push_word(out, b"RemoteClosed"),
         ConnectionError::RemoteClosedWithError(error) => push_remote(alloc, out, error),
     }
+}
+
+/// Adds why a call on a connection does not do what it was asked.
+pub fn push_connection(
+    alloc: Global,
+    out: &mut Vec<u8>,
+    error: &ConnectionError,
+) -> Result<(), AllocError>
+    ensures { OnOk result (out.new.items ≡ out.old.items ++ connection_text error.now) }
+{
+    out.extend_from_slice(b"Connection.")?;
+    push_engine(alloc, out, error)?;
+    Ok(())
 }

@@ -1,31 +1,36 @@
 //! The error of a Close in the text of a trace (OASIS AMQP 1.0, part 2, section 2.8.14).
 ghost use Rattle.std.specs.Prelude.{◌≡◌, ◌++◌, OnOk};
-ghost use Rattle.amqp_script.specs.Info.{info_text, fault_text};
+ghost use Rattle.amqp_data.specs.Data.{dict};
+ghost use Rattle.amqp_script.specs.Info.{value_text, info_text, fault_text};
 
 use crate::trace_text::hex::{push_bytes, push_text, push_word};
 use amqp_composites::error::Error as AmqpError;
+use amqp_data::OrderedMap;
 use amqp_fields::FieldMap;
 use amqp_text::Binary;
 use amqp_value::{ValueError, write_map};
 use std::alloc::{AllocError, Global};
 
-/// Adds the canonical bytes of a map, a sign that there is none, or the word that says why it has no such bytes.
-fn push_info(
-    alloc: Global,
-    out: &mut Vec<u8>,
-    info: &Option<FieldMap>,
-) -> Result<(), AllocError>
-    ensures { OnOk result (out.new.items ≡ out.old.items ++ info_text info.now) }
+/// Adds the canonical bytes of a map, or the word that says why it has none.
+fn push_map(alloc: Global, out: &mut Vec<u8>, map: &OrderedMap) -> Result<(), AllocError>
+    ensures { OnOk result (out.new.items ≡ out.old.items ++ value_text (dict map.now)) }
 {
-    let Some(info) = info else {
-        return push_word(out, b"-");
-    };
     let mut bytes = Binary::new(alloc);
-    match write_map(&mut bytes, info.as_map()) {
+    match write_map(&mut bytes, map) {
         Ok(()) => push_bytes(out, bytes.as_slice()),
         Err(ValueError::Memory(error)) => Err(error),
         Err(ValueError::Depth) => push_word(out, b"deep"),
-        Err(_) => push_word(out, b"long"),
+        Err(ValueError::Size) => push_word(out, b"long"),
+        Err(ValueError::Decode | ValueError::Short) => unreachable!(),
+    }
+}
+
+fn push_info(alloc: Global, out: &mut Vec<u8>, info: &Option<FieldMap>) -> Result<(), AllocError>
+    ensures { OnOk result (out.new.items ≡ out.old.items ++ info_text info.now) }
+{
+    match info {
+        Some(info) => push_map(alloc, out, info.as_map()),
+        None => push_word(out, b"-"),
     }
 }
 
