@@ -3,7 +3,7 @@ ghost use Rattle.std.specs.Prelude.{◌↔◌, IsTrue};
 ghost use Rattle.amqp_peer.specs.Calls.{IsFirstCall};
 
 use crate::peer::PeerKind;
-use amqp_opening::authentication::{is_allowed_acceptor, is_allowed_profile};
+use amqp_opening::{is_allowed_acceptor, is_allowed_profile};
 use amqp_words::Call;
 
 /// Whether a call may be the first of an end: `open` at a client, `accept` at a listener, each with a nonce of 1 or more visible

@@ -1,5 +1,1 @@
-pub mod Pieces
-pub mod Numbers
-pub mod Escapes
-pub mod Lines
 pub mod Told

@@ -1,9 +1,2 @@
-pub mod Words
-pub mod Number
-pub mod Escape
-pub mod Keys
-pub mod Line
-pub mod Script
-pub mod TraceText
 pub mod Request
 pub mod Program

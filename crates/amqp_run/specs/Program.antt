@@ -3,11 +3,11 @@ use Rattle.std.specs.Prelude.{◌≡◌, ◌≤◌, ◌<◌, ◌↔◌, List, �
 use Rattle.list_laws.specs.Told.{Loses, Gains, IsEmptyIfTold}
 use Rattle.amqp_wire.specs.declared.status.Status.{Status}
 use Rattle.amqp_wire.specs.declared.status.Status.TheVariants.{Done, Usage, BadScript, BadStep, Memory, ReadFault, WriteFault, TooLong}
-use Rattle.amqp_world.specs.declared.step.Step.{Step}
-use Rattle.amqp_world.specs.declared.trace.Entry.{Entry}
+use Rattle.amqp_words.specs.declared.step.Step.{Step}
+use Rattle.amqp_words.specs.declared.trace.Entry.{Entry}
 use Rattle.amqp_world.specs.Explains.{past_of, Explained, IsFirstInvalid}
-use Rattle.amqp_run.specs.Script.{Spells, IsFirstBad}
-use Rattle.amqp_run.specs.TraceText.{text_of}
+use Rattle.amqp_script.specs.Script.{Spells, IsFirstBad}
+use Rattle.amqp_script.specs.TraceText.{text_of}
 use Rattle.amqp_run.specs.Request.{Request, RunScript, DeriveKey, key_text}
 
 -- a source was read to its end, and gave this script

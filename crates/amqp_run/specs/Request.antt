@@ -5,8 +5,8 @@ use Rattle.sha2.specs.Sha256.{sha256}
 use Rattle.sha2.specs.Sha512.{sha512}
 use Rattle.kdf_core.specs.Hmac.{hmac_of}
 use Rattle.kdf_core.specs.Pbkdf2.{pbkdf2_of}
-use Rattle.amqp_run.specs.Number.{number_in}
-use Rattle.amqp_run.specs.TraceText.{hex_of}
+use Rattle.amqp_script.specs.Number.{number_in}
+use Rattle.amqp_script.specs.Hex.{hex_of}
 use Rattle.amqp_run.specs.declared.key.HashName.{HashName}
 use Rattle.amqp_run.specs.declared.key.HashName.TheVariants.{Sha1, Sha256, Sha512}
 use Rattle.amqp_run.specs.declared.key.KeyRequest.{KeyRequest}

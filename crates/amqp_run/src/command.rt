@@ -3,8 +3,8 @@ ghost use Rattle.std.specs.Prelude.{◌≡◌, Some, None, MatchOption, codes};
 ghost use Rattle.amqp_run.specs.Request.{key_in, request_in, request_of};
 
 use crate::key::{HashName, KeyRequest};
-use crate::script::number::number;
-use crate::script::words::is_text;
+use amqp_script::script::number::number;
+use amqp_script::script::words::is_text;
 use amqp_text::Text;
 
 /// What the program is asked for.

@@ -2,8 +2,8 @@
 ghost use Rattle.std.specs.Prelude.{◌≡◌, ◌≤◌, length, IfOk};
 ghost use Rattle.amqp_run.specs.Request.{hash_in, key_of, text_of_key};
 
-use crate::script::words::is_text;
-use crate::trace_text::push_hex;
+use amqp_script::script::words::is_text;
+use amqp_script::trace_text::hex::push_hex;
 use kdf_core::{Sha1Fn, Sha256Fn, Sha512Fn, pbkdf2_hmac};
 use std::alloc::{AllocError, Global};
 

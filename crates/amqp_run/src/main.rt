@@ -1,20 +1,18 @@
 //! Two ends of AMQP 1.0 in memory, driven by a script.
 //!
-//! `amqp_run world` reads a script from standard input (module `script`), makes its steps and
-//! writes the text of the trace (module `trace_text`) to standard output. `amqp_run kdf HASH ROUNDS
-//! LENGTH PASSWORD SALT` writes a key. A run that does not end with its whole text written says why
-//! in one line on standard error, and ends with the number of its status.
+//! `amqp_run world` reads a script from standard input, makes its steps and writes the text of the
+//! trace to standard output (both as the crate `amqp_script` says). `amqp_run kdf HASH ROUNDS LENGTH
+//! PASSWORD SALT` writes a key. A run that does not end with its whole text written says why in one
+//! line on standard error, and ends with the number of its status.
 #![tactic(auto)]
 
 pub mod command;
 pub mod key;
 pub mod outside;
 pub mod program;
-pub mod script;
 pub mod standard;
 #[cfg(test)]
 mod tests;
-pub mod trace_text;
 #[cfg(test)]
 mod world_tests;
 

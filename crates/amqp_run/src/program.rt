@@ -7,8 +7,7 @@ ghost use Rattle.amqp_run.specs.Program.{IsRunText, IsAskedText, WritesAll, Writ
 use crate::command::{Command, read_command};
 use crate::key::{KeyRequest, key_line};
 use crate::outside::{ReadError, WriteError, read_all, write_all};
-use crate::script::{ScriptError, parse};
-use crate::trace_text::text;
+use amqp_script::{ScriptError, parse, text};
 use amqp_text::Text;
 use amqp_wire::source::{Sink, Source};
 use amqp_wire::status::Status;

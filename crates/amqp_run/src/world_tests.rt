@@ -13,7 +13,8 @@ l 0 take 63
 c 0 take 102
 l 0 take 122
 c 0 take 72
-l 0 take 8
+l 0 take 34
+c 0 take 26
 ";
 
 const TRACE: &str = "0 0 pending
@@ -25,7 +26,10 @@ const TRACE: &str = "0 0 pending
 4 wrote 0000006602010000005342c05901a056723d724f70724e476677456265525767624e456b714f25687659447057556132526154434166757846496c6a29684e6c46246b302c733d5732325a614a30534e5937736f457355456a623667513d3d2c693d34303936
 5 wrote 0000007a02010000005343c06d01a06a633d626977732c723d724f70724e476677456265525767624e456b714f25687659447057556132526154434166757846496c6a29684e6c46246b302c703d64487a625a617057496b346a55684e2b5574653979746167397a6a664d486773716d6d697a37416e6456513d
 6 wrote 0000004002010000005344c033025000a02e763d36727269545242693233577052522f777475702b6d4d68555a556e2f6442356e4c544a52736a6c393547343d414d515000010000
-7 wrote 414d515000010000
+7 wrote 414d5150000100000000001a02000000005310c00d04a101634070000400006000ff
+8 1 connection
+8 wrote 0000001a02000000005310c00d04a1016c4070000400006000ff
+9 0 connection
 ";
 
 #[test]
@@ -63,11 +67,19 @@ fn other_password(rt: HostRuntime) -> Result<(), Fail> {
 
 #[test]
 fn statuses(rt: HostRuntime) -> Result<(), Fail> {
-    let rows: [(&str, Status); 4] = [
+    let rows: [(&str, Status); 6] = [
         ("", Status::Done),
         ("c 0 take 1\n", Status::BadStep { index: 0 }),
         (
             "c 0 open id=c sasl=sha256 user=u pass=p nonce=a,b\n",
+            Status::BadStep { index: 0 },
+        ),
+        (
+            "l 0 accept id=l sasl=sha256 user=u pass=p salt= rounds=1 nonce=n\n",
+            Status::BadStep { index: 0 },
+        ),
+        (
+            "l 0 accept id=l sasl=sha256 user=u pass=p salt=AA== rounds=0 nonce=n\n",
             Status::BadStep { index: 0 },
         ),
         ("c 1 take all\nc 0 take all\n", Status::BadStep { index: 1 }),

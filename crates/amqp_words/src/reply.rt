@@ -42,6 +42,11 @@ impl Model for ReplyList {
 
     ghost Value = { List NamedReply };
 
+    ghost use Rattle.std.specs.Coded.{codes};
+    ghost use Rattle.amqp_fields.specs.contracts.map.FieldMap as map;
+
+    ghost coded = { Prim.hlevel (codes, map.the_row.coded) };
+
     ghost view = { λ r. r.replies.items };
 }
 

@@ -27,6 +27,11 @@ impl Model for EntryList {
 
     ghost Value = { List Entry };
 
+    ghost use Rattle.std.specs.Coded.{codes};
+    ghost use Rattle.amqp_fields.specs.contracts.map.FieldMap as map;
+
+    ghost coded = { Prim.hlevel (codes, map.the_row.coded) };
+
     ghost view = { λ e. e.entries.items };
 }
 

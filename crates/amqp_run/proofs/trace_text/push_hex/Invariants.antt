@@ -1,6 +1,0 @@
-use Rattle.std.proofs.Common.{◌≡◌, ◌++◌, drop}
-use Rattle.amqp_run.specs.TraceText.{hex_of}
-use Rattle.amqp_run.proofs.trace_text.push_hex.Given as goal
-
-abbrev pub invariant-loop-byte : goal.invariant-loop-byte
-invariant-loop-byte l = l.out.items ++ hex_of (drop l.byte-index l.bytes) ≡ l.fn.out.items ++ hex_of l.bytes

@@ -1,6 +1,0 @@
-use Rattle.std.proofs.Common.{◌≡◌, ◌++◌, drop}
-use Rattle.amqp_run.specs.TraceText.{text_from, text_of}
-use Rattle.amqp_run.proofs.trace_text.text.Given as goal
-
-abbrev pub invariant-loop-step : goal.invariant-loop-step
-invariant-loop-step l = l.out.items ++ text_from l.step (drop l.step l.entries) ≡ text_of l.entries

@@ -1,0 +1,13 @@
+pub mod Words
+pub mod Number
+pub mod Escape
+pub mod Keys
+pub mod Fields
+pub mod Settings
+pub mod Sasl
+pub mod Line
+pub mod Script
+pub mod Hex
+pub mod Info
+pub mod ErrorText
+pub mod TraceText

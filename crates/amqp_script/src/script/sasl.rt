@@ -1,0 +1,176 @@
+//! What a line says of the SASL layer.
+ghost use Rattle.std.specs.Prelude.{◌≡◌};
+ghost use Rattle.amqp_script.specs.Words.{words_left};
+ghost use Rattle.amqp_script.specs.Keys.{has_only as only_test};
+ghost use Rattle.amqp_script.specs.Fields.{Says};
+ghost use Rattle.amqp_script.specs.Sasl.{kind_of_word, kind_in, open_keys, accept_keys, profile_in, acceptor_in, client_sasl_in, listener_sasl_in};
+
+use crate::script::fields::{required, salt, text, uint};
+use crate::script::keys::{Key, has_only, value_at};
+use crate::script::line_error::LineError;
+use crate::script::words::{Words, is_text};
+use amqp_words::AcceptSasl;
+use sasl_gate::SaslProfile;
+use std::alloc::Global;
+
+/// The kind of a SASL layer.
+#[derive(Clone, Copy, Debug, PartialEq, Eq)]
+pub enum SaslKind {
+    /// There is no SASL layer.
+    Absent,
+    /// SCRAM-SHA-256 (RFC 7677).
+    ScramSha256,
+}
+
+const OPEN_KEYS: [Key; 7] = [
+    Key::Id,
+    Key::Host,
+    Key::SaslHost,
+    Key::Max,
+    Key::Channels,
+    Key::Idle,
+    Key::Sasl,
+];
+
+const OPEN_SCRAM_KEYS: [Key; 10] = [
+    Key::Id,
+    Key::Host,
+    Key::SaslHost,
+    Key::Max,
+    Key::Channels,
+    Key::Idle,
+    Key::Sasl,
+    Key::User,
+    Key::Pass,
+    Key::Nonce,
+];
+
+const ACCEPT_KEYS: [Key; 6] = [
+    Key::Id,
+    Key::Host,
+    Key::Max,
+    Key::Channels,
+    Key::Idle,
+    Key::Sasl,
+];
+
+const ACCEPT_SCRAM_KEYS: [Key; 11] = [
+    Key::Id,
+    Key::Host,
+    Key::Max,
+    Key::Channels,
+    Key::Idle,
+    Key::Sasl,
+    Key::User,
+    Key::Pass,
+    Key::Salt,
+    Key::Rounds,
+    Key::Nonce,
+];
+
+/// The kind of this name.
+fn read_kind(word: &[u8]) -> Result<SaslKind, LineError>
+    ensures { Says (kind_of_word word.now) result }
+{
+    if is_text(word, b"none") {
+        return Ok(SaslKind::Absent);
+    }
+    if is_text(word, b"sha256") {
+        return Ok(SaslKind::ScramSha256);
+    }
+    Err(LineError::Outside)
+}
+
+/// The kind that the arguments name.
+pub fn sasl_kind(arguments: Words<'_>) -> Result<SaslKind, LineError>
+    ensures { Says (kind_in (words_left arguments.entry)) result }
+{
+    match value_at(arguments, Key::Sasl.name()) {
+        Some(word) => read_kind(word),
+        None => Ok(SaslKind::Absent),
+    }
+}
+
+/// Whether the arguments have the keys of `open` alone, each at most once.
+pub fn fits_open(kind: SaslKind, arguments: Words<'_>) -> bool
+    ensures { result ≡ only_test (open_keys kind) (words_left arguments.entry) }
+{
+    match kind {
+        SaslKind::Absent => has_only(&OPEN_KEYS, arguments),
+        SaslKind::ScramSha256 => has_only(&OPEN_SCRAM_KEYS, arguments),
+    }
+}
+
+/// Whether the arguments have the keys of `accept` alone, each at most once.
+pub fn fits_accept(kind: SaslKind, arguments: Words<'_>) -> bool
+    ensures { result ≡ only_test (accept_keys kind) (words_left arguments.entry) }
+{
+    match kind {
+        SaslKind::Absent => has_only(&ACCEPT_KEYS, arguments),
+        SaslKind::ScramSha256 => has_only(&ACCEPT_SCRAM_KEYS, arguments),
+    }
+}
+
+fn profile(alloc: Global, arguments: Words<'_>) -> Result<SaslProfile, LineError>
+    ensures { Says (profile_in (words_left arguments.entry)) result }
+{
+    let username = text(alloc, required(arguments, Key::User)?)?;
+    let password = text(alloc, required(arguments, Key::Pass)?)?;
+    let nonce = text(alloc, required(arguments, Key::Nonce)?)?;
+    Ok(SaslProfile::ScramSha256 {
+        username,
+        password,
+        nonce,
+    })
+}
+
+fn acceptor(alloc: Global, arguments: Words<'_>) -> Result<AcceptSasl, LineError>
+    ensures { Says (acceptor_in (words_left arguments.entry)) result }
+{
+    let username = text(alloc, required(arguments, Key::User)?)?;
+    let password = text(alloc, required(arguments, Key::Pass)?)?;
+    let salt = salt(alloc, required(arguments, Key::Salt)?)?;
+    let iterations = uint(required(arguments, Key::Rounds)?)?;
+    let nonce = text(alloc, required(arguments, Key::Nonce)?)?;
+    Ok(AcceptSasl::ScramSha256 {
+        username,
+        password,
+        salt,
+        iterations,
+        nonce,
+    })
+}
+
+/// What a client authenticates with, if there is a SASL layer.
+pub fn client_sasl(
+    alloc: Global,
+    kind: SaslKind,
+    arguments: Words<'_>,
+) -> Result<Option<SaslProfile>, LineError>
+    ensures { Says (client_sasl_in kind (words_left arguments.entry)) result }
+{
+    match kind {
+        SaslKind::Absent => Ok(None),
+        SaslKind::ScramSha256 => {
+            let profile = profile(alloc, arguments)?;
+            Ok(Some(profile))
+        }
+    }
+}
+
+/// Whom a listener lets in, if there is a SASL layer.
+pub fn listener_sasl(
+    alloc: Global,
+    kind: SaslKind,
+    arguments: Words<'_>,
+) -> Result<Option<AcceptSasl>, LineError>
+    ensures { Says (listener_sasl_in kind (words_left arguments.entry)) result }
+{
+    match kind {
+        SaslKind::Absent => Ok(None),
+        SaslKind::ScramSha256 => {
+            let acceptor = acceptor(alloc, arguments)?;
+            Ok(Some(acceptor))
+        }
+    }
+}
