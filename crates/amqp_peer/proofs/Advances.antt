@@ -101,7 +101,7 @@ onward_active p.Discarding r o = refl
 onward_active p.Ended r o = absurd o
 onward_active p.Failed r o = absurd o
 
-refusal_active : (e : ConnectionFault) (q r : Phase) → IsRefusal e q r → is_stopped q ≡ false
+refusal_active : (e : ConnectionFault) (q r : Phase) → IsRefusal q e r → is_stopped q ≡ false
 refusal_active e p.OpenSent r o = refl
 refusal_active e p.Opened r o = refl
 refusal_active e p.CloseReceived r o = absurd o

@@ -216,7 +216,7 @@ refused_other link call s s' h r k e = mistaken_other s'.reason (given_in (moved
 opened_heard : {L : Type 0} (call : Call) (s : State L) (h : List Local) → IsRunning call s h → s.phase ≡ p.Opened → BeginsWithOpen (given_in h)
 opened_heard call s h k e = greeted_begins (given_in h) (subst (λ (q : Phase). IsHeard q s.reason (given_in h)) e k.runs.heard).0
 
-refusal_other : {L : Type 0} (link : Ghosts L) (call : Call) (q : Phase) (e : ConnectionFault) (s s' : State L) (h : List Local) (r : Ran link s s') → IsRunning call s h → IsFaultless s h → s.phase ≡ q → IsRefusal e q s'.phase → (e ≡ connection.IllegalState) × IsOther (given_in (moved r ++ h))
+refusal_other : {L : Type 0} (link : Ghosts L) (call : Call) (q : Phase) (e : ConnectionFault) (s s' : State L) (h : List Local) (r : Ran link s s') → IsRunning call s h → IsFaultless s h → s.phase ≡ q → IsRefusal q e s'.phase → (e ≡ connection.IllegalState) × IsOther (given_in (moved r ++ h))
 refusal_other link call p.OpenSent e s s' h r k f z c = (c.0, refused_other link call s s' h r k c.1)
 refusal_other link call p.Opened e s s' h r k f z c = absurd (f.unheard (opened_heard call s h k z))
 refusal_other link call p.CloseReceived e s s' h r k f z c = absurd c
@@ -229,7 +229,7 @@ refusal_other link call p.Failed e s s' h r k f z c = absurd c
 
 early_cause : {L : Type 0} (link : Ghosts L) (at : ℕ) (call : Call) (e : ConnectionFault) (s s' : State L) (h : List Local) (st : Stepped link at s (Err e) s') → IsRunning call s h → IsFaultless s h → prepared_in (made_in h) ≡ prepared_of call → moment_in h ≡ at → (a : (x : _) → e ≡ connection.Memory x → ⊥) → Once (EarlyFault e) (moved st.run ++ h)
 early_cause link at call (connection.Memory x) s s' h st k f prep m a = absurd (a x refl)
-early_cause link at call (connection.TransportError t) s s' h st k f prep m a = transport_once link at call s s' h st.run (EarlyFault (connection.TransportError t)) t (λ g c. c) k prep m (st.told.2 k.calm)
+early_cause link at call (connection.TransportError t) s s' h st k f prep m a = transport_once link at call s s' h st.run (EarlyFault (connection.TransportError t)) t (λ g c. c) k prep m (st.told.1 k.calm)
 early_cause link at call connection.IllegalState s s' h st k f prep m a = once_now (EarlyFault connection.IllegalState) (moved st.run ++ h) (refusal_other link call s.phase connection.IllegalState s s' h st.run k f refl st.told.1).1
 early_cause link at call connection.NotImplemented s s' h st k f prep m a = absurd (cc (refusal_other link call s.phase connection.NotImplemented s s' h st.run k f refl st.told.1).0)
 early_cause link at call connection.NotFound s s' h st k f prep m a = absurd (cc (refusal_other link call s.phase connection.NotFound s s' h st.run k f refl st.told.1).0)
@@ -237,7 +237,7 @@ early_cause link at call connection.RemoteClosed s s' h st k f prep m a = absurd
 early_cause link at call (connection.RemoteClosedWithError x) s s' h st k f prep m a = absurd st.told
 
 -- after a frame that is refused Open is not heard either
-refusal_unheard : {L : Type 0} (link : Ghosts L) (call : Call) (q : Phase) (e : ConnectionFault) (s s' : State L) (h : List Local) (r : Ran link s s') → IsRunning call s h → IsUnheard s h → s.phase ≡ q → IsRefusal e q s'.phase → BeginsWithOpen (given_in (moved r ++ h)) → ⊥
+refusal_unheard : {L : Type 0} (link : Ghosts L) (call : Call) (q : Phase) (e : ConnectionFault) (s s' : State L) (h : List Local) (r : Ran link s s') → IsRunning call s h → IsUnheard s h → s.phase ≡ q → IsRefusal q e s'.phase → BeginsWithOpen (given_in (moved r ++ h)) → ⊥
 refusal_unheard link call p.OpenSent e s s' h r k f z c o = other_then (given_in (moved r ++ h)) [] (refused_other link call s s' h r k c.1) (subst BeginsWithOpen (sym (append-nil (given_in (moved r ++ h)))) o)
 refusal_unheard link call p.Opened e s s' h r k f z c o = f (ap has_failed z) (opened_heard call s h k z)
 refusal_unheard link call p.CloseReceived e s s' h r k f z c o = c
@@ -264,7 +264,7 @@ unmade_failed link at call (Some f) e s s' h st k prep m a u = (once_more (Early
 
 late_cause : {L : Type 0} (link : Ghosts L) (at : ℕ) (call : Call) (e : ConnectionFault) (s s' : State L) (h : List Local) (st : Stepped link at s (Err e) s') → IsRunning call s h → BeginsWithOpen (given_in h) → prepared_in (made_in h) ≡ prepared_of call → moment_in h ≡ at → (a : (x : _) → e ≡ connection.Memory x → ⊥) → Once (LateFault e) (moved st.run ++ h)
 late_cause link at call (connection.Memory x) s s' h st k o prep m a = absurd (a x refl)
-late_cause link at call (connection.TransportError t) s s' h st k o prep m a = transport_once link at call s s' h st.run (LateFault (connection.TransportError t)) t (λ g c. c) k prep m (st.told.2 k.calm)
+late_cause link at call (connection.TransportError t) s s' h st k o prep m a = transport_once link at call s s' h st.run (LateFault (connection.TransportError t)) t (λ g c. c) k prep m (st.told.1 k.calm)
 late_cause link at call connection.IllegalState s s' h st k o prep m a = once_now (LateFault connection.IllegalState) (moved st.run ++ h) (heard_open_more h st.run o)
 late_cause link at call connection.NotImplemented s s' h st k o prep m a = once_now (LateFault connection.NotImplemented) (moved st.run ++ h) (heard_open_more h st.run o)
 late_cause link at call connection.NotFound s s' h st k o prep m a = once_now (LateFault connection.NotFound) (moved st.run ++ h) (heard_open_more h st.run o)

@@ -9,3 +9,4 @@ pub mod Answers
 pub mod Advances
 pub mod Openings
 pub mod Starts
+pub mod Laws

@@ -102,12 +102,12 @@ link_at d (Late s) = s.wire.codec.link
 link_at d (Unopened c) = c.link
 link_at d Moving = d
 
--- the same with another link
+-- the same with another link; where it is on its way, a codec with that link alone
 abbrev pub with_link : {L : Type 0} → Held L → L → Held L
 with_link (Early o p) w = Early (record o { negotiation = record o.negotiation { codec = record o.negotiation.codec { link = w } } }) p
 with_link (Late s) w = Late (record s { wire = record s.wire { codec = record s.wire.codec { link = w } } })
 with_link (Unopened c) w = Unopened (record c { link = w })
-with_link Moving w = Moving
+with_link Moving w = Unopened (record { link = w; input = []; output = []; decoder = 512; encoder = 512 })
 
 -- a link with which nothing was done
 abbrev pub nothing_held : {L : Type 0} → L → Held L

@@ -6,6 +6,16 @@ use std::alloc::{AllocError, Global};
 use std::mem;
 use std::test::Fail;
 
+/// The header of AMQP 1.0 (part 2, section 2.2).
+const HEADER: [u8; 8] = [0x41, 0x4d, 0x51, 0x50, 0, 1, 0, 0];
+
+fn client(alloc: Global) -> Result<Peer<Pipe>, AllocError> {
+    match Peer::client(alloc, Pipe::new(alloc)) {
+        Ok(peer) => Ok(peer),
+        Err((error, _)) => Err(error),
+    }
+}
+
 fn settings(alloc: Global) -> Result<ConnectionSettings, AllocError> {
     let container_id = Text::from_str(alloc, "c")?;
     Ok(ConnectionSettings {
@@ -20,9 +30,7 @@ fn settings(alloc: Global) -> Result<ConnectionSettings, AllocError> {
 #[test]
 fn a_client_without_a_layer_writes_its_header(rt: HostRuntime) -> Result<(), Fail> {
     let alloc = rt.alloc();
-    let Ok(mut peer) = Peer::client(alloc, Pipe::new(alloc)) else {
-        return Err(Fail);
-    };
+    let mut peer = client(alloc)?;
     let call = Call::Open {
         settings: settings(alloc)?,
         sasl_hostname: None,
@@ -30,7 +38,7 @@ fn a_client_without_a_layer_writes_its_header(rt: HostRuntime) -> Result<(), Fai
     };
     assert!(rt; peer.may_call(0, &call));
     assert!(rt; peer.call(0, 0, call).is_ok());
-    assert_eq!(rt; peer.link_ref().output(), &[0x41, 0x4d, 0x51, 0x50, 0, 1, 0, 0]);
+    assert_eq!(rt; peer.link_ref().output(), HEADER.as_slice());
     let replies = peer.replies();
     assert!(rt; matches!(&replies.as_slice()[0].reply, Reply::Pending));
     mem::forget(peer);

@@ -4,10 +4,10 @@ use Rattle.std.proofs.lemmas.List.{length_push}
 use Rattle.amqp_wire.specs.Piped.{Piped}
 use Rattle.amqp_peer.specs.Peering.{Peering, fresh}
 use Rattle.amqp_world.specs.declared.both.Both.{Both}
-use Rattle.amqp_world.specs.declared.step.End.{End}
-use Rattle.amqp_world.specs.declared.step.End.TheVariants.{Client, Listener}
-use Rattle.amqp_world.specs.declared.step.Step.{Step}
-use Rattle.amqp_world.specs.declared.trace.Entry.{Entry}
+use Rattle.amqp_words.specs.declared.step.End.{End}
+use Rattle.amqp_words.specs.declared.step.End.TheVariants.{Client, Listener}
+use Rattle.amqp_words.specs.declared.step.Step.{Step}
+use Rattle.amqp_words.specs.declared.trace.Entry.{Entry}
 use Rattle.amqp_world.specs.History.{Event, is_same, last_moment}
 use Rattle.amqp_world.specs.Valid.{IsValid, IsValidAct, kind_of}
 use Rattle.amqp_world.specs.Explains.{past_of, Explained}

@@ -1,16 +1,16 @@
 -- The replies of a step have their form.
 use Rattle.std.proofs.Common.{◌≡◌, ◌⊎◌, ◌==◌, inl, inr, List, ℕ, [], ◌∷◌, ◌++◌, Bool, true, false, if◌then◌else◌, length, refl, sym, subst}
-use Rattle.amqp_connection.specs.declared.open_error.OpenError as open_error
-use Rattle.amqp_peer.specs.declared.call.Call as peer_call
+use Rattle.amqp_words.specs.declared.open_error.OpenError as open_error
+use Rattle.amqp_words.specs.declared.call.Call as peer_call
 use Rattle.amqp_peer.specs.declared.peer.PeerKind.{PeerKind}
-use Rattle.amqp_peer.specs.declared.reply.Reply.TheVariants.{Pending, OpenError}
-use Rattle.amqp_peer.specs.declared.reply.NamedReply.{NamedReply}
+use Rattle.amqp_words.specs.declared.reply.Reply.TheVariants.{Pending, OpenError}
+use Rattle.amqp_words.specs.declared.reply.NamedReply.{NamedReply}
 use Rattle.amqp_peer.specs.Calls.{IsValidCall}
 use Rattle.amqp_peer.specs.Replies.{pending, open_failed, AreReplies}
-use Rattle.amqp_world.specs.declared.step.End.{End}
-use Rattle.amqp_world.specs.declared.step.End.TheVariants.{Client, Listener}
-use Rattle.amqp_world.specs.declared.step.Act.{Act}
-use Rattle.amqp_world.specs.declared.step.Act.TheVariants.{Take, TakeAll, Call}
+use Rattle.amqp_words.specs.declared.step.End.{End}
+use Rattle.amqp_words.specs.declared.step.End.TheVariants.{Client, Listener}
+use Rattle.amqp_words.specs.declared.step.Act.{Act}
+use Rattle.amqp_words.specs.declared.step.Act.TheVariants.{Take, TakeAll, Call}
 use Rattle.amqp_world.specs.History.{Event, calls, called, replied, other}
 use Rattle.amqp_world.specs.Valid.{IsValidAct, kind_of}
 use Rattle.amqp_world.specs.Form.{AreNamed, RepliesAtOnce, replies_to, IsOrderly, Form}

@@ -1,8 +1,8 @@
 -- Both ends wrote only what they may.
 use Rattle.std.proofs.Common.{◌≡◌, List, sym, subst}
 use Rattle.amqp_peer.specs.Gated.{IsGated}
-use Rattle.amqp_world.specs.declared.step.End.{End}
-use Rattle.amqp_world.specs.declared.step.End.TheVariants.{Client, Listener}
+use Rattle.amqp_words.specs.declared.step.End.{End}
+use Rattle.amqp_words.specs.declared.step.End.TheVariants.{Client, Listener}
 use Rattle.amqp_world.specs.History.{Event, wrote, read, calls, other}
 use Rattle.amqp_world.specs.Gate.{Gate}
 

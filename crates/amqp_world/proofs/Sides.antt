@@ -4,9 +4,9 @@ use Rattle.std.proofs.lemmas.List.{take-append-le}
 use Rattle.std.proofs.Math.Seq.{take-add}
 use Rattle.amqp_wire.specs.Events.{LinkEvent}
 use Rattle.amqp_wire.specs.Piped.{Piped}
-use Rattle.amqp_peer.specs.declared.call.Call as peer_call
+use Rattle.amqp_words.specs.declared.call.Call as peer_call
 use Rattle.amqp_peer.specs.declared.peer.PeerKind.{PeerKind}
-use Rattle.amqp_peer.specs.declared.reply.NamedReply.{NamedReply}
+use Rattle.amqp_words.specs.declared.reply.NamedReply.{NamedReply}
 use Rattle.amqp_peer.specs.History.{Local, made_in, link_in, replied_in, read_in, wrote_in}
 use Rattle.amqp_peer.specs.Calls.{IsValidCall}
 use Rattle.amqp_peer.specs.Causes.{HaveCauses}
@@ -14,9 +14,9 @@ use Rattle.amqp_peer.specs.Gated.{IsGated}
 use Rattle.amqp_peer.specs.Peering.{Peering, Has, MayCall, fresh, link_of}
 use Rattle.amqp_peer.specs.Replies.{AreReplies}
 use Rattle.amqp_peer.proofs.Laws.{has_fresh, has_with_link, has_taken, link_of-fresh, may_law, replies_law, gated_law, gated_more, causes_law}
-use Rattle.amqp_world.specs.declared.step.End.{End}
-use Rattle.amqp_world.specs.declared.step.Act.{Act}
-use Rattle.amqp_world.specs.declared.step.Act.TheVariants.{Take, TakeAll, Call}
+use Rattle.amqp_words.specs.declared.step.End.{End}
+use Rattle.amqp_words.specs.declared.step.Act.{Act}
+use Rattle.amqp_words.specs.declared.step.Act.TheVariants.{Take, TakeAll, Call}
 use Rattle.amqp_world.specs.History.{Event, wrote, taken, moved, read, calls, called, replied, other, is_same}
 use Rattle.amqp_world.specs.Valid.{IsValid, IsValidAct, kind_of}
 use Rattle.amqp_world.specs.Causes.{IsCalm, AreCaused}

@@ -2,13 +2,13 @@
 use Rattle.std.proofs.Common.{◌≡◌, ◌+◌, ◌≤◌, List, ℕ, [], ◌++◌, length, take, drop, refl, sym, ap, ◌∙◌, arith, length-append, false}
 use Rattle.std.proofs.Math.Seq.{drop-append_seam}
 use Rattle.amqp_wire.specs.Piped.{Piped}
-use Rattle.amqp_peer.specs.declared.reply.NamedReply.{NamedReply}
+use Rattle.amqp_words.specs.declared.reply.NamedReply.{NamedReply}
 use Rattle.amqp_peer.specs.History.{Local, link_in, replied_in, read_in, wrote_in}
 use Rattle.amqp_peer.specs.Peering.{Peering, link_of, Stepped}
 use Rattle.amqp_peer.proofs.Laws.{link_of-with_link, link_of-taken, may_with_link}
-use Rattle.amqp_world.specs.declared.step.Act.{Act}
-use Rattle.amqp_world.specs.declared.step.Act.TheVariants.{Take, TakeAll, Call}
-use Rattle.amqp_world.specs.declared.trace.Entry.{Entry}
+use Rattle.amqp_words.specs.declared.step.Act.{Act}
+use Rattle.amqp_words.specs.declared.step.Act.TheVariants.{Take, TakeAll, Call}
+use Rattle.amqp_words.specs.declared.trace.Entry.{Entry}
 use Rattle.amqp_world.specs.History.{moved}
 use Rattle.amqp_world.specs.Causes.{IsCalm}
 use Rattle.amqp_world.specs.Turn.{piping, begun, MayAct, CanAct, fed, drained, given, marked, Turned}

@@ -3,9 +3,9 @@ use Rattle.std.specs.Prelude.{◌≡◌, List, ℕ, [], ◌∷◌, ◌++◌, ⊤
 use Rattle.amqp_wire.specs.declared.link.Stop.TheVariants as stop
 use Rattle.amqp_wire.specs.declared.link.Held.TheVariants as held
 use Rattle.amqp_wire.specs.Events.{LinkEvent, NotRead, NotWritten, Includes, read_of, wrote_of}
-use Rattle.amqp_peer.specs.declared.call.Call.{Call}
-use Rattle.amqp_peer.specs.declared.reply.Reply.{Reply}
-use Rattle.amqp_peer.specs.declared.reply.NamedReply.{NamedReply}
+use Rattle.amqp_words.specs.declared.call.Call.{Call}
+use Rattle.amqp_words.specs.declared.reply.Reply.{Reply}
+use Rattle.amqp_words.specs.declared.reply.NamedReply.{NamedReply}
 use Rattle.amqp_peer.specs.Causes.{HasCause}
 use Rattle.amqp_world.specs.History.{Event, wrote, read, calls}
 

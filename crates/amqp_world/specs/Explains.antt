@@ -1,7 +1,7 @@
 -- What a trace says of its steps, and which step is the first that is not valid.
 use Rattle.std.specs.Prelude.{◌≡◌, List, ℕ, [], ◌∷◌, length, take, slice_get, Some, ⊤}
-use Rattle.amqp_world.specs.declared.step.Step.{Step}
-use Rattle.amqp_world.specs.declared.trace.Entry.{Entry}
+use Rattle.amqp_words.specs.declared.step.Step.{Step}
+use Rattle.amqp_words.specs.declared.trace.Entry.{Entry}
 use Rattle.amqp_world.specs.History.{Event}
 use Rattle.amqp_world.specs.Valid.{IsValid}
 use Rattle.amqp_world.specs.Form.{Form}

@@ -1,13 +1,13 @@
 -- The form of the replies.
 use Rattle.std.specs.Prelude.{◌≡◌, ◌⊎◌, ◌==◌, List, ℕ, [], ◌∷◌, if◌then◌else◌, length, ⊤}
-use Rattle.amqp_peer.specs.declared.call.Call as peer_call
-use Rattle.amqp_peer.specs.declared.reply.Reply.{Reply}
-use Rattle.amqp_peer.specs.declared.reply.Reply.TheVariants.{Pending, OpenError}
-use Rattle.amqp_peer.specs.declared.reply.NamedReply.{NamedReply}
+use Rattle.amqp_words.specs.declared.call.Call as peer_call
+use Rattle.amqp_words.specs.declared.reply.Reply.{Reply}
+use Rattle.amqp_words.specs.declared.reply.Reply.TheVariants.{Pending, OpenError}
+use Rattle.amqp_words.specs.declared.reply.NamedReply.{NamedReply}
 use Rattle.amqp_peer.specs.Replies.{pending}
-use Rattle.amqp_world.specs.declared.step.End.{End}
-use Rattle.amqp_world.specs.declared.step.Act.{Act}
-use Rattle.amqp_world.specs.declared.step.Act.TheVariants.{Take, TakeAll, Call}
+use Rattle.amqp_words.specs.declared.step.End.{End}
+use Rattle.amqp_words.specs.declared.step.Act.{Act}
+use Rattle.amqp_words.specs.declared.step.Act.TheVariants.{Take, TakeAll, Call}
 use Rattle.amqp_world.specs.History.{Event, calls, replied}
 
 -- one of these calls has the name

@@ -1,7 +1,7 @@
 -- What both ends may have written.
 use Rattle.std.specs.Prelude.{List}
 use Rattle.amqp_peer.specs.Gated.{IsGated}
-use Rattle.amqp_world.specs.declared.step.End.{End}
+use Rattle.amqp_words.specs.declared.step.End.{End}
 use Rattle.amqp_world.specs.History.{Event, wrote, read, calls}
 
 -- each end wrote only what its calls and what was moved to it allow

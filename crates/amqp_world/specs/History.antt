@@ -1,13 +1,13 @@
 -- What has happened, as a list of events, the newest first.
 use Rattle.std.specs.Prelude.{◌+◌, List, ℕ, [], ◌∷◌, ◌++◌, length, take, Bool, true, false, if◌then◌else◌}
-use Rattle.amqp_peer.specs.declared.call.Call.{Call}
-use Rattle.amqp_peer.specs.declared.reply.NamedReply.{NamedReply}
-use Rattle.amqp_world.specs.declared.step.End.{End}
-use Rattle.amqp_world.specs.declared.step.End.TheVariants.{Client, Listener}
-use Rattle.amqp_world.specs.declared.step.Act.{Act}
-use Rattle.amqp_world.specs.declared.step.Act.TheVariants as act
-use Rattle.amqp_world.specs.declared.step.Step.{Step}
-use Rattle.amqp_world.specs.declared.trace.Entry.{Entry}
+use Rattle.amqp_words.specs.declared.call.Call.{Call}
+use Rattle.amqp_words.specs.declared.reply.NamedReply.{NamedReply}
+use Rattle.amqp_words.specs.declared.step.End.{End}
+use Rattle.amqp_words.specs.declared.step.End.TheVariants.{Client, Listener}
+use Rattle.amqp_words.specs.declared.step.Act.{Act}
+use Rattle.amqp_words.specs.declared.step.Act.TheVariants as act
+use Rattle.amqp_words.specs.declared.step.Step.{Step}
+use Rattle.amqp_words.specs.declared.trace.Entry.{Entry}
 
 -- a step and its entry
 pub record Event : Type 0 where

@@ -4,12 +4,12 @@ use Rattle.amqp_wire.specs.declared.link.Link.{Ghosts}
 use Rattle.amqp_wire.specs.Piped.{Piped}
 use Rattle.amqp_peer.specs.History.{Local, Made, Polled}
 use Rattle.amqp_peer.specs.Peering.{Peering, fresh, link_of, with_link, MayCall, Stepped}
-use Rattle.amqp_world.specs.declared.step.End.{End}
-use Rattle.amqp_world.specs.declared.step.End.TheVariants.{Client, Listener}
-use Rattle.amqp_world.specs.declared.step.Act.{Act}
-use Rattle.amqp_world.specs.declared.step.Act.TheVariants.{Take, TakeAll, Call}
-use Rattle.amqp_world.specs.declared.step.Step.{Step}
-use Rattle.amqp_world.specs.declared.trace.Entry.{Entry}
+use Rattle.amqp_words.specs.declared.step.End.{End}
+use Rattle.amqp_words.specs.declared.step.End.TheVariants.{Client, Listener}
+use Rattle.amqp_words.specs.declared.step.Act.{Act}
+use Rattle.amqp_words.specs.declared.step.Act.TheVariants.{Take, TakeAll, Call}
+use Rattle.amqp_words.specs.declared.step.Step.{Step}
+use Rattle.amqp_words.specs.declared.trace.Entry.{Entry}
 use Rattle.amqp_world.specs.History.{moved}
 use Rattle.amqp_world.specs.Valid.{kind_of}
 use Rattle.amqp_world.specs.WorldView.{WorldView}

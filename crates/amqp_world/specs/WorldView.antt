@@ -1,8 +1,8 @@
 use Rattle.std.specs.Prelude.{List, Bool}
 use Rattle.amqp_wire.specs.Piped.{Piped}
 use Rattle.amqp_peer.specs.Peering.{Peering}
-use Rattle.amqp_world.specs.declared.step.Step.{Step}
-use Rattle.amqp_world.specs.declared.trace.Entry.{Entry}
+use Rattle.amqp_words.specs.declared.step.Step.{Step}
+use Rattle.amqp_words.specs.declared.trace.Entry.{Entry}
 
 -- the steps made, their entries, both ends, and whether memory was wanting
 pub record WorldView : Type 0 where

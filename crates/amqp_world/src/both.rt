@@ -1,18 +1,17 @@
 //! Both ends, the steps made and their entries.
 ghost use Rattle.std.specs.Prelude.{◌≡◌, ◌↔◌, ◌≤◌, ◌+◌, List, ℕ, [], ◌∷◌, ◌++◌, length, drop, true, false, Ok, Err, IfOk, OnOk, OnErr, IsTrue, IsErrOf};
 ghost use Rattle.amqp_peer.specs.Peering.{Peering, link_of, Stepped, fresh};
-ghost use Rattle.amqp_world.specs.declared.step.End.TheVariants.{Client, Listener};
-ghost use Rattle.amqp_world.specs.declared.trace.Entry.{Entry};
+ghost use Rattle.amqp_words.specs.declared.step.End.TheVariants.{Client, Listener};
+ghost use Rattle.amqp_words.specs.declared.trace.Entry.{Entry};
 ghost use Rattle.amqp_world.specs.History.{moved};
 ghost use Rattle.amqp_world.specs.Valid.{IsValid, kind_of};
 ghost use Rattle.amqp_world.specs.Turn.{piping, begun, MayAct, CanAct, given, marked, Turned, IsTurn, empty_pipe, start};
 ghost use Rattle.amqp_world.specs.Related.{Related, past_in, view_of};
 
-use crate::step::{Act, End, Step, StepList};
-use crate::trace::{Entry, EntryList, Trace};
 use amqp_peer::{Peer, PeerError};
 use amqp_text::Binary;
 use amqp_wire::pipe::Pipe;
+use amqp_words::{Act, End, Entry, EntryList, Step, StepList, Trace};
 use std::alloc::{AllocError, Global};
 
 /// Both ends, the steps made and their entries.

@@ -1,6 +1,5 @@
-use crate::step::{Act, End, Step};
 use crate::world::{World, WorldError};
-use amqp_peer::{AcceptSasl, Call, Reply};
+use amqp_words::{AcceptSasl, Act, Call, ConnectionSettings, End, Reply, Step};
 use amqp_text::{Binary, Text};
 use sasl_gate::SaslProfile;
 use std::alloc::{AllocError, Global};
@@ -9,18 +8,30 @@ use std::test::Fail;
 /// The header of the SASL layer (part 5, section 5.3.1).
 const SASL_HEADER: [u8; 8] = [0x41, 0x4d, 0x51, 0x50, 0x03, 0x01, 0x00, 0x00];
 
+/// What an end says of itself where nothing else is asked for.
+fn settings(container_id: Text) -> ConnectionSettings {
+    ConnectionSettings {
+        container_id,
+        hostname: None,
+        max_frame_size: 262_144,
+        channel_max: 255,
+        idle_time_out: None,
+    }
+}
+
 fn open(alloc: Global) -> Result<Act, AllocError> {
     let container_id = Text::from_str(alloc, "client")?;
     let username = Text::from_str(alloc, "user")?;
     let password = Text::from_str(alloc, "pencil")?;
     let nonce = Text::from_str(alloc, "rOprNGfwEbeRWgbNEkqO")?;
     Ok(Act::Call(Call::Open {
-        container_id,
-        sasl: SaslProfile::ScramSha256 {
+        settings: settings(container_id),
+        sasl_hostname: None,
+        sasl: Some(SaslProfile::ScramSha256 {
             username,
             password,
             nonce,
-        },
+        }),
     }))
 }
 
@@ -31,14 +42,14 @@ fn accept(alloc: Global) -> Result<Act, AllocError> {
     let salt = Binary::from_slice(alloc, &[1, 2, 3, 4])?;
     let nonce = Text::from_str(alloc, "hvYDpWUa2RaTCAfuxFIl")?;
     Ok(Act::Call(Call::Accept {
-        container_id,
-        sasl: AcceptSasl::ScramSha256 {
+        settings: settings(container_id),
+        sasl: Some(AcceptSasl::ScramSha256 {
             username,
             password,
             salt,
             iterations: 4096,
             nonce,
-        },
+        }),
     }))
 }
 

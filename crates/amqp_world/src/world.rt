@@ -7,8 +7,7 @@ ghost use Rattle.amqp_world.specs.Turn.{IsTurn, start};
 ghost use Rattle.amqp_world.specs.Related.{Related, view_of};
 
 use crate::both::{Both, advance, is_valid, new_both};
-use crate::step::Step;
-use crate::trace::Trace;
+use amqp_words::{Step, Trace};
 use std::alloc::{AllocError, Global};
 use std::marker::Model;
 use thiserror::Error;

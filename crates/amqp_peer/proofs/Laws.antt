@@ -1,0 +1,288 @@
+-- Laws of one end: what it says of its history, whatever the other end does.
+use Rattle.std.proofs.Common.{◌≡◌, ◌↔◌, ◌⊎◌, inl, inr, ℕ, List, [], ◌∷◌, ◌++◌, Bool, true, false, Option, Some, None, refl, sym, ap, ◌∙◌, subst, append_assoc}
+use Rattle.amqp_wire.specs.Events.{LinkEvent, read_of, wrote_of}
+use Rattle.amqp_engine.specs.declared.error.Error.{Error as ConnectionFault}
+use Rattle.amqp_engine.specs.Sentence.{Has as EngineHas}
+use Rattle.amqp_engine.specs.State.{State}
+use Rattle.amqp_opening.specs.declared.authentication.Authentication.{Authentication}
+use Rattle.amqp_opening.specs.declared.authentication.SaslCall.{SaslCall}
+use Rattle.amqp_opening.specs.declared.opening.Stage.{Stage}
+use Rattle.amqp_opening.specs.declared.opening.Stage.TheVariants as stage
+use Rattle.amqp_opening.specs.Authentication.{peer_mechanism}
+use Rattle.amqp_opening.specs.Opening.{Opened}
+use Rattle.amqp_opening.proofs.Exchanges.{gated_later}
+use Rattle.amqp_opening.proofs.Openings.{has_with_link as opening_with_link}
+use Rattle.amqp_words.specs.declared.call.Call.{Call}
+use Rattle.amqp_words.specs.declared.call.Call.TheVariants.{Close}
+use Rattle.amqp_words.specs.declared.reply.Reply.TheVariants as reply
+use Rattle.amqp_words.specs.declared.reply.NamedReply.{NamedReply}
+use Rattle.amqp_peer.specs.declared.held.Held.{Held}
+use Rattle.amqp_peer.specs.declared.held.Held.TheVariants.{Early, Late, Unopened, Moving}
+use Rattle.amqp_peer.specs.declared.peer.PeerKind.{PeerKind}
+use Rattle.amqp_peer.specs.declared.peer.Progress.{Progress}
+use Rattle.amqp_peer.specs.declared.peer.Progress.TheVariants as progress
+use Rattle.amqp_peer.specs.declared.prepared.Prepared.{Prepared}
+use Rattle.amqp_peer.specs.Calls.{IsFirstCall, IsClose, IsValidCall}
+use Rattle.amqp_peer.specs.Causes.{AllCaused}
+use Rattle.amqp_peer.specs.Gated.{IsTalk, IsGatedIn, IsGated}
+use Rattle.amqp_peer.specs.Held.{IsBusyWith, IsBusy, link_at, with_link}
+use Rattle.amqp_peer.specs.History.{Local, made_in, link_in, given_in, sent_in, replied_in, read_in, wrote_in, since_in}
+use Rattle.amqp_peer.specs.Peering.{Peering, fresh, link_of, with_link_of, Has, HasIn, HasCalled, IsHeld, IsHeldAt, IsExchanging, IsRunning, IsUntouched, IsFaultless, IsUnmadeAt, IsUnmade, IsFaultIn, IsMadeIn, HasWritten, HasNothing, IsWaiting, IsOpen, IsClosing, HasFailedOpen, HasClosed, MayCall, MayCallIn}
+use Rattle.amqp_peer.specs.Prepared.{sasl_of}
+use Rattle.amqp_peer.specs.Replies.{pending, connection, AreReplies, IsConnected}
+use Rattle.amqp_peer.proofs.Histories.{made_in-append as made_append, link_in-append as link_append, replied_in-append as replied_append}
+use Rattle.amqp_peer.proofs.Written.{written_exchanging, written_running}
+
+-- histories, one after another
+pub made_in-append : (es h : List Local) → made_in (es ++ h) ≡ made_in es ++ made_in h
+made_in-append = made_append
+
+pub link_in-append : (es h : List Local) → link_in (es ++ h) ≡ link_in es ++ link_in h
+link_in-append = link_append
+
+pub replied_in-append : (es h : List Local) → replied_in (es ++ h) ≡ replied_in h ++ replied_in es
+replied_in-append = replied_append
+
+-- an end at which nothing happened
+pub has_fresh : {L : Type 0} (link : L) (kind : PeerKind) → Has (fresh link kind) []
+has_fresh link kind =
+    record { made = refl; link = refl; replied = refl; given = refl; sent = refl; caused = tt; fault = refl; opening = _; prepared = None; holds = refl; untouched = record { stage = refl; input = refl; output = refl; phase = refl } }
+
+-- the replies that were taken out are no part of what it says
+taken_in : {L : Type 0} (q : Progress) (p : Peering L) (h : List Local) → HasIn q p h → HasIn q (record p { replies = [] }) h
+taken_in progress.Idle p h n =
+    record { made = n.made; link = n.link; replied = n.replied; given = n.given; sent = n.sent; caused = n.caused; fault = n.fault; opening = n.opening; prepared = n.prepared; holds = n.holds; untouched = n.untouched }
+taken_in progress.Opening p h w = record { call = w.call; made = w.made; replied = w.replied; called = w.called; unmade = w.unmade }
+taken_in progress.Open p h w = record { call = w.call; name = w.name; made = w.made; replied = w.replied; called = w.called; is_made = w.is_made }
+taken_in progress.Closing p h w = record { call = w.call; name = w.name; error = w.error; made = w.made; replied = w.replied; called = w.called; is_made = w.is_made }
+taken_in progress.Over p h (inl w) = inl (record { call = w.call; name = w.name; error = w.error; made = w.made; replied = w.replied; called = w.called; done = w.done })
+taken_in progress.Over p h (inr w) =
+    inr (record { call = w.call; name = w.name; closing = w.closing; error = w.error; reply = w.reply; made = w.made; end = w.end; replied = w.replied; called = w.called; done = w.done })
+
+pub has_taken : {L : Type 0} (p : Peering L) (h : List Local) → Has p h → Has (record p { replies = [] }) h
+has_taken p h x = taken_in p.progress p h x
+
+pub link_of-taken : {L : Type 0} (d : L) (p : Peering L) → link_of d (record p { replies = [] }) ≡ link_of d p
+link_of-taken d p = refl
+
+pub link_of-fresh : {L : Type 0} (d link : L) (kind : PeerKind) → link_of d (fresh link kind) ≡ link
+link_of-fresh d link kind = refl
+
+-- ---- neither is the link that it holds
+
+link_at-with : {L : Type 0} (d : L) (held : Held L) (w : L) → link_at d (with_link held w) ≡ w
+link_at-with d (Early o p) w = refl
+link_at-with d (Late s) w = refl
+link_at-with d (Unopened c) w = refl
+link_at-with d Moving w = refl
+
+pub link_of-with_link : {L : Type 0} (d : L) (p : Peering L) (w : L) → link_of d (with_link_of p w) ≡ w
+link_of-with_link d p w = link_at-with d p.held w
+
+exchanging_with : {L : Type 0} (call : Call) (o : Opened L Authentication) (p : Option Prepared) (w : L) (h : List Local) → IsExchanging call o p h → IsExchanging call (record o { negotiation = record o.negotiation { codec = record o.negotiation.codec { link = w } } }) p h
+exchanging_with call o p w h k = record { made = k.made; prepared = k.prepared; opening = opening_with_link peer_mechanism o w (link_in h) k.opening; given = k.given; sent = k.sent }
+
+early_with : {L : Type 0} (s : Stage) (call : Call) (o : Opened L Authentication) (p : Option Prepared) (w : L) (h : List Local) → IsHeldAt s call o p h → IsHeldAt s call (record o { negotiation = record o.negotiation { codec = record o.negotiation.codec { link = w } } }) p h
+early_with stage.Idle call o p w h k = absurd k
+early_with stage.Negotiating call o p w h k = exchanging_with call o p w h k
+early_with stage.Header call o p w h k = exchanging_with call o p w h k
+early_with stage.Exchanged call o p w h k = exchanging_with call o p w h k
+early_with stage.Ended call o p w h k = k
+
+engine_with : {L : Type 0} (before arrived : List ℕ) (s : State L) (w : L) (x : _) → EngineHas before arrived s x → EngineHas before arrived (record s { wire = record s.wire { codec = record s.wire.codec { link = w } } }) x
+engine_with before arrived s w x k =
+    record { out = k.out; joined = k.joined; said = k.said; heard = k.heard; limited = record { told = k.limited.told; least = k.limited.least; first = k.limited.first; reads = k.limited.reads }; sized = k.sized }
+
+running_with : {L : Type 0} (call : Call) (s : State L) (w : L) (h : List Local) → IsRunning call s h → IsRunning call (record s { wire = record s.wire { codec = record s.wire.codec { link = w } } }) h
+running_with call s w h k =
+    record {
+      layer = k.layer;
+      x = k.x;
+      made = k.made;
+      p = k.p;
+      prepared = k.prepared;
+      before = k.before;
+      since = k.since;
+      passed = k.passed;
+      arrived = k.arrived;
+      unwritten = k.unwritten;
+      intro = k.intro;
+      runs = engine_with k.unwritten k.arrived s w (record { events = k.since; given = given_in h; sent = sent_in h }) k.runs;
+      opens = k.opens;
+      idle = k.idle;
+      start = k.start;
+      calm = k.calm;
+    }
+
+held_with : {L : Type 0} (call : Call) (held : Held L) (w : L) (h : List Local) → IsHeld call held h → IsHeld call (with_link held w) h
+held_with call (Early o p) w h k = early_with o.stage call o p w h k
+held_with call (Late s) w h k = running_with call s w h k
+held_with call (Unopened c) w h k = k
+held_with call Moving w h k = absurd k
+
+called_with : {L : Type 0} (call : Call) (held : Held L) (w : L) (h : List Local) → HasCalled call held h → HasCalled call (with_link held w) h
+called_with call held w h c = record { holds = held_with call held w h c.holds; caused = c.caused }
+
+unmade_at_with : {L : Type 0} (fault : Option ConnectionFault) (s : State L) (w : L) (h : List Local) → IsUnmadeAt fault s h → IsUnmadeAt fault (record s { wire = record s.wire { codec = record s.wire.codec { link = w } } }) h
+unmade_at_with None s w h u = record { unheard = u.unheard; kept = u.kept; sound = u.sound }
+unmade_at_with (Some e) s w h u = u
+
+unmade_with : {L : Type 0} (fault : Option ConnectionFault) (held : Held L) (w : L) (h : List Local) → IsUnmade fault held h → IsUnmade fault (with_link held w) h
+unmade_with fault (Early o p) w h u = u
+unmade_with fault (Late s) w h u = unmade_at_with fault s w h u
+unmade_with fault (Unopened c) w h u = u
+unmade_with fault Moving w h u = absurd u
+
+fault_with : {L : Type 0} (fault : Option ConnectionFault) (s : State L) (w : L) (h : List Local) → IsFaultIn fault s h → IsFaultIn fault (record s { wire = record s.wire { codec = record s.wire.codec { link = w } } }) h
+fault_with None s w h u = u
+fault_with (Some e) s w h u = u
+
+made_with : {L : Type 0} (fault : Option ConnectionFault) (held : Held L) (w : L) (h : List Local) → IsMadeIn fault held h → IsMadeIn fault (with_link held w) h
+made_with fault (Early o p) w h u = u
+made_with fault (Late s) w h u = (u.0, fault_with fault s w h u.1)
+made_with fault (Unopened c) w h u = u
+made_with fault Moving w h u = absurd u
+
+busy_early : {L : Type 0} (o : Opened L Authentication) (p : Option Prepared) (w : L) → IsBusyWith (record o { negotiation = record o.negotiation { codec = record o.negotiation.codec { link = w } } }) p → IsBusyWith o p
+busy_early o None w b = b
+busy_early o (Some p) w b = b
+
+busy_with : {L : Type 0} (held : Held L) (w : L) → IsBusy (with_link held w) → IsBusy held
+busy_with (Early o p) w b = busy_early o p w b
+busy_with (Late s) w b = b
+busy_with (Unopened c) w b = b
+busy_with Moving w b = b
+
+with_in : {L : Type 0} (q : Progress) (p : Peering L) (w : L) (h : List Local) → HasIn q p h → HasIn q (with_link_of p w) h
+with_in {L} progress.Idle p w h n =
+    record {
+      made = n.made;
+      link = n.link;
+      replied = n.replied;
+      given = n.given;
+      sent = n.sent;
+      caused = n.caused;
+      fault = n.fault;
+      opening = record n.opening { negotiation = record n.opening.negotiation { codec = record n.opening.negotiation.codec { link = w } } };
+      prepared = n.prepared;
+      holds = ap (λ (x : Held L). with_link x w) n.holds;
+      untouched = record { stage = n.untouched.stage; input = n.untouched.input; output = n.untouched.output; phase = n.untouched.phase };
+    }
+with_in progress.Opening p w h x = record { call = x.call; made = x.made; replied = x.replied; called = called_with x.call p.held w h x.called; unmade = unmade_with p.fault p.held w h x.unmade }
+with_in progress.Open p w h x = record { call = x.call; name = x.name; made = x.made; replied = x.replied; called = called_with x.call p.held w h x.called; is_made = made_with p.fault p.held w h x.is_made }
+with_in progress.Closing p w h x =
+    record { call = x.call; name = x.name; error = x.error; made = x.made; replied = x.replied; called = called_with x.call p.held w h x.called; is_made = made_with p.fault p.held w h x.is_made }
+with_in progress.Over p w h (inl x) =
+    inl (record { call = x.call; name = x.name; error = x.error; made = x.made; replied = x.replied; called = called_with x.call p.held w h x.called; done = λ b. x.done (busy_with p.held w b) })
+with_in progress.Over p w h (inr x) =
+    inr (record { call = x.call; name = x.name; closing = x.closing; error = x.error; reply = x.reply; made = x.made; end = x.end; replied = x.replied; called = called_with x.call p.held w h x.called; done = λ b. x.done (busy_with p.held w b) })
+
+pub has_with_link : {L : Type 0} (p : Peering L) (w : L) (h : List Local) → Has p h → Has (with_link_of p w) h
+has_with_link p w h x = with_in p.progress p w h x
+
+pub may_with_link : {L : Type 0} (p : Peering L) (w : L) (name : ℕ) (call : Call) → MayCall p name call → MayCall (with_link_of p w) name call
+may_with_link p w name call m = m
+
+-- ---- a call may be made exactly where it is valid
+
+not_connected : (n : ℕ) → IsConnected (pending n ∷ []) → ⊥
+not_connected n (inl e) = absurd (cc e)
+not_connected n (inr e) = e
+
+failed_not_connected : (n : ℕ) (e : _) → IsConnected (pending n ∷ record { name = n; reply = reply.OpenError e } ∷ []) → ⊥
+failed_not_connected n e (inl x) = absurd (cc x)
+failed_not_connected n e (inr (inl x)) = absurd (cc x)
+failed_not_connected n e (inr (inr x)) = x
+
+may_one : (q : Progress) (kind : PeerKind) (n name : ℕ) (first call : Call) (made : List (ℕ × Call)) (replied : List NamedReply) → made ≡ (n, first) ∷ [] → (MayCallIn q kind call → IsClose call × IsConnected replied) → (IsClose call × IsConnected replied → MayCallIn q kind call)
+    → MayCallIn q kind call ↔ IsValidCall kind made replied name call
+may_one q kind n name first call made replied e f g = subst (λ (cs : List (ℕ × Call)). MayCallIn q kind call ↔ IsValidCall kind cs replied name call) (sym e) (f, g)
+
+may_none : (kind : PeerKind) (n m name : ℕ) (first last call : Call) (made : List (ℕ × Call)) (replied : List NamedReply) → made ≡ (m, last) ∷ (n, first) ∷ [] → ⊥ ↔ IsValidCall kind made replied name call
+may_none kind n m name first last call made replied e = subst (λ (cs : List (ℕ × Call)). ⊥ ↔ IsValidCall kind cs replied name call) (sym e) (λ z. z, λ z. z)
+
+may_in : {L : Type 0} (q : Progress) (p : Peering L) (name : ℕ) (call : Call) (h : List Local) → HasIn q p h → MayCallIn q p.kind call ↔ IsValidCall p.kind (made_in h) (replied_in h) name call
+may_in progress.Idle p name call h x = subst (λ (cs : List (ℕ × Call)). IsFirstCall p.kind call ↔ IsValidCall p.kind cs (replied_in h) name call) (sym x.made) (λ m. m, λ m. m)
+may_in progress.Opening p name call h x =
+    may_one progress.Opening p.kind p.name name x.call call (made_in h) (replied_in h) x.made (λ m. absurd m) (λ v. not_connected p.name (subst IsConnected x.replied v.1))
+may_in progress.Open p name call h x =
+    may_one progress.Open p.kind x.name name x.call call (made_in h) (replied_in h) x.made (λ m. (m, subst IsConnected (sym x.replied) (inr (inl refl)))) (λ v. v.0)
+may_in progress.Closing p name call h x = may_none p.kind x.name p.name name x.call (Close x.error) call (made_in h) (replied_in h) x.made
+may_in progress.Over p name call h (inl x) =
+    may_one progress.Over p.kind x.name name x.call call (made_in h) (replied_in h) x.made (λ m. absurd m) (λ v. failed_not_connected x.name x.error (subst IsConnected x.replied v.1))
+may_in progress.Over p name call h (inr x) = may_none p.kind x.name x.closing name x.call (Close x.error) call (made_in h) (replied_in h) x.made
+
+pub may_law : {L : Type 0} (p : Peering L) (name : ℕ) (call : Call) (h : List Local) → Has p h → MayCall p name call ↔ IsValidCall p.kind (made_in h) (replied_in h) name call
+may_law p name call h x = may_in p.progress p name call h x
+
+-- ---- the replies are those that the calls may have
+
+replies_as : (cs : List (ℕ × Call)) (made : List (ℕ × Call)) (replied : List NamedReply) → made ≡ cs → AreReplies cs replied → AreReplies made replied
+replies_as cs made replied e r = subst (λ (u : List (ℕ × Call)). AreReplies u replied) (sym e) r
+
+replies_in : {L : Type 0} (q : Progress) (p : Peering L) (h : List Local) → HasIn q p h → AreReplies (made_in h) (replied_in h)
+replies_in progress.Idle p h x = replies_as [] (made_in h) (replied_in h) x.made x.replied
+replies_in progress.Opening p h x = replies_as ((p.name, x.call) ∷ []) (made_in h) (replied_in h) x.made (inl x.replied)
+replies_in progress.Open p h x = replies_as ((x.name, x.call) ∷ []) (made_in h) (replied_in h) x.made (inr (inl x.replied))
+replies_in progress.Closing p h x =
+    replies_as ((p.name, Close x.error) ∷ (x.name, x.call) ∷ []) (made_in h) (replied_in h) x.made (elim x.replied [ inl z ↦ inl z | inr z ↦ inr (inl z) ])
+replies_in progress.Over p h (inl x) = replies_as ((x.name, x.call) ∷ []) (made_in h) (replied_in h) x.made (inr (inr (x.error, x.replied)))
+replies_in progress.Over p h (inr x) = replies_as ((x.closing, Close x.error) ∷ (x.name, x.call) ∷ []) (made_in h) (replied_in h) x.made (inr (inr (x.reply, x.end, x.replied)))
+
+pub replies_law : {L : Type 0} (p : Peering L) (h : List Local) → Has p h → AreReplies (made_in h) (replied_in h)
+replies_law p h x = replies_in p.progress p h x
+
+-- ---- nothing but the SASL layer is written before the check holds, and then a conversation
+
+written_early : {L : Type 0} (s : Stage) (call : Call) (o : Opened L Authentication) (p : Option Prepared) (h : List Local) → IsHeldAt s call o p h → HasWritten call h
+written_early stage.Idle call o p h k = absurd k
+written_early stage.Negotiating call o p h k = written_exchanging call o p h k
+written_early stage.Header call o p h k = written_exchanging call o p h k
+written_early stage.Exchanged call o p h k = written_exchanging call o p h k
+written_early stage.Ended call o p h k = k
+
+written_held : {L : Type 0} (call : Call) (held : Held L) (h : List Local) → IsHeld call held h → HasWritten call h
+written_held call (Early o p) h k = written_early o.stage call o p h k
+written_held call (Late s) h k = written_running call s h k
+written_held call (Unopened c) h k = k
+written_held call Moving h k = absurd k
+
+gated_one : (n : ℕ) (call : Call) (h : List Local) → made_in h ≡ (n, call) ∷ [] → HasWritten call h → IsGated (made_in h) (wrote_in h) (read_in h)
+gated_one n call h e w = subst (λ (cs : List (ℕ × Call)). IsGated cs (wrote_in h) (read_in h)) (sym e) w
+
+gated_two : (n m : ℕ) (call last : Call) (h : List Local) → made_in h ≡ (m, last) ∷ (n, call) ∷ [] → HasWritten call h → IsGated (made_in h) (wrote_in h) (read_in h)
+gated_two n m call last h e w = subst (λ (cs : List (ℕ × Call)). IsGated cs (wrote_in h) (read_in h)) (sym e) w
+
+gated_in : {L : Type 0} (q : Progress) (p : Peering L) (h : List Local) → HasIn q p h → IsGated (made_in h) (wrote_in h) (read_in h)
+gated_in progress.Idle p h x = subst (λ (cs : List (ℕ × Call)). IsGated cs (wrote_in h) (read_in h)) (sym x.made) (ap wrote_of x.link)
+gated_in progress.Opening p h x = gated_one p.name x.call h x.made (written_held x.call p.held h x.called.holds)
+gated_in progress.Open p h x = gated_one x.name x.call h x.made (written_held x.call p.held h x.called.holds)
+gated_in progress.Closing p h x = gated_two x.name p.name x.call (Close x.error) h x.made (written_held x.call p.held h x.called.holds)
+gated_in progress.Over p h (inl x) = gated_one x.name x.call h x.made (written_held x.call p.held h x.called.holds)
+gated_in progress.Over p h (inr x) = gated_two x.name x.closing x.call (Close x.error) h x.made (written_held x.call p.held h x.called.holds)
+
+pub gated_law : {L : Type 0} (p : Peering L) (h : List Local) → Has p h → IsGated (made_in h) (wrote_in h) (read_in h)
+gated_law p h x = gated_in p.progress p h x
+
+-- what is read later changes nothing of it
+gated_more_in : (c : Option SaslCall) (wrote read later : List ℕ) → IsGatedIn c wrote read → IsGatedIn c wrote (read ++ later)
+gated_more_in None wrote read later g = g
+gated_more_in (Some c) wrote read later g = gated_later IsTalk c wrote read later g
+
+pub gated_more : (cs : List (ℕ × Call)) (wrote read later : List ℕ) → IsGated cs wrote read → IsGated cs wrote (read ++ later)
+gated_more [] wrote read later g = g
+gated_more (c ∷ []) wrote read later g = gated_more_in (sasl_of c.1) wrote read later g
+gated_more (c ∷ d ∷ cs) wrote read later g = gated_more (d ∷ cs) wrote read later g
+
+-- ---- each reply has its cause
+
+caused_in : {L : Type 0} (q : Progress) (p : Peering L) (h : List Local) → HasIn q p h → AllCaused h
+caused_in progress.Idle p h x = x.caused
+caused_in progress.Opening p h x = x.called.caused
+caused_in progress.Open p h x = x.called.caused
+caused_in progress.Closing p h x = x.called.caused
+caused_in progress.Over p h (inl x) = x.called.caused
+caused_in progress.Over p h (inr x) = x.called.caused
+
+pub causes_law : {L : Type 0} (p : Peering L) (h : List Local) → Has p h → AllCaused h
+causes_law p h x = caused_in p.progress p h x
