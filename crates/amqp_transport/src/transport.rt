@@ -159,6 +159,13 @@ impl<L: Link, F: FrameKind> Transport<L, F> {
         self.codec.link()
     }
 
+    /// The link, to be looked at.
+    pub fn link_ref(&self) -> &L
+        ensures { result.now ≡ self.now.codec.link }
+    {
+        self.codec.link_ref()
+    }
+
     fn keep(&mut self, error: Error) -> Error
         ensures value { result ≡ error }
         ensures kept { self.new ≡ record self.old { kept = Some error } }
