@@ -608,6 +608,13 @@ impl<L: Link> ConnectionEngine<L> {
         self.transport.link()
     }
 
+    /// The link, to be looked at.
+    pub fn link_ref(&self) -> &L
+        ensures { result.now ≡ self.now.wire.codec.link }
+    {
+        self.transport.link_ref()
+    }
+
     /// The state of the connection (part 2, section 2.4.6).
     pub fn local_state(&self) -> ConnectionState
         ensures { result ≡ state_of self.now.phase }
