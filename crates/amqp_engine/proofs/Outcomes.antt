@@ -38,29 +38,36 @@ use Rattle.amqp_engine.specs.declared.sessions.Plan.{Plan}
 use Rattle.amqp_engine.specs.declared.sessions.Plan.TheVariants as plan
 use Rattle.amqp_engine.specs.Phases.{is_stopped, has_failed, is_open}
 use Rattle.amqp_engine.specs.Plans.{rejection_told}
-use Rattle.amqp_engine.specs.Machine.{received, answer_to, plan_of, admitted_answer, phase_after, awaited, awaited_answer, arrived, arrived_answer}
+use Rattle.amqp_engine.specs.Machine.{received, answer_to, plan_of, admitted_answer, phase_after, awaited, awaited_answer, arrived, arrived_answer, outlasted}
 use Rattle.amqp_engine.specs.State.{State, failing, closing, close_frame, error_for, beating}
-use Rattle.amqp_engine.specs.Calls.{Puts, IsMemory, Steps, Acts, ThenActs, Reads, After, Writes, Flushes, FlushesIf, AfterFlush, Sends, SendsIf}
+use Rattle.amqp_engine.specs.Calls.{Puts, IsMemory, Steps, Acts, ThenActs, Reads, After, Writes, FlushesIf, AfterFlush, Sends, SendsIf}
 use Rattle.amqp_engine.specs.Sentence.{IsCalm}
 use Rattle.amqp_engine.specs.Faults.{IsFault, IsOwed, input_of}
-use Rattle.amqp_engine.specs.Outcomes.{IsWritten, HasWaited, HasRested, IsRefusal, HasWorked, IsTold, IsMoment, Stepped, IsClosedBy, HasClosed}
+use Rattle.amqp_engine.specs.Outcomes.{IsWritten, HasWaited, HasRested, IsRefusal, HasWorked, IsOnward, IsTold, IsMoment, Stepped, IsClosedBy, HasClosed}
 use Rattle.amqp_engine.proofs.Hearing.{IsListening}
 use Rattle.amqp_engine.proofs.Runs.{RanBy, CanFollow, alike_refl, alike_same, alike_failing, none_by, then_by, read_by, flushed_by}
 use Rattle.amqp_engine.proofs.Steps.{in_phase, heard_in, listening_holds, queued_of, puts_by, reached, beats_follow, answers_follow, closes_follow, open_follows, is_open_only}
 use Rattle.amqp_engine.proofs.Writes.{write_events}
 
 -- an answer to a frame that calls for a Close
-record Refuses (result : Result EngineStep Error) (phase : Phase) : Type 0 where
-  pub error : Error
-  pub is : result ≡ Err error
-  pub refusal : IsRefusal error phase
+record Refuses (phase : Phase) (result : Result EngineStep Error) (next : Phase) : Type 0 where
+  pub why : Rejection
+  pub is : result ≡ Err (rejection_told why)
+  pub refusal : IsRefusal phase (rejection_told why) next
 
-refused : Refuses (Err error.IllegalState) p.Refused
-refused = record { error = error.IllegalState; is = refl; refusal = inl (refl, refl) }
+refused : Refuses p.OpenSent (Err error.IllegalState) p.Refused
+refused = record { why = rejection.IllegalState; is = refl; refusal = (refl, refl) }
 
-awaited_so : {L : Type 0} (at : ℕ) (s : State L) (body : FrameBody) → (awaited_answer body ≡ Ok step.Worked) ⊎ Refuses (awaited_answer body) (awaited at s body).phase
-awaited_so at s (b.Open y) = inl refl
-awaited_so at s (b.Close y) = inl refl
+rejected : (why : Rejection) → Refuses p.Opened (Err (rejection_told why)) (p.Rejected why)
+rejected why = record { why = why; is = refl; refusal = (why, refl, refl) }
+
+-- an answer to a frame, and the phase then
+abbrev IsAnswer : Phase → Result EngineStep Error → Phase → Type 0
+IsAnswer phase result next = ((result ≡ Ok step.Worked) × IsOnward phase next) ⊎ Refuses phase result next
+
+awaited_so : {L : Type 0} (at : ℕ) (s : State L) (body : FrameBody) → IsAnswer p.OpenSent (awaited_answer body) (awaited at s body).phase
+awaited_so at s (b.Open y) = inl (refl, inl refl)
+awaited_so at s (b.Close y) = inl (refl, inr refl)
 awaited_so at s b.Empty = inr refused
 awaited_so at s (b.Begin y) = inr refused
 awaited_so at s (b.Attach y) = inr refused
@@ -70,55 +77,60 @@ awaited_so at s (b.Disposition y) = inr refused
 awaited_so at s (b.Detach y) = inr refused
 awaited_so at s (b.End y) = inr refused
 
-rejected : (why : Rejection) → Refuses (Err (rejection_told why)) (p.Rejected why)
-rejected why = record { error = rejection_told why; is = refl; refusal = inr (why, refl, refl) }
+admitted_so : (q : Plan) (phase : Phase) → has_failed phase ≡ false → IsAnswer p.Opened (admitted_answer q) (phase_after q phase)
+admitted_so (plan.Reject why) phase h = inr (rejected why)
+admitted_so plan.Deliver phase h = inl (refl, h)
+admitted_so plan.Answer phase h = inl (refl, h)
+admitted_so plan.End phase h = inl (refl, h)
+admitted_so plan.Ask phase h = inl (refl, h)
 
-admitted_so : (q : Plan) (phase : Phase) → (admitted_answer q ≡ Ok step.Worked) ⊎ Refuses (admitted_answer q) (phase_after q phase)
-admitted_so (plan.Reject why) phase = inr (rejected why)
-admitted_so plan.Deliver phase = inl refl
-admitted_so plan.Answer phase = inl refl
-admitted_so plan.End phase = inl refl
-admitted_so plan.Ask phase = inl refl
+arrived_so : {L : Type 0} (s : State L) (x : Frame) (body : FrameBody) → has_failed s.phase ≡ false → IsAnswer p.Opened (arrived_answer (plan_of s x) body) (arrived s x body).phase
+arrived_so s x (b.Open y) h = inr (rejected rejection.IllegalState)
+arrived_so s x (b.Close y) h = inl (refl, refl)
+arrived_so s x b.Empty h = inl (refl, h)
+arrived_so s x (b.Begin y) h = admitted_so (plan_of s x) s.phase h
+arrived_so s x (b.Attach y) h = admitted_so (plan_of s x) s.phase h
+arrived_so s x (b.Flow y) h = admitted_so (plan_of s x) s.phase h
+arrived_so s x (b.Transfer y z) h = admitted_so (plan_of s x) s.phase h
+arrived_so s x (b.Disposition y) h = admitted_so (plan_of s x) s.phase h
+arrived_so s x (b.Detach y) h = admitted_so (plan_of s x) s.phase h
+arrived_so s x (b.End y) h = admitted_so (plan_of s x) s.phase h
 
-arrived_so : {L : Type 0} (s : State L) (x : Frame) (body : FrameBody) → (arrived_answer (plan_of s x) body ≡ Ok step.Worked) ⊎ Refuses (arrived_answer (plan_of s x) body) (arrived s x body).phase
-arrived_so s x (b.Open y) = inr (rejected rejection.IllegalState)
-arrived_so s x (b.Close y) = inl refl
-arrived_so s x b.Empty = inl refl
-arrived_so s x (b.Begin y) = admitted_so (plan_of s x) s.phase
-arrived_so s x (b.Attach y) = admitted_so (plan_of s x) s.phase
-arrived_so s x (b.Flow y) = admitted_so (plan_of s x) s.phase
-arrived_so s x (b.Transfer y z) = admitted_so (plan_of s x) s.phase
-arrived_so s x (b.Disposition y) = admitted_so (plan_of s x) s.phase
-arrived_so s x (b.Detach y) = admitted_so (plan_of s x) s.phase
-arrived_so s x (b.End y) = admitted_so (plan_of s x) s.phase
+outlasted_so : {L : Type 0} (s : State L) (body : FrameBody) → has_failed s.phase ≡ false → has_failed (outlasted s body).phase ≡ false
+outlasted_so s (b.Close y) h = refl
+outlasted_so s (b.Open y) h = h
+outlasted_so s b.Empty h = h
+outlasted_so s (b.Begin y) h = h
+outlasted_so s (b.Attach y) h = h
+outlasted_so s (b.Flow y) h = h
+outlasted_so s (b.Transfer y z) h = h
+outlasted_so s (b.Disposition y) h = h
+outlasted_so s (b.Detach y) h = h
+outlasted_so s (b.End y) h = h
 
 -- a frame that is read is answered by Worked, or refused
-answer_so : {L : Type 0} (q : Phase) (at : ℕ) (s : State L) (x : Frame) → (answer_to q s x ≡ Ok step.Worked) ⊎ Refuses (answer_to q s x) (received q at s x).phase
-answer_so p.OpenSent at s x = awaited_so at s x.body
-answer_so p.Opened at s x = arrived_so s x x.body
-answer_so p.CloseReceived at s x = inl refl
-answer_so p.Refused at s x = inl refl
-answer_so (p.Rejected why) at s x = inl refl
-answer_so p.CloseSent at s x = inl refl
-answer_so p.Discarding at s x = inl refl
-answer_so p.Ended at s x = inl refl
-answer_so p.Failed at s x = inl refl
+answer_so : {L : Type 0} (q : Phase) (at : ℕ) (s : State L) (x : Frame) → IsListening q → has_failed s.phase ≡ false → IsAnswer q (answer_to q s x) (received q at s x).phase
+answer_so p.OpenSent at s x l h = awaited_so at s x.body
+answer_so p.Opened at s x l h = arrived_so s x x.body h
+answer_so p.CloseSent at s x l h = inl (refl, outlasted_so s x.body h)
+answer_so p.Discarding at s x l h = inl (refl, outlasted_so s x.body h)
+answer_so p.CloseReceived at s x l h = absurd l
+answer_so p.Refused at s x l h = absurd l
+answer_so (p.Rejected why) at s x l h = absurd l
+answer_so p.Ended at s x l h = absurd l
+answer_so p.Failed at s x l h = absurd l
 
 told_is : {L : Type 0} (at : ℕ) (old : State L) (events : List LinkEvent) (given queued : List Frame) (result other : Result EngineStep Error) (new : State L) → result ≡ other → IsTold at old events given queued other new → IsTold at old events given queued result new
 told_is at old events given queued result other new e t = subst (λ (r : Result EngineStep Error). IsTold at old events given queued r new) (sym e) t
 
-rejection_is : {L : Type 0} (at : ℕ) (old : State L) (events : List LinkEvent) (given queued : List Frame) (why : Rejection) (new : State L) → HasWorked given queued → new.phase ≡ p.Rejected why → IsTold at old events given queued (Err (rejection_told why)) new
-rejection_is at old events given queued rejection.IllegalState new w e = (w, inr (rejection.IllegalState, refl, e))
-rejection_is at old events given queued rejection.NotImplemented new w e = (w, inr (rejection.NotImplemented, refl, e))
-rejection_is at old events given queued rejection.NotFound new w e = (w, inr (rejection.NotFound, refl, e))
-
-told_refusal : {L : Type 0} (at : ℕ) (old : State L) (events : List LinkEvent) (given queued : List Frame) (e : Error) (new : State L) → HasWorked given queued → IsRefusal e new.phase → IsTold at old events given queued (Err e) new
-told_refusal at old events given queued e new w (inl r) = told_is at old events given queued (Err e) (Err error.IllegalState) new (ap (λ (z : Error). Err z) r.0) (w, inl (refl, r.1))
-told_refusal at old events given queued e new w (inr r) = told_is at old events given queued (Err e) (Err (rejection_told r.0)) new (ap (λ (z : Error). Err z) r.1) (rejection_is at old events given queued r.0 new w r.2)
+told_refusal : {L : Type 0} (at : ℕ) (old : State L) (events : List LinkEvent) (given queued : List Frame) (why : Rejection) (new : State L) → HasWorked given queued → IsRefusal old.phase (rejection_told why) new.phase → IsTold at old events given queued (Err (rejection_told why)) new
+told_refusal at old events given queued rejection.IllegalState new w r = (w, r)
+told_refusal at old events given queued rejection.NotImplemented new w r = (w, r)
+told_refusal at old events given queued rejection.NotFound new w r = (w, r)
 
 -- an error of the transport, which ends the engine
-told_fault : {L : Type 0} (at : ℕ) (old s : State L) (events : List LinkEvent) (given queued : List Frame) (e : TransportFault) (result : Result EngineStep Error) (new : State L) → result ≡ Err (error.TransportError e) → new ≡ failing s → (IsCalm old → IsFault at old events e) → IsTold at old events given queued result new
-told_fault {L} at old s events given queued e result new r n f = told_is at old events given queued result (Err (error.TransportError e)) new r (ap (λ (t : State L). has_failed t.phase) n, f)
+told_fault : {L : Type 0} (at : ℕ) (old s : State L) (events : List LinkEvent) (e : TransportFault) (result : Result EngineStep Error) (new : State L) → result ≡ Err (error.TransportError e) → new ≡ failing s → (IsCalm old → IsFault at old events e) → IsTold at old events [] [] result new
+told_fault {L} at old s events e result new r n f = told_is at old events [] [] result (Err (error.TransportError e)) new r (ap (λ (t : State L). has_failed t.phase) n, f, refl)
 
 -- an answer that gives something comes only where no error is kept
 fresh : (kept : Option TransportFault) (y : Next Frame) → Allows kept (Ok y) → kept ≡ None
@@ -133,19 +145,19 @@ input_is old es fs n = ap (λ (u : List ℕ). old.wire.codec.input ++ u) (read_o
 told_err : {L : Type 0} (link : Ghosts L) (at : ℕ) (old : State L) (wire : Wire L) (e : TransportFault) (result : Result EngineStep Error) (new : State L) (g : Grew link 0 amqp_spells old.wire at (Err e) wire) (es : List LinkEvent) → IsListening old.phase → read_of es ≡ [] → After at (record old { wire = wire }) (Err e) result new → IsTold at old (g.events ++ es) [] [] result new
 told_err link at old wire (fault.Memory m) result new g es l n a = told_is at old (g.events ++ es) [] [] result (Err (error.Memory m)) new a.0 tt
 told_err link at old wire (fault.Io Fault) result new g es l n a =
-    told_fault at old (record old { wire = wire }) (g.events ++ es) [] [] (fault.Io Fault) result new a.0 a.1 (λ c. inl (includes_left g.events es (NotRead Failed) (g.cause (c (listening_holds old.phase l)))))
+    told_fault at old (record old { wire = wire }) (g.events ++ es) (fault.Io Fault) result new a.0 a.1 (λ c. inl (includes_left g.events es (NotRead Failed) (g.cause (c (listening_holds old.phase l)))))
 told_err link at old wire (fault.Io End) result new g es l n a =
-    told_fault at old (record old { wire = wire }) (g.events ++ es) [] [] (fault.Io End) result new a.0 a.1 (λ c. includes_left g.events es (NotRead EndStop) (g.cause (c (listening_holds old.phase l))))
+    told_fault at old (record old { wire = wire }) (g.events ++ es) (fault.Io End) result new a.0 a.1 (λ c. includes_left g.events es (NotRead EndStop) (g.cause (c (listening_holds old.phase l))))
 told_err link at old wire fault.IdleTimeoutElapsed result new g es l n a =
-    told_fault at old (record old { wire = wire }) (g.events ++ es) [] [] fault.IdleTimeoutElapsed result new a.0 a.1 (λ c. g.cause (c (listening_holds old.phase l)))
+    told_fault at old (record old { wire = wire }) (g.events ++ es) fault.IdleTimeoutElapsed result new a.0 a.1 (λ c. g.cause (c (listening_holds old.phase l)))
 told_err link at old wire fault.DecodeError result new g es l n a =
-    told_fault at old (record old { wire = wire }) (g.events ++ es) [] [] fault.DecodeError result new a.0 a.1
+    told_fault at old (record old { wire = wire }) (g.events ++ es) fault.DecodeError result new a.0 a.1
     (λ c. subst (λ (u : List ℕ). IsUnspelled 0 amqp_spells old.wire.codec.decoder u) (sym (input_is old es g.events n)) (g.cause (c (listening_holds old.phase l))))
 told_err link at old wire fault.NotImplemented result new g es l n a =
-    told_fault at old (record old { wire = wire }) (g.events ++ es) [] [] fault.NotImplemented result new a.0 a.1
+    told_fault at old (record old { wire = wire }) (g.events ++ es) fault.NotImplemented result new a.0 a.1
     (λ c. subst (λ (u : List ℕ). IsFront 0 old.wire.codec.decoder u Foreign) (sym (input_is old es g.events n)) (g.cause (c (listening_holds old.phase l))))
 told_err link at old wire fault.FramingError result new g es l n a =
-    told_fault at old (record old { wire = wire }) (g.events ++ es) [] [] fault.FramingError result new a.0 a.1
+    told_fault at old (record old { wire = wire }) (g.events ++ es) fault.FramingError result new a.0 a.1
     (λ c. inl (subst (λ (u : List ℕ). IsFront 0 old.wire.codec.decoder u Refused) (sym (input_is old es g.events n)) (g.cause (c (listening_holds old.phase l)))))
 
 listening_live : (q : Phase) → IsListening q → is_stopped q ≡ false
@@ -176,19 +188,23 @@ told_pending {L} link at old wire new g es l u w n =
       undue = u;
     }
 
-told_after : {L : Type 0} (link : Ghosts L) (at : ℕ) (old : State L) (wire : Wire L) (answer : Result (Next Frame) TransportFault) (result : Result EngineStep Error) (new : State L) (g : Grew link 0 amqp_spells old.wire at answer wire) (es : List LinkEvent) → IsListening old.phase → (old.phase ≡ p.Opened → IsDue old.beat at → ⊥) → read_of es ≡ [] → IsWritten old.phase es old.wire.codec.output → After at (record old { wire = wire }) answer result new → IsTold at old (g.events ++ es) (frames_of answer) [] result new
-told_after {L} link at old wire (Ok (next.Frame x)) result new g es l u n w a =
+told_after : {L : Type 0} (link : Ghosts L) (at : ℕ) (old : State L) (wire : Wire L) (answer : Result (Next Frame) TransportFault) (result : Result EngineStep Error) (new : State L) (g : Grew link 0 amqp_spells old.wire at answer wire) (es : List LinkEvent) → IsListening old.phase → (old.phase ≡ p.Opened → IsDue old.beat at → ⊥) → read_of es ≡ [] → new.wire.codec.output ≡ old.wire.codec.output → IsWritten old.phase es old.wire.codec.output → After at (record old { wire = wire }) answer result new → IsTold at old (g.events ++ es) (frames_of answer) [] result new
+told_after {L} link at old wire (Ok (next.Frame x)) result new g es l u n o w a =
+    let s : State L = record old { wire = wire } in
+    let live = listening_holds old.phase l in
     let worked : HasWorked (x ∷ []) [] = omega arith in
-    elim (answer_so old.phase at (record old { wire = wire }) x) [
-      | inl k ↦ told_is at old (g.events ++ es) (x ∷ []) [] result (Ok step.Worked) new (a.0 ∙ k) worked
-      | inr r ↦ told_is at old (g.events ++ es) (x ∷ []) [] result (Err r.error) new (a.0 ∙ r.is)
-          (told_refusal at old (g.events ++ es) (x ∷ []) [] r.error new worked (subst (λ (q : Phase). IsRefusal r.error q) (sym (ap (λ (t : State L). t.phase) a.1)) r.refusal))
+    let phase : (received old.phase at s x).phase ≡ new.phase = sym (ap (λ (t : State L). t.phase) a.1) in
+    elim (answer_so old.phase at s x l live) [
+      | inl k ↦ told_is at old (g.events ++ es) (x ∷ []) [] result (Ok step.Worked) new (a.0 ∙ k.0)
+          (record { worked = worked; onward = subst (λ (q : Phase). IsOnward old.phase q) phase k.1; written = λ i. inr (written_then old new g.events es live o w) })
+      | inr r ↦ told_is at old (g.events ++ es) (x ∷ []) [] result (Err (rejection_told r.why)) new (a.0 ∙ r.is)
+          (told_refusal at old (g.events ++ es) (x ∷ []) [] r.why new worked (subst (λ (q : Phase). IsRefusal old.phase (rejection_told r.why) q) phase r.refusal))
     ]
-told_after link at old wire (Ok next.Pending) result new g es l u n w a =
+told_after link at old wire (Ok next.Pending) result new g es l u n o w a =
     told_is at old (g.events ++ es) [] [] result (Ok step.Pending) new a.0 (told_pending link at old wire new g es l u w a.1)
-told_after link at old wire (Ok next.Ended) result new g es l u n w a =
-    told_fault at old (record old { wire = wire }) (g.events ++ es) [] [] (fault.Io End) result new a.0 a.1 (λ c. includes_left g.events es (NotRead EndStop) (g.cause (fresh old.wire.kept next.Ended g.again)).0)
-told_after link at old wire (Err e) result new g es l u n w a = told_err link at old wire e result new g es l n a
+told_after link at old wire (Ok next.Ended) result new g es l u n o w a =
+    told_fault at old (record old { wire = wire }) (g.events ++ es) (fault.Io End) result new a.0 a.1 (λ c. includes_left g.events es (NotRead EndStop) (g.cause (fresh old.wire.kept next.Ended g.again)).0)
+told_after link at old wire (Err e) result new g es l u n o w a = told_err link at old wire e result new g es l n a
 
 -- what is done after the flush, with what its answer says, whatever was written before
 record Acted {L : Type 0} (link : Ghosts L) (at : ℕ) (old : State L) (result : Result EngineStep Error) (new : State L) : Type 0 where
@@ -221,7 +237,7 @@ acted_reads link at old result new l u r =
       by = by;
       few = r.joined.few;
       moment = moment_after link at old r.wire r.answer result new r.joined r.does k.beside.clock by;
-      told = λ es n w. told_after link at old r.wire r.answer result new r.joined es l u n w r.does;
+      told = λ es n w. told_after link at old r.wire r.answer result new r.joined es l u n (k.beside.output ∙ r.joined.output) w r.does;
     }
 
 -- nothing was done
@@ -240,27 +256,41 @@ acted_wants link at old (Err error.NotFound) new m e = absurd m
 acted_wants link at old (Err error.RemoteClosed) new m e = absurd m
 acted_wants link at old (Err (error.RemoteClosedWithError f)) new m e = absurd m
 
-told_puts : {L : Type 0} (at : ℕ) (old : State L) (x : Frame) (after : State L) (es : List LinkEvent) (result : Result EngineStep Error) (new : State L) → IsOwed old.phase x → Puts old x after step.Worked result new → IsTold at old es [] (queued_of x result) result new
-told_puts at old x after es (Ok v) new o q =
+-- an end that owes a frame goes on to a phase that has not failed
+owed_onward : (q next : Phase) (x : Frame) → IsOwed q x → has_failed next ≡ false → IsOnward q next
+owed_onward p.OpenSent next x o h = absurd o
+owed_onward p.Opened next x o h = h
+owed_onward p.CloseReceived next x o h = h
+owed_onward p.Refused next x o h = h
+owed_onward (p.Rejected why) next x o h = h
+owed_onward p.CloseSent next x o h = absurd o
+owed_onward p.Discarding next x o h = absurd o
+owed_onward p.Ended next x o h = absurd o
+owed_onward p.Failed next x o h = absurd o
+
+told_puts : {L : Type 0} (at : ℕ) (old : State L) (x : Frame) (after : State L) (es : List LinkEvent) (result : Result EngineStep Error) (new : State L) → IsOwed old.phase x → has_failed after.phase ≡ false → Puts old x after step.Worked result new → IsTold at old es [] (queued_of x result) result new
+told_puts {L} at old x after es (Ok v) new o h q =
     let worked : HasWorked [] (x ∷ []) = omega arith in
-    told_is at old es [] (x ∷ []) (Ok v) (Ok step.Worked) new (ap (λ (z : EngineStep). Ok z) q.0) worked
-told_puts at old x after es (Err (error.Memory a)) new o q = tt
-told_puts at old x after es (Err (error.TransportError fault.FramingError)) new o q =
-    told_fault at old old es [] [] fault.FramingError (Err (error.TransportError fault.FramingError)) new refl q.1 (λ c. inr (x, o, q.0))
-told_puts at old x after es (Err (error.TransportError (fault.Memory a))) new o q = absurd q
-told_puts at old x after es (Err (error.TransportError (fault.Io k))) new o q = absurd q
-told_puts at old x after es (Err (error.TransportError fault.IdleTimeoutElapsed)) new o q = absurd q
-told_puts at old x after es (Err (error.TransportError fault.DecodeError)) new o q = absurd q
-told_puts at old x after es (Err (error.TransportError fault.NotImplemented)) new o q = absurd q
-told_puts at old x after es (Err error.IllegalState) new o q = absurd q
-told_puts at old x after es (Err error.NotImplemented) new o q = absurd q
-told_puts at old x after es (Err error.NotFound) new o q = absurd q
-told_puts at old x after es (Err error.RemoteClosed) new o q = absurd q
-told_puts at old x after es (Err (error.RemoteClosedWithError y)) new o q = absurd q
+    let live : has_failed new.phase ≡ false = ap (λ (t : State L). has_failed t.phase) q.2 ∙ h in
+    told_is at old es [] (x ∷ []) (Ok v) (Ok step.Worked) new (ap (λ (z : EngineStep). Ok z) q.0)
+    (record { worked = worked; onward = owed_onward old.phase new.phase x o live; written = λ i. absurd (omega (arith, i)) })
+told_puts at old x after es (Err (error.Memory a)) new o h q = tt
+told_puts at old x after es (Err (error.TransportError fault.FramingError)) new o h q =
+    told_fault at old old es fault.FramingError (Err (error.TransportError fault.FramingError)) new refl q.1 (λ c. inr (x, o, q.0))
+told_puts at old x after es (Err (error.TransportError (fault.Memory a))) new o h q = absurd q
+told_puts at old x after es (Err (error.TransportError (fault.Io k))) new o h q = absurd q
+told_puts at old x after es (Err (error.TransportError fault.IdleTimeoutElapsed)) new o h q = absurd q
+told_puts at old x after es (Err (error.TransportError fault.DecodeError)) new o h q = absurd q
+told_puts at old x after es (Err (error.TransportError fault.NotImplemented)) new o h q = absurd q
+told_puts at old x after es (Err error.IllegalState) new o h q = absurd q
+told_puts at old x after es (Err error.NotImplemented) new o h q = absurd q
+told_puts at old x after es (Err error.NotFound) new o h q = absurd q
+told_puts at old x after es (Err error.RemoteClosed) new o h q = absurd q
+told_puts at old x after es (Err (error.RemoteClosedWithError y)) new o h q = absurd q
 
 -- a frame that is owed
-acted_puts : {L : Type 0} (link : Ghosts L) (at : ℕ) (old : State L) (x : Frame) (after : State L) (result : Result EngineStep Error) (new : State L) → CanFollow old x after → IsOwed old.phase x → Puts old x after step.Worked result new → Acted link at old result new
-acted_puts link at old x after result new f o q =
+acted_puts : {L : Type 0} (link : Ghosts L) (at : ℕ) (old : State L) (x : Frame) (after : State L) (result : Result EngineStep Error) (new : State L) → CanFollow old x after → IsOwed old.phase x → has_failed after.phase ≡ false → Puts old x after step.Worked result new → Acted link at old result new
+acted_puts link at old x after result new f o h q =
     let by = puts_by link old x after step.Worked result new f q in
     record {
       events = [];
@@ -269,7 +299,7 @@ acted_puts link at old x after result new f o q =
       by = by;
       few = omega arith;
       moment = moment_none link at old new [] (queued_of x result) by;
-      told = λ es n w. told_puts at old x after es result new o q;
+      told = λ es n w. told_puts at old x after es result new o h q;
     }
 
 owed_in : {L : Type 0} (old : State L) (q : Phase) (x : Frame) → old.phase ≡ q → IsOwed q x → IsOwed old.phase x
@@ -285,16 +315,16 @@ acted_rests {L} link at old result new s r n =
 
 acted : {L : Type 0} (q : Phase) (link : Ghosts L) (at : ℕ) (old : State L) (result : Result EngineStep Error) (new : State L) → old.phase ≡ q → Acts q link at old result new → Acted link at old result new
 acted p.OpenSent link at old result new e a = acted_reads link at old result new (listens_in old p.OpenSent e tt) (λ f. absurd (cc (e, f))) a
-acted p.Opened link at old result new e (inl w) = acted_puts link at old no_frame (beating old no_frame at) result new (beats_follow old at e) (owed_in old p.Opened no_frame e refl) w.1
+acted p.Opened link at old result new e (inl w) = acted_puts link at old no_frame (beating old no_frame at) result new (beats_follow old at e) (owed_in old p.Opened no_frame e refl) (ap has_failed e) w.1
 acted p.Opened link at old result new e (inr (n, inl r)) = acted_reads link at old result new (listens_in old p.Opened e tt) (λ f. n) r
 acted p.Opened link at old result new e (inr (n, inr m)) = acted_wants link at old result new m.0 m.1
 acted p.CloseReceived link at old result new e a =
-    acted_puts link at old (close_frame None) _ result new (answers_follow old (λ sent s. in_phase old p.CloseReceived sent e s) (λ before h. inl (heard_in old p.CloseReceived before e h)) (ap is_stopped e)) (owed_in old p.CloseReceived (close_frame None) e refl) a
+    acted_puts link at old (close_frame None) _ result new (answers_follow old (λ sent s. in_phase old p.CloseReceived sent e s) (λ before h. inl (heard_in old p.CloseReceived before e h)) (ap is_stopped e)) (owed_in old p.CloseReceived (close_frame None) e refl) refl a
 acted p.Refused link at old result new e a =
-    acted_puts link at old (close_frame None) _ result new (answers_follow old (λ sent s. in_phase old p.Refused sent e s) (λ before h. inr (inl (heard_in old p.Refused before e h))) (ap is_stopped e)) (owed_in old p.Refused (close_frame None) e refl) a
+    acted_puts link at old (close_frame None) _ result new (answers_follow old (λ sent s. in_phase old p.Refused sent e s) (λ before h. inr (inl (heard_in old p.Refused before e h))) (ap is_stopped e)) (owed_in old p.Refused (close_frame None) e refl) refl a
 acted (p.Rejected why) link at old result new e (inl a) =
     acted_puts link at old (close_frame (Some (error_for why))) (closing old (Some (error_for why))) result new
-    (closes_follow old (Some (error_for why)) (λ sent s. in_phase old (p.Rejected why) sent e s) (λ before h. (heard_in old (p.Rejected why) before e h).0) (ap is_stopped e)) (owed_in old (p.Rejected why) (close_frame (Some (error_for why))) e refl) a
+    (closes_follow old (Some (error_for why)) (λ sent s. in_phase old (p.Rejected why) sent e s) (λ before h. (heard_in old (p.Rejected why) before e h).0) (ap is_stopped e)) (owed_in old (p.Rejected why) (close_frame (Some (error_for why))) e refl) refl a
 acted (p.Rejected why) link at old result new e (inr m) = acted_wants link at old result new m.0 m.1
 acted p.CloseSent link at old result new e a = acted_reads link at old result new (listens_in old p.CloseSent e tt) (λ f. absurd (cc (e, f))) a
 acted p.Discarding link at old result new e a = acted_reads link at old result new (listens_in old p.Discarding e tt) (λ f. absurd (cc (e, f))) a
@@ -326,11 +356,11 @@ told_fault_before at old to output events fault.NotImplemented f = f
 told_fault_before at old to output events fault.FramingError f = f
 
 told_before : {L : Type 0} (at : ℕ) (old : State L) (to : L) (output : List ℕ) (events : List LinkEvent) (given queued : List Frame) (result : Result EngineStep Error) (new : State L) → IsTold at (sent_state old to output) events given queued result new → IsTold at old events given queued result new
-told_before at old to output events given queued (Ok step.Worked) new t = t
+told_before at old to output events given queued (Ok step.Worked) new t = record { worked = t.worked; onward = t.onward; written = t.written }
 told_before at old to output events given queued (Ok step.Pending) new t = record { found = t.found; written = t.written; phase = t.phase; live = t.live; undue = t.undue }
 told_before at old to output events given queued (Ok step.Stopped) new t = record { stopped = t.stopped; phase = t.phase; written = t.written }
 told_before at old to output events given queued (Err (error.Memory a)) new t = t
-told_before at old to output events given queued (Err (error.TransportError e)) new t = (t.0, λ c. told_fault_before at old to output events e (t.1 c))
+told_before at old to output events given queued (Err (error.TransportError e)) new t = (t.0, λ c. told_fault_before at old to output events e (t.1 c), t.2)
 told_before at old to output events given queued (Err error.IllegalState) new t = t
 told_before at old to output events given queued (Err error.NotImplemented) new t = t
 told_before at old to output events given queued (Err error.NotFound) new t = t
@@ -367,7 +397,7 @@ stepped_flush {L} link at old to output bytes (Some HeldFailed) flush mid result
     let e : ThenActs link at (Err (error.TransportError (fault.Io Fault))) mid result new = subst (λ (r : Result Flush Error). ThenActs link at r mid result new) d.0 a in
     let n : new ≡ failing (sent_state old to output) = e.1 ∙ d.1 in
     stepped_held link at old to output (write_events bytes (Some HeldFailed)) result new b refl (none_by link (sent_state old to output) new (alike_failing (sent_state old to output) new n))
-    (told_fault at old (sent_state old to output) (write_events bytes (Some HeldFailed)) [] [] (fault.Io Fault) result new e.0 n (λ c. inr (inl refl)))
+    (told_fault at old (sent_state old to output) (write_events bytes (Some HeldFailed)) (fault.Io Fault) result new e.0 n (λ c. inr (inl refl)))
 stepped_flush {L} link at old to output bytes (Some HeldMemory) flush mid result new b all d a =
     let e : ThenActs link at (Err (error.Memory (record {}))) mid result new = subst (λ (r : Result Flush Error). ThenActs link at r mid result new) d.0 a in
     stepped_held link at old to output (write_events bytes (Some HeldMemory)) result new b refl (none_by link (sent_state old to output) new (alike_same (sent_state old to output) new (e.1 ∙ d.1)))
@@ -378,7 +408,7 @@ stepped_writes : {L : Type 0} (link : Ghosts L) (at : ℕ) (old : State L) (flus
 stepped_writes {L} link at old flush mid result new w a =
     let f = w.flushed in
     let same : record old { wire = w.wire } ≡ sent_state old w.wire.codec.link w.wire.codec.output =
-        ap (λ (v : Wire L). record old { wire = v }) (f.rest ∙ ap (λ (c : Codec L). record old.wire { codec = c }) f.flushed.rest) in
+    ap (λ (v : Wire L). record old { wire = v }) (f.rest ∙ ap (λ (c : Codec L). record old.wire { codec = c }) f.flushed.rest) in
     stepped_flush link at old w.wire.codec.link w.wire.codec.output f.flushed.bytes f.held flush mid result new
     (subst (λ (t : State L). RanBy link old (write_events f.flushed.bytes f.held) [] [] t) same (flushed_by link old w.wire w.answer f)) f.flushed.all
     (subst (λ (t : State L). AfterFlush t (flush_of f.held) flush mid) same (subst (λ (r : Result Flush TransportFault). AfterFlush (record old { wire = w.wire }) r flush mid) f.answer w.does)) a
@@ -422,45 +452,21 @@ pub closed : {L : Type 0} (link : Ghosts L) (old : State L) (y : Option AmqpErro
 closed link old y result new q = closed_if (is_open old.phase) link old y result new refl q
 
 -- Stopped comes exactly where the connection had stopped
-after_stops_not : {L : Type 0} (at : ℕ) (s : State L) (answer : Result (Next Frame) TransportFault) (new : State L) → After at s answer (Ok step.Stopped) new → ⊥
-after_stops_not at s (Ok (next.Frame x)) new a = elim (answer_so s.phase at s x) [ inl k ↦ absurd (cc (a.0, k)) | inr r ↦ absurd (cc (a.0, r.is)) ]
-after_stops_not at s (Ok next.Pending) new a = absurd (cc a.0)
-after_stops_not at s (Ok next.Ended) new a = absurd (cc a.0)
-after_stops_not at s (Err e) new a = absurd (cc a.0)
+onward_live : (q next : Phase) → IsOnward q next → is_stopped q ≡ false
+onward_live p.OpenSent next i = refl
+onward_live p.Opened next i = refl
+onward_live p.CloseReceived next i = refl
+onward_live p.Refused next i = refl
+onward_live (p.Rejected why) next i = refl
+onward_live p.CloseSent next i = refl
+onward_live p.Discarding next i = refl
+onward_live p.Ended next i = absurd i
+onward_live p.Failed next i = absurd i
 
-flushed_phase : {L : Type 0} (s : State L) (answer : Result Flush TransportFault) (f : Flush) (mid : State L) → AfterFlush s answer (Ok f) mid → mid.phase ≡ s.phase
-flushed_phase {L} s (Ok g) f mid w = ap (λ (t : State L). t.phase) w.1
-flushed_phase s (Err e) f mid w = absurd (cc w.0)
-
-reads_stops_not : {L : Type 0} (link : Ghosts L) (at : ℕ) (old : State L) (answer : EngineStep) (new : State L) → answer ≡ step.Stopped → Reads link at old (Ok answer) new → ⊥
-reads_stops_not {L} link at old answer new e r = after_stops_not at (record old { wire = r.wire }) r.answer new (subst (λ (x : EngineStep). After at (record old { wire = r.wire }) r.answer (Ok x) new) e r.does)
-
-worked_not : (answer : EngineStep) → answer ≡ step.Worked → answer ≡ step.Stopped → ⊥
-worked_not answer e f = absurd (cc (e, f))
-
-stops_acts : {L : Type 0} (q : Phase) (link : Ghosts L) (at : ℕ) (old new : State L) (answer : EngineStep) → Acts q link at old (Ok answer) new → (answer ≡ step.Stopped) ↔ (is_stopped q ≡ true)
-stops_acts p.OpenSent link at old new answer a = (λ e. absurd (reads_stops_not link at old answer new e a), λ e. absurd (cc e))
-stops_acts p.Opened link at old new answer (inl w) = (λ e. absurd (worked_not answer w.1.0 e), λ e. absurd (cc e))
-stops_acts p.Opened link at old new answer (inr (n, inl r)) = (λ e. absurd (reads_stops_not link at old answer new e r), λ e. absurd (cc e))
-stops_acts p.Opened link at old new answer (inr (n, inr m)) = absurd m.0
-stops_acts p.CloseReceived link at old new answer a = (λ e. absurd (worked_not answer a.0 e), λ e. absurd (cc e))
-stops_acts p.Refused link at old new answer a = (λ e. absurd (worked_not answer a.0 e), λ e. absurd (cc e))
-stops_acts (p.Rejected why) link at old new answer (inl a) = (λ e. absurd (worked_not answer a.0 e), λ e. absurd (cc e))
-stops_acts (p.Rejected why) link at old new answer (inr m) = absurd m.0
-stops_acts p.CloseSent link at old new answer a = (λ e. absurd (reads_stops_not link at old answer new e a), λ e. absurd (cc e))
-stops_acts p.Discarding link at old new answer a = (λ e. absurd (reads_stops_not link at old answer new e a), λ e. absurd (cc e))
-stops_acts p.Ended link at old new answer a = (λ e. refl, λ e. cc a.0)
-stops_acts p.Failed link at old new answer a = (λ e. refl, λ e. cc a.0)
-
--- a flush that is answered leaves the phase
-flush_if : {L : Type 0} (failed : Bool) (link : Ghosts L) (old : State L) (f : Flush) (mid : State L) → FlushesIf failed link old (Ok f) mid → mid.phase ≡ old.phase
-flush_if {L} true link old f mid w = ap (λ (s : State L). s.phase) w.1
-flush_if {L} false link old f mid w = flushed_phase (record old { wire = w.wire }) w.answer f mid w.does
-
-stops_then : {L : Type 0} (link : Ghosts L) (at : ℕ) (flush : Result Flush Error) (old mid new : State L) (answer : EngineStep) → Flushes link old flush mid → ThenActs link at flush mid (Ok answer) new → (answer ≡ step.Stopped) ↔ (is_stopped old.phase ≡ true)
-stops_then link at (Ok f) old mid new answer w a =
-    subst (λ (q : Phase). (answer ≡ step.Stopped) ↔ (is_stopped q ≡ true)) (flush_if (has_failed old.phase) link old f mid w) (stops_acts mid.phase link at mid new answer a)
-stops_then link at (Err e) old mid new answer w a = absurd (cc a.0)
+stops_told : {L : Type 0} (at : ℕ) (old : State L) (events : List LinkEvent) (given queued : List Frame) (answer : EngineStep) (new : State L) → IsTold at old events given queued (Ok answer) new → (answer ≡ step.Stopped) ↔ (is_stopped old.phase ≡ true)
+stops_told at old events given queued step.Worked new t = (λ e. absurd (cc e), λ e. let live = onward_live old.phase new.phase t.onward in absurd (cc (e, live)))
+stops_told at old events given queued step.Pending new t = (λ e. absurd (cc e), λ e. let live = ap is_stopped (sym t.phase) ∙ t.live in absurd (cc (e, live)))
+stops_told at old events given queued step.Stopped new t = (λ e. ap is_stopped (sym t.phase) ∙ t.stopped, λ e. refl)
 
 pub stops_so : {L : Type 0} (link : Ghosts L) (at : ℕ) (old new : State L) (answer : EngineStep) → Steps link at old (Ok answer) new → (answer ≡ step.Stopped) ↔ (is_stopped old.phase ≡ true)
-stops_so link at old new answer s = stops_then link at s.flush old s.mid new answer s.flushes s.acts
+stops_so link at old new answer s = let k = stepped link at old (Ok answer) new s in stops_told at old k.run.events k.run.given k.run.queued answer new k.told

@@ -78,7 +78,7 @@ beside_moves s q reason i n e =
       kept = refl;
       said = i;
       stays = λ f. absurd (cc (e, f));
-      limits = λ l. (record { told = l.told; least = l.least; first = λ f. absurd (n f) }, omega arith);
+      limits = λ l. (record { told = l.told; least = l.least; reads = l.reads; first = λ f. absurd (n f) }, omega arith);
     }
 
 not_open_sent : p.Failed ≡ p.OpenSent → ⊥
@@ -105,7 +105,7 @@ beside_failing s =
       kept = refl;
       said = λ sent i. said_failed s.phase sent i;
       stays = λ f. record { phase = refl; reason = failing_from s.phase s refl f; none = refl };
-      limits = λ l. (record { told = l.told; least = l.least; first = λ f. absurd (not_open_sent f) }, omega arith);
+      limits = λ l. (record { told = l.told; least = l.least; reads = l.reads; first = λ f. absurd (not_open_sent f) }, omega arith);
     }
 
 pub calm_failing : {L : Type 0} (s : State L) → IsCalm (failing s)
@@ -250,6 +250,7 @@ not_failed p.Failed e = absurd (cc e)
 pub put_by : {L : Type 0} (link : Ghosts L) (old new : State L) (x : Frame) → CanFollow old x new → size_of_frame x ≤ old.wire.codec.encoder → RanBy link old [] [] (x ∷ []) new
 put_by {L} link old new x f fits =
     let lim : new.wire.codec.encoder ≡ old.wire.codec.encoder = ap (λ (w : Wire L). w.codec.encoder) f.wire in
+    let reads : new.wire.codec.decoder ≡ old.wire.codec.decoder = ap (λ (w : Wire L). w.codec.decoder) f.wire in
     record {
       run = record {
         events = [];
@@ -265,7 +266,7 @@ put_by {L} link old new x f fits =
         calm = λ k n. ap (λ (w : Wire L). w.kept) f.wire ∙ k (not_failed old.phase f.live);
         stays = λ e. absurd (cc (f.live, e));
         limits = λ l. (
-          record { told = ap (λ (t : Settings). t.largest_written) f.settings ∙ l.told ∙ sym lim; least = omega (arith, lim, l.least); first = λ e. absurd (f.phase e) },
+          record { told = ap (λ (t : Settings). t.largest_written) f.settings ∙ l.told ∙ sym lim; least = omega (arith, lim, l.least); reads = omega (arith, reads, l.reads); first = λ e. absurd (f.phase e) },
           omega (arith, lim),
           (omega (arith, lim, fits), tt),
         );
@@ -291,6 +292,7 @@ since_after (Err e) at c n = refl
 pub read_by : {L : Type 0} (link : Ghosts L) (at : ℕ) (old : State L) (wire : Wire L) (answer : Result (Next Frame) TransportFault) (new : State L) (g : Grew link 0 amqp_spells old.wire at answer wire) → Beside (record old { wire = wire }) new → ((before : List Frame) → IsHeard old.phase old.reason before → IsHeard new.phase new.reason (before ++ frames_of answer)) → (IsCalm old → IsCalm new) → RanBy link old g.events (frames_of answer) [] new
 read_by {L} link at old wire answer new g b heard calm =
     let lim : wire.codec.encoder ≡ old.wire.codec.encoder = ap (λ (l : ℕ × ℕ). l.1) g.limits in
+    let reads : wire.codec.decoder ≡ old.wire.codec.decoder = ap (λ (l : ℕ × ℕ). l.0) g.limits in
     record {
       run = record {
         events = g.events;
@@ -306,7 +308,7 @@ read_by {L} link at old wire answer new g b heard calm =
         calm = calm;
         stays = λ e. let f = b.stays e in record { phase = f.phase; reason = f.reason; none = f.none };
         limits = λ l.
-            let m = b.limits (record { told = l.told ∙ sym lim; least = omega (arith, lim, l.least); first = λ f. lim ∙ l.first f }) in
+            let m = b.limits (record { told = l.told ∙ sym lim; least = omega (arith, lim, l.least); reads = omega (arith, reads, l.reads); first = λ f. lim ∙ l.first f }) in
             (m.0, omega (arith, lim, m.1), tt);
       };
       events_is = refl;
@@ -319,6 +321,7 @@ pub flushed_by : {L : Type 0} (link : Ghosts L) (old : State L) (wire : Wire L) 
 flushed_by {L} link old wire answer f =
     let same : wire ≡ record old.wire { codec = record old.wire.codec { link = wire.codec.link; output = wire.codec.output } } = f.rest ∙ ap (λ (c : Codec L). record old.wire { codec = c }) f.flushed.rest in
     let lim : wire.codec.encoder ≡ old.wire.codec.encoder = ap (λ (w : Wire L). w.codec.encoder) same in
+    let reads : wire.codec.decoder ≡ old.wire.codec.decoder = ap (λ (w : Wire L). w.codec.decoder) same in
     record {
       run = record {
         events = write_events f.flushed.bytes f.held;
@@ -334,7 +337,7 @@ flushed_by {L} link old wire answer f =
         since = λ e. ap (λ (w : Wire L). w.clock.since) same;
         calm = λ k n. ap (λ (w : Wire L). w.kept) same ∙ k n;
         stays = λ e. record { phase = e; reason = refl; none = refl };
-        limits = λ l. (record { told = l.told ∙ sym lim; least = omega (arith, lim, l.least); first = λ e. lim ∙ l.first e }, omega (arith, lim), tt);
+        limits = λ l. (record { told = l.told ∙ sym lim; least = omega (arith, lim, l.least); reads = omega (arith, reads, l.reads); first = λ e. lim ∙ l.first e }, omega (arith, lim), tt);
       };
       events_is = refl;
       given_is = refl;

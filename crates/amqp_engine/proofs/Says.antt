@@ -23,7 +23,7 @@ starts_opened before arrived w end n e i =
       joined = append-nil arrived ∙ sym i;
       said = record { first = open_of end; inner = []; each = tt; is = refl };
       heard = (refl, refl);
-      limited = record { told = refl; least = omega arith; first = λ f. refl };
+      limited = record { told = refl; least = omega arith; reads = omega arith; first = λ f. refl };
       sized = (n, tt);
     }
 

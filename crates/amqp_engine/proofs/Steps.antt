@@ -109,7 +109,7 @@ beside_entered at s y e =
       stays = λ f. let g : is_stopped s.phase ≡ false = ap is_stopped e in absurd (cc (f, g));
       limits = λ l.
           let old : s.wire.codec.encoder ≡ 512 = l.first e in
-          (record { told = omega arith; least = omega arith; first = λ f. absurd (opened_not f) }, omega (arith, old));
+          (record { told = omega arith; least = omega arith; reads = omega arith; first = λ f. absurd (opened_not f) }, omega (arith, old));
     }
 
 awaited_moves : {L : Type 0} (s : State L) (q : Phase) (reason : ConnectionStopReason) → s.phase ≡ p.OpenSent → ((sent : List Frame) → IsBegun sent → IsSaid q sent) → (q ≡ p.OpenSent → ⊥) → Beside s (record s { phase = q; reason = reason })
@@ -138,7 +138,7 @@ beside_channels s c =
       kept = refl;
       said = λ sent i. i;
       stays = λ e. record { phase = e; reason = refl; none = refl };
-      limits = λ l. (record { told = l.told; least = l.least; first = l.first }, omega arith);
+      limits = λ l. (record { told = l.told; least = l.least; reads = l.reads; first = l.first }, omega arith);
     }
 
 pub alike_channels : {L : Type 0} (s : State L) (c : Channels) → Alike s (with_channels s c)

@@ -40,24 +40,40 @@ pub record HasRested {L : Type 0} (old : State L) (events : List LinkEvent) (new
   pub phase : new.phase ≡ old.phase
   pub written : IsWritten new.phase events new.wire.codec.output
 
--- a frame that was read calls for a Close, and this is told
-abbrev pub IsRefusal : Error → Phase → Type 0
-IsRefusal e phase = ((e ≡ error.IllegalState) × (phase ≡ p.Refused)) ⊎ ((why : Rejection) × (e ≡ rejection_told why) × (phase ≡ p.Rejected why))
+-- a frame that was read calls for a Close, and this is told: in place of the peer's Open, or while the connection is open
+abbrev pub IsRefusal : Phase → Error → Phase → Type 0
+IsRefusal p.OpenSent e next = (e ≡ error.IllegalState) × (next ≡ p.Refused)
+IsRefusal p.Opened e next = (why : Rejection) × (e ≡ rejection_told why) × (next ≡ p.Rejected why)
+IsRefusal phase e next = ⊥
 
 -- a frame was given or queued
 abbrev pub HasWorked : List Frame → List Frame → Type 0
 HasWorked given queued = 1 ≤ length given + length queued
 
+-- The phase after a step that worked: the peer's Open came, or its Close in place of it; from there on the connection has not failed.
+-- Where it had stopped, no step works.
+abbrev pub IsOnward : Phase → Phase → Type 0
+IsOnward p.OpenSent next = (next ≡ p.Opened) ⊎ (next ≡ p.CloseReceived)
+IsOnward p.Ended next = ⊥
+IsOnward p.Failed next = ⊥
+IsOnward phase next = has_failed next ≡ false
+
+-- a frame was given or queued; where one was given, all that was queued was written before, as far as the link took it
+pub record HasGoneOn {L : Type 0} (old : State L) (events : List LinkEvent) (given queued : List Frame) (new : State L) : Type 0 where
+  pub worked : HasWorked given queued
+  pub onward : IsOnward old.phase new.phase
+  pub written : 1 ≤ length given → IsWritten new.phase events new.wire.codec.output
+
 -- what the answer of a step says: nothing where memory was wanting
 abbrev pub IsTold : {L : Type 0} → ℕ → State L → List LinkEvent → List Frame → List Frame → Result EngineStep Error → State L → Type 0
-IsTold at old events given queued (Ok step.Worked) new = HasWorked given queued
+IsTold at old events given queued (Ok step.Worked) new = HasGoneOn old events given queued new
 IsTold at old events given queued (Ok step.Pending) new = HasWaited at old events new
 IsTold at old events given queued (Ok step.Stopped) new = HasRested old events new
 IsTold at old events given queued (Err (error.Memory a)) new = ⊤
-IsTold at old events given queued (Err (error.TransportError e)) new = (has_failed new.phase ≡ true) × (IsCalm old → IsFault at old events e)
-IsTold at old events given queued (Err error.IllegalState) new = HasWorked given queued × IsRefusal error.IllegalState new.phase
-IsTold at old events given queued (Err error.NotImplemented) new = HasWorked given queued × IsRefusal error.NotImplemented new.phase
-IsTold at old events given queued (Err error.NotFound) new = HasWorked given queued × IsRefusal error.NotFound new.phase
+IsTold at old events given queued (Err (error.TransportError e)) new = (has_failed new.phase ≡ true) × (IsCalm old → IsFault at old events e) × (given ≡ [])
+IsTold at old events given queued (Err error.IllegalState) new = HasWorked given queued × IsRefusal old.phase error.IllegalState new.phase
+IsTold at old events given queued (Err error.NotImplemented) new = HasWorked given queued × IsRefusal old.phase error.NotImplemented new.phase
+IsTold at old events given queued (Err error.NotFound) new = HasWorked given queued × IsRefusal old.phase error.NotFound new.phase
 IsTold at old events given queued (Err error.RemoteClosed) new = ⊥
 IsTold at old events given queued (Err (error.RemoteClosedWithError e)) new = ⊥
 

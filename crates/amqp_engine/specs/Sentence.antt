@@ -60,10 +60,12 @@ abbrev pub AllWithin : ℕ → List Frame → Type 0
 AllWithin limit [] = Unit {0}
 AllWithin limit (x ∷ xs) = (size_of_frame x ≤ limit) × AllWithin limit xs
 
--- the limit that is told is the limit of what is written: 512 until the peer's Open was read, and never less
+-- The limit that is told is the limit of what is written: 512 until the peer's Open was read, and never less. No frame that may be
+-- read is limited below 512.
 pub record IsLimited {L : Type 0} (s : State L) : Type 0 where
   pub told : s.settings.largest_written ≡ s.wire.codec.encoder
   pub least : 512 ≤ s.wire.codec.encoder
+  pub reads : 512 ≤ s.wire.codec.decoder
   pub first : s.phase ≡ p.OpenSent → s.wire.codec.encoder ≡ 512
 
 -- a connection that has stopped stays so, and its reason too
