@@ -378,7 +378,7 @@ stepped_writes : {L : Type 0} (link : Ghosts L) (at : ℕ) (old : State L) (flus
 stepped_writes {L} link at old flush mid result new w a =
     let f = w.flushed in
     let same : record old { wire = w.wire } ≡ sent_state old w.wire.codec.link w.wire.codec.output =
-        ap (λ (v : Wire L). record old { wire = v }) (f.rest ∙ ap (λ (c : Codec L). record old.wire { codec = c }) f.flushed.rest) in
+    ap (λ (v : Wire L). record old { wire = v }) (f.rest ∙ ap (λ (c : Codec L). record old.wire { codec = c }) f.flushed.rest) in
     stepped_flush link at old w.wire.codec.link w.wire.codec.output f.flushed.bytes f.held flush mid result new
     (subst (λ (t : State L). RanBy link old (write_events f.flushed.bytes f.held) [] [] t) same (flushed_by link old w.wire w.answer f)) f.flushed.all
     (subst (λ (t : State L). AfterFlush t (flush_of f.held) flush mid) same (subst (λ (r : Result Flush TransportFault). AfterFlush (record old { wire = w.wire }) r flush mid) f.answer w.does)) a

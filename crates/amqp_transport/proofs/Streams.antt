@@ -183,16 +183,16 @@ Grows {L} {X} kind spells old bytes result new = (read : List ℕ) (frames : Lis
 grows_still : {L X : Type 0} (kind : ℕ) (spells : ℕ → List ℕ → X → Type 0) (old : Wire L) (result : Result (Next X) Error) (new : Wire L) (bytes : List ℕ) → new.codec.input ≡ old.codec.input ++ bytes → frames_of result ≡ [] → Grows kind spells old bytes result new
 grows_still {L} {X} kind spells old result new bytes i n =
     λ read frames j.
-        subst (λ (xs : List X). Joined kind spells (read ++ bytes) (frames ++ xs) new.codec.input) (sym n)
-        (subst (λ (xs : List X). Joined kind spells (read ++ bytes) xs new.codec.input) (sym (append-nil frames))
-        (subst (λ (u : List ℕ). Joined kind spells (read ++ bytes) frames u) (sym i) (joined_more kind spells read frames old.codec.input bytes j)))
+    subst (λ (xs : List X). Joined kind spells (read ++ bytes) (frames ++ xs) new.codec.input) (sym n)
+    (subst (λ (xs : List X). Joined kind spells (read ++ bytes) xs new.codec.input) (sym (append-nil frames))
+    (subst (λ (u : List ℕ). Joined kind spells (read ++ bytes) frames u) (sym i) (joined_more kind spells read frames old.codec.input bytes j)))
 
 grows_one : {L X : Type 0} (kind : ℕ) (spells : ℕ → List ℕ → X → Type 0) (old : Wire L) (result : Result (Next X) Error) (new : Wire L) (bytes piece : List ℕ) (x : X) → old.codec.input ++ bytes ≡ piece ++ new.codec.input → IsFrame kind spells piece x → frames_of result ≡ x ∷ [] → Grows kind spells old bytes result new
 grows_one {L} {X} kind spells old result new bytes piece x i f n =
     λ read frames j.
-        subst (λ (xs : List X). Joined kind spells (read ++ bytes) (frames ++ xs) new.codec.input) (sym n)
-        (joined_push kind spells (read ++ bytes) frames piece new.codec.input x f
-        (subst (λ (u : List ℕ). Joined kind spells (read ++ bytes) frames u) i (joined_more kind spells read frames old.codec.input bytes j)))
+    subst (λ (xs : List X). Joined kind spells (read ++ bytes) (frames ++ xs) new.codec.input) (sym n)
+    (joined_push kind spells (read ++ bytes) frames piece new.codec.input x f
+    (subst (λ (u : List ℕ). Joined kind spells (read ++ bytes) frames u) i (joined_more kind spells read frames old.codec.input bytes j)))
 
 grew_so : {L X : Type 0} (link : Ghosts L) (kind : ℕ) (spells : ℕ → List ℕ → X → Type 0) (old : Wire L) (at : ℕ) (result : Result (Next X) Error) (new : Wire L) (bytes : List ℕ) (events : List LinkEvent) → Passed link old.codec.link bytes events new.codec.link → Allows old.kept result → Leaves kind spells old at bytes events result new → Grows kind spells old bytes result new → Grew link kind spells old at result new
 grew_so {L} {X} link kind spells old at result new bytes events p a l g =
@@ -247,7 +247,7 @@ grew_at {L} {X} link kind spells None old at result new k (inl a) =
     let l : limits_of a.fed ≡ limits_of old.codec = ap (λ (c : Codec L). limits_of c) a.rest in
     let r = passed link old.codec.link a.fed.link a.bytes a.stop a.reads in
     let c : IsCause kind spells old.codec.decoder (old.codec.input ++ a.bytes) old.clock at (events_of a.bytes a.stop) result =
-        subst (λ (u : List ℕ). IsCause kind spells old.codec.decoder u old.clock at (events_of a.bytes a.stop) result) i t.cause in
+    subst (λ (u : List ℕ). IsCause kind spells old.codec.decoder u old.clock at (events_of a.bytes a.stop) result) i t.cause in
     elim (answered kind old.codec.decoder spells a.front a.stop at (record old { codec = a.fed }) result new a.begins a.answer) [
       | inl s ↦ grew_so link kind spells old at result new a.bytes (events_of a.bytes a.stop)
           (subst (λ (c : Codec L). Passed link old.codec.link a.bytes (events_of a.bytes a.stop) c.link) (sym s.codec) r) (allows_all old.kept result k)
@@ -257,7 +257,7 @@ grew_at {L} {X} link kind spells None old at result new k (inl a) =
           (subst (λ (c : Codec L). Passed link old.codec.link a.bytes (events_of a.bytes a.stop) c.link) (sym f.codec) r) (allows_all old.kept result k)
           (record { output = ap (λ (c : Codec L). c.output) f.codec ∙ o; limits = ap (λ (c : Codec L). limits_of c) f.codec ∙ l; clock = t.clock; kept = t.kept; cause = λ n. c })
           (grows_one kind spells old result new a.bytes (take f.size a.fed.input) f.x
-            (sym i ∙ sym (take-append-drop f.size a.fed.input) ∙ ap (λ (u : List ℕ). take f.size a.fed.input ++ u) (sym (ap (λ (c : Codec L). c.input) f.codec))) f.frame f.one)
+          (sym i ∙ sym (take-append-drop f.size a.fed.input) ∙ ap (λ (u : List ℕ). take f.size a.fed.input ++ u) (sym (ap (λ (c : Codec L). c.input) f.codec))) f.frame f.one)
     ]
 
 pub grew : {L X : Type 0} (link : Ghosts L) (kind : ℕ) (spells : ℕ → List ℕ → X → Type 0) (old : Wire L) (at : ℕ) (result : Result (Next X) Error) (new : Wire L) → Polled link kind spells old at result new → Grew link kind spells old at result new
