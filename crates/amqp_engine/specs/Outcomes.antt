@@ -67,7 +67,7 @@ IsTold at old events given queued (Err (error.RemoteClosedWithError e)) new = �
 abbrev pub IsMoment : {L : Type 0} → ℕ → State L → List Frame → State L → Type 0
 IsMoment at old given new = ((given ≡ []) × (new.wire.clock.since ≡ old.wire.clock.since)) ⊎ ((x : Frame) × (given ≡ x ∷ []) × (new.wire.clock.since ≡ at))
 
--- a run of one step, with what its answer says
+-- a run of one step, with what its answer says; the bytes that reads gave are told as one event at most
 pub record Stepped {L : Type 0} (link : Ghosts L) (at : ℕ) (old : State L) (result : Result EngineStep Error) (new : State L) : Type 0 where
   pub run : Ran link old new
   pub few : reads_in run.events ≤ 1
