@@ -4,7 +4,7 @@ use Rattle.std.specs.Prelude.{◌↔◌}
 use Rattle.amqp_wire.specs.declared.link.Link.{Ghosts}
 use Rattle.amqp_wire.specs.declared.link.Held.{Held}
 use Rattle.amqp_wire.specs.declared.link.Held.TheVariants.{Full, Failed as HeldFailed, Memory as HeldMemory}
-use Rattle.amqp_wire.specs.declared.link.Stop.TheVariants.{End as EndStop, Failed}
+use Rattle.amqp_wire.specs.declared.link.Stop.TheVariants.{Empty, End as EndStop, Failed}
 use Rattle.amqp_wire.specs.declared.link.IoKind.TheVariants.{Fault, End}
 use Rattle.amqp_wire.specs.declared.frame.Front.TheVariants.{Refused, Foreign}
 use Rattle.amqp_wire.specs.Events.{LinkEvent, NotRead, NotWritten, Includes, read_of, reads_in}
@@ -21,7 +21,8 @@ use Rattle.amqp_transport.specs.declared.transport.Error.TheVariants as fault
 use Rattle.amqp_transport.specs.declared.transport.Flush.{Flush}
 use Rattle.amqp_transport.specs.declared.transport.Next.{Next}
 use Rattle.amqp_transport.specs.declared.transport.Next.TheVariants as next
-use Rattle.amqp_transport.specs.Causes.{IsUnspelled, Allows}
+use Rattle.amqp_transport.specs.Causes.{IsUnspelled, Allows, IsLast}
+use Rattle.amqp_transport.proofs.Passing.{last_included, last_left}
 use Rattle.amqp_transport.specs.Clocks.{IsDue}
 use Rattle.amqp_transport.specs.Kinds.{amqp_spells, no_frame}
 use Rattle.amqp_transport.specs.Stream.{Grew, frames_of}
@@ -141,13 +142,16 @@ fresh (Some e) y a = absurd (cc a)
 input_is : {L : Type 0} (old : State L) (es fs : List LinkEvent) → read_of es ≡ [] → input_of old (fs ++ es) ≡ input_of old fs
 input_is old es fs n = ap (λ (u : List ℕ). old.wire.codec.input ++ u) (read_of-append fs es ∙ ap (λ (u : List ℕ). u ++ read_of fs) n)
 
+included : (fs es : List LinkEvent) (y : LinkEvent) → IsLast fs y → Includes (fs ++ es) y
+included fs es y p = includes_left fs es y (last_included fs y p)
+
 -- the transport gave an error
 told_err : {L : Type 0} (link : Ghosts L) (at : ℕ) (old : State L) (wire : Wire L) (e : TransportFault) (result : Result EngineStep Error) (new : State L) (g : Grew link 0 amqp_spells old.wire at (Err e) wire) (es : List LinkEvent) → IsListening old.phase → read_of es ≡ [] → After at (record old { wire = wire }) (Err e) result new → IsTold at old (g.events ++ es) [] [] result new
 told_err link at old wire (fault.Memory m) result new g es l n a = told_is at old (g.events ++ es) [] [] result (Err (error.Memory m)) new a.0 tt
 told_err link at old wire (fault.Io Fault) result new g es l n a =
-    told_fault at old (record old { wire = wire }) (g.events ++ es) (fault.Io Fault) result new a.0 a.1 (λ c. inl (includes_left g.events es (NotRead Failed) (g.cause (c (listening_holds old.phase l)))))
+    told_fault at old (record old { wire = wire }) (g.events ++ es) (fault.Io Fault) result new a.0 a.1 (λ c. inl (included g.events es (NotRead Failed) (g.cause (c (listening_holds old.phase l)))))
 told_err link at old wire (fault.Io End) result new g es l n a =
-    told_fault at old (record old { wire = wire }) (g.events ++ es) (fault.Io End) result new a.0 a.1 (λ c. includes_left g.events es (NotRead EndStop) (g.cause (c (listening_holds old.phase l))))
+    told_fault at old (record old { wire = wire }) (g.events ++ es) (fault.Io End) result new a.0 a.1 (λ c. included g.events es (NotRead EndStop) (g.cause (c (listening_holds old.phase l))))
 told_err link at old wire fault.IdleTimeoutElapsed result new g es l n a =
     told_fault at old (record old { wire = wire }) (g.events ++ es) fault.IdleTimeoutElapsed result new a.0 a.1 (λ c. g.cause (c (listening_holds old.phase l)))
 told_err link at old wire fault.DecodeError result new g es l n a =
@@ -181,7 +185,8 @@ told_pending : {L : Type 0} (link : Ghosts L) (at : ℕ) (old : State L) (wire :
 told_pending {L} link at old wire new g es l u w n =
     let phase : new.phase ≡ old.phase = ap (λ (t : State L). t.phase) n in
     record {
-      found = includes_left g.events es _ (g.cause (fresh old.wire.kept next.Pending g.again));
+      last = last_left g.events es (NotRead Empty) (g.cause (fresh old.wire.kept next.Pending g.again));
+      found = included g.events es (NotRead Empty) (g.cause (fresh old.wire.kept next.Pending g.again));
       written = written_then old new g.events es (listening_holds old.phase l) (ap (λ (t : State L). t.wire.codec.output) n ∙ g.output) w;
       phase = phase;
       live = ap is_stopped phase ∙ listening_live old.phase l;
@@ -203,7 +208,7 @@ told_after {L} link at old wire (Ok (next.Frame x)) result new g es l u n o w a 
 told_after link at old wire (Ok next.Pending) result new g es l u n o w a =
     told_is at old (g.events ++ es) [] [] result (Ok step.Pending) new a.0 (told_pending link at old wire new g es l u w a.1)
 told_after link at old wire (Ok next.Ended) result new g es l u n o w a =
-    told_fault at old (record old { wire = wire }) (g.events ++ es) (fault.Io End) result new a.0 a.1 (λ c. includes_left g.events es (NotRead EndStop) (g.cause (fresh old.wire.kept next.Ended g.again)).0)
+    told_fault at old (record old { wire = wire }) (g.events ++ es) (fault.Io End) result new a.0 a.1 (λ c. included g.events es (NotRead EndStop) (g.cause (fresh old.wire.kept next.Ended g.again)).0)
 told_after link at old wire (Err e) result new g es l u n o w a = told_err link at old wire e result new g es l n a
 
 -- what is done after the flush, with what its answer says, whatever was written before
@@ -357,7 +362,7 @@ told_fault_before at old to output events fault.FramingError f = f
 
 told_before : {L : Type 0} (at : ℕ) (old : State L) (to : L) (output : List ℕ) (events : List LinkEvent) (given queued : List Frame) (result : Result EngineStep Error) (new : State L) → IsTold at (sent_state old to output) events given queued result new → IsTold at old events given queued result new
 told_before at old to output events given queued (Ok step.Worked) new t = record { worked = t.worked; onward = t.onward; written = t.written }
-told_before at old to output events given queued (Ok step.Pending) new t = record { found = t.found; written = t.written; phase = t.phase; live = t.live; undue = t.undue }
+told_before at old to output events given queued (Ok step.Pending) new t = record { last = t.last; found = t.found; written = t.written; phase = t.phase; live = t.live; undue = t.undue }
 told_before at old to output events given queued (Ok step.Stopped) new t = record { stopped = t.stopped; phase = t.phase; written = t.written }
 told_before at old to output events given queued (Err (error.Memory a)) new t = t
 told_before at old to output events given queued (Err (error.TransportError e)) new t = (t.0, λ c. told_fault_before at old to output events e (t.1 c), t.2)

@@ -41,7 +41,8 @@ pub record IsMistaken (reason : ConnectionStopReason) (given : List Frame) : Typ
   pub is : given ≡ first ∷ []
   pub told : reason ≡ why.Closed
 
--- the peer's Close, after this end has closed for a reason of its own; an error of the peer's is the reason then (part 2, section 2.4.3)
+-- the peer's Close, after this end has closed for a reason of its own; an error of the peer's is the reason then (part 2, section
+-- 2.4.3)
 pub record IsAnswered (reason : ConnectionStopReason) (given : List Frame) : Type 0 where
   pub front : List Frame
   pub channel : ℕ
@@ -55,8 +56,8 @@ pub record IsAnswered (reason : ConnectionStopReason) (given : List Frame) : Typ
 abbrev pub IsOver : ConnectionStopReason → List Frame → Type 0
 IsOver reason given = IsParted reason given ⊎ (IsMistaken reason given ⊎ IsAnswered reason given)
 
--- what was read so far, and the reason that is kept, by how far the connection is (part 2, section 2.4.6); an end that failed has heard
--- all before, or tells no reason of the peer's
+-- What was read so far, and the reason that is kept, by how far the connection is (part 2, section 2.4.6). An engine that failed had
+-- heard all before, or its reason is not the peer's.
 abbrev pub IsHeard : Phase → ConnectionStopReason → List Frame → Type 0
 IsHeard p.OpenSent reason given = (given ≡ []) × (reason ≡ why.Closed)
 IsHeard p.Opened reason given = IsGreeted given × (reason ≡ why.Closed)
@@ -75,7 +76,8 @@ pub record HasLeft (error : Option AmqpError) (given : List Frame) : Type 0 wher
   pub before : (front ≡ []) ⊎ IsGreeted front
   pub is : given ≡ front ++ record { channel = channel; body = b.Close (record { error = error }) } ∷ []
 
--- what a reason says of the frames that were read: where it is the peer's, its Close was read, for that error (part 2, section 2.4.3)
+-- what a reason says of the frames that were read: where it is the peer's, its Close was the last, for that error (part 2, section
+-- 2.4.3)
 abbrev pub IsReason : ConnectionStopReason → List Frame → Type 0
 IsReason why.Closed given = Unit {0}
 IsReason (why.ClosedWithError e) given = IsGreeted given ⊎ IsAnswered (why.ClosedWithError e) given

@@ -7,6 +7,7 @@ use Rattle.amqp_wire.specs.Events.{LinkEvent, NotRead, NotWritten, Includes, rea
 use Rattle.amqp_composites.specs.declared.error.Error.{Error as AmqpError}
 use Rattle.amqp_transport.specs.declared.frames.Frame.{Frame}
 use Rattle.amqp_transport.specs.declared.transport.Error.TheVariants as fault
+use Rattle.amqp_transport.specs.Causes.{IsLast}
 use Rattle.amqp_transport.specs.Clocks.{IsDue}
 use Rattle.amqp_engine.specs.declared.engine.EngineStep.{EngineStep}
 use Rattle.amqp_engine.specs.declared.engine.EngineStep.TheVariants as step
@@ -26,8 +27,9 @@ use Rattle.amqp_engine.specs.Faults.{IsFault}
 abbrev pub IsWritten : Phase → List LinkEvent → List ℕ → Type 0
 IsWritten phase events output = (has_failed phase ≡ true) ⊎ (Includes events (NotWritten Full) ⊎ (output ≡ []))
 
--- nothing is there: no heartbeat was due, and the last read found the link empty
+-- nothing is there: no heartbeat was due, and at last a read found the link empty
 pub record HasWaited {L : Type 0} (at : ℕ) (old : State L) (events : List LinkEvent) (new : State L) : Type 0 where
+  pub last : IsLast events (NotRead Empty)
   pub found : Includes events (NotRead Empty)
   pub written : Includes events (NotWritten Full) ⊎ (new.wire.codec.output ≡ [])
   pub phase : new.phase ≡ old.phase
@@ -81,7 +83,7 @@ IsTold at old events given queued (Err (error.RemoteClosedWithError e)) new = �
 abbrev pub IsMoment : {L : Type 0} → ℕ → State L → List Frame → State L → Type 0
 IsMoment at old given new = ((given ≡ []) × (new.wire.clock.since ≡ old.wire.clock.since)) ⊎ ((x : Frame) × (given ≡ x ∷ []) × (new.wire.clock.since ≡ at))
 
--- a run of one step, with what its answer says
+-- a run of one step, with what its answer says; the bytes that reads gave are told as one event at most
 pub record Stepped {L : Type 0} (link : Ghosts L) (at : ℕ) (old : State L) (result : Result EngineStep Error) (new : State L) : Type 0 where
   pub run : Ran link old new
   pub few : reads_in run.events ≤ 1

@@ -1,10 +1,11 @@
 -- What passed at a link as reads gave bytes, event by event.
-use Rattle.std.proofs.Common.{◌≡◌, ◌≤◌, ℕ, List, [], ◌∷◌, ◌++◌, Option, Some, None, refl, sym, ◌∙◌, subst, arith}
+use Rattle.std.proofs.Common.{inl, ◌≡◌, ◌≤◌, ℕ, List, [], ◌∷◌, ◌++◌, Option, Some, None, refl, sym, ◌∙◌, subst, arith}
 use Rattle.amqp_wire.specs.declared.link.Link.{Ghosts}
 use Rattle.amqp_wire.specs.declared.link.Stop.{Stop}
 use Rattle.amqp_wire.specs.Steps.{Gave, ReadBy}
 use Rattle.amqp_wire.specs.Codec.{Codec, Fed}
-use Rattle.amqp_wire.specs.Events.{LinkEvent, Read, NotRead, Went, read_of, wrote_of, reads_in}
+use Rattle.amqp_wire.specs.Events.{LinkEvent, Read, NotRead, Went, read_of, wrote_of, reads_in, Includes}
+use Rattle.amqp_transport.specs.Causes.{IsLast}
 
 abbrev pub read_events : List ℕ → List LinkEvent
 read_events [] = []
@@ -34,3 +35,13 @@ passed link a b (x ∷ xs) (Some s) r = record { went = (r.mid, (a, refl, (omega
 -- bytes that came in with no answer of the last read
 pub fed_reads : {L : Type 0} (link : Ghosts L) (a b : Codec L) (bytes : List ℕ) → Fed link a bytes b → ReadBy link a.link bytes None b.link
 fed_reads link a b bytes f = record { mid = b.link; gave = f.gave; none = f.none; last = refl }
+
+-- the last event is one of them
+pub last_included : (events : List LinkEvent) (y : LinkEvent) → IsLast events y → Includes events y
+last_included [] y p = absurd p
+last_included (x ∷ events) y p = inl p
+
+-- the last event is the last, whatever was before
+pub last_left : (fs es : List LinkEvent) (y : LinkEvent) → IsLast fs y → IsLast (fs ++ es) y
+last_left [] es y p = absurd p
+last_left (x ∷ fs) es y p = p

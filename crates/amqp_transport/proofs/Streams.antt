@@ -13,12 +13,12 @@ use Rattle.amqp_transport.specs.declared.transport.Next.{Next}
 use Rattle.amqp_transport.specs.declared.transport.Next.TheVariants.{Frame, Pending, Ended}
 use Rattle.amqp_wire.specs.Size.{size_of}
 use Rattle.amqp_wire.specs.Frame.{HasBody, IsFront}
-use Rattle.amqp_wire.specs.Events.{LinkEvent, NotRead, Includes}
+use Rattle.amqp_wire.specs.Events.{LinkEvent, NotRead}
 use Rattle.amqp_wire.specs.declared.link.IoKind.TheVariants.{Fault, End as EndKind}
 use Rattle.amqp_wire.specs.Codec.{Codec, limits_of}
 use Rattle.amqp_transport.specs.Wire.{Wire, Waits, Ends, Fails, Answered, IsMemory, IsIdle, Polled, PolledAt, keeping}
 use Rattle.amqp_transport.specs.Stream.{IsFrame, Joined, frames_of, Grew}
-use Rattle.amqp_transport.specs.Causes.{IsCause, Allows, clock_after, kept_after}
+use Rattle.amqp_transport.specs.Causes.{IsCause, IsLast, Allows, clock_after, kept_after}
 use Rattle.amqp_transport.proofs.Passing.{Passed, events_of, passed, fed_reads}
 use Rattle.amqp_wire.proofs.Cuts.{size_of-take}
 
@@ -144,7 +144,7 @@ told_waits kind spells limit at events old otherwise after result new t w =
       | inr n ↦ let p = w.other n in told_is kind spells limit at events old result otherwise new after p.0 p.1 t
     ]
 
-told_ends : {L X : Type 0} (kind : ℕ) (spells : ℕ → List ℕ → X → Type 0) (limit at : ℕ) (events : List LinkEvent) (input : List ℕ) (old : Wire L) (result : Result (Next X) Error) (new : Wire L) → old.codec.input ≡ input → Includes events (NotRead End) → Ends old result new → Told kind spells limit at events old result new
+told_ends : {L X : Type 0} (kind : ℕ) (spells : ℕ → List ℕ → X → Type 0) (limit at : ℕ) (events : List LinkEvent) (input : List ℕ) (old : Wire L) (result : Result (Next X) Error) (new : Wire L) → old.codec.input ≡ input → IsLast events (NotRead End) → Ends old result new → Told kind spells limit at events old result new
 told_ends {L} {X} kind spells limit at events [] old result new e i w =
     let p = w.whole e in told_is kind spells limit at events old result (Ok Ended) new old p.0 p.1 (record { clock = refl; kept = refl; cause = (i, e) })
 told_ends kind spells limit at events (b ∷ bs) old result new e i w = told_fails kind spells limit at events old (Io EndKind) result new refl i (w.cut (λ n. absurd (cc (e, n))))
@@ -153,9 +153,9 @@ pub told : {L X : Type 0} (kind : ℕ) (spells : ℕ → List ℕ → X → Type
 told kind spells limit at Refused stop bytes old result new f p = told_fails kind spells limit at (events_of bytes stop) old FramingError result new refl f p
 told kind spells limit at Foreign stop bytes old result new f p = told_fails kind spells limit at (events_of bytes stop) old NotImplemented result new refl f p
 told kind spells limit at Partial None bytes old result new f p = absurd p
-told kind spells limit at Partial (Some Empty) bytes old result new f p = told_waits kind spells limit at _ old (Ok Pending) old result new (record { clock = refl; kept = refl; cause = inl refl }) p
-told kind spells limit at Partial (Some Failed) bytes old result new f p = told_waits kind spells limit at _ old (Err (Io Fault)) (keeping old (Io Fault)) result new (record { clock = refl; kept = refl; cause = inl refl }) p
-told kind spells limit at Partial (Some End) bytes old result new f p = told_ends kind spells limit at _ old.codec.input old result new refl (inl refl) p
+told kind spells limit at Partial (Some Empty) bytes old result new f p = told_waits kind spells limit at _ old (Ok Pending) old result new (record { clock = refl; kept = refl; cause = refl }) p
+told kind spells limit at Partial (Some Failed) bytes old result new f p = told_waits kind spells limit at _ old (Err (Io Fault)) (keeping old (Io Fault)) result new (record { clock = refl; kept = refl; cause = refl }) p
+told kind spells limit at Partial (Some End) bytes old result new f p = told_ends kind spells limit at _ old.codec.input old result new refl refl p
 told {L} kind spells limit at (Whole size start channel) stop bytes old (Ok (Frame x)) new f p =
     record { clock = ap (λ (w : Wire L). w.clock) p.1; kept = ap (λ (w : Wire L). w.kept) p.1; cause = tt }
 told kind spells limit at (Whole size start channel) stop bytes old (Ok Pending) new f p = absurd p

@@ -33,8 +33,8 @@ frames_of (Ok Pending) = []
 frames_of (Ok Ended) = []
 frames_of (Err e) = []
 
--- At most one read gave bytes and at most one frame went out, so that the frames so far, joined with what is left, are the bytes
--- so far. The answer has its cause, unless it is an error that is answered again.
+-- Bytes came in, told as one event at most, and at most one frame went out, so that the frames so far, joined with what is left, are
+-- the bytes so far. The answer has its cause, unless it is an error that is answered again.
 pub record Grew {L X : Type 0} (link : Ghosts L) (kind : ℕ) (spells : ℕ → List ℕ → X → Type 0) (old : Wire L) (at : ℕ) (result : Result (Next X) Error) (new : Wire L) : Type 0 where
   pub events : List LinkEvent
   pub went : Went link old.codec.link events new.codec.link
