@@ -29,7 +29,7 @@ use Rattle.amqp_opening.proofs.Exchanges.{same_made, gated_nothing}
 use Rattle.amqp_opening.proofs.Openings.{has_begun, has_begun_plain}
 use Rattle.amqp_words.specs.declared.call.Call.{Call}
 use Rattle.amqp_words.specs.declared.open_error.OpenError.{OpenError}
-use Rattle.amqp_words.specs.declared.open_error.OpenError.TheVariants as open
+use Rattle.amqp_words.specs.declared.open_error.OpenError.TheVariants as failed
 use Rattle.amqp_words.specs.declared.reply.Reply.{Reply}
 use Rattle.amqp_words.specs.declared.reply.Reply.TheVariants as reply
 use Rattle.amqp_words.specs.declared.reply.NamedReply.{NamedReply}
@@ -189,7 +189,7 @@ ended_done o (Some p) e r = subst IsMidway e r
 
 -- it failed
 fails_open : {L : Type 0} (link : Ghosts L) (old : Peering L) (o o' : Opened L Authentication) (p : Option Prepared) (left : ℕ) (e : NegotiationError) (h : List Local) → old.held ≡ Early o p → IsReadyWith o p → (n : OpeningRan {E = AllocError} link peer_mechanism o (2 ^ 62) (Ok (poll.Failed e)) o' left) → IsWaiting old h
-    → HasFailedOpen (told (record old { held = Early o' p }) (reply.OpenError (open.Negotiation e))) (Replied (open_failed old.name (open.Negotiation e)) ∷ at_link n.events ++ h)
+    → HasFailedOpen (told (record old { held = Early o' p }) (reply.OpenError (failed.Negotiation e))) (Replied (open_failed old.name (failed.Negotiation e)) ∷ at_link n.events ++ h)
 fails_open {L} link old o o' p left e h l r n w =
     let q = at_passed n.events in
     let k = held_early w.call old.held o p h l r w.called in
@@ -204,20 +204,20 @@ fails_open {L} link old o o' p left e h l r n w =
     record {
       call = w.call;
       name = old.name;
-      error = open.Negotiation e;
+      error = failed.Negotiation e;
       made = calls;
-      replied = ap (λ (u : List NamedReply). u ++ open_failed old.name (open.Negotiation e) ∷ []) (replied_after h q ∙ w.replied);
+      replied = ap (λ (u : List NamedReply). u ++ open_failed old.name (failed.Negotiation e) ∷ []) (replied_after h q ∙ w.replied);
       called = record {
-        holds = subst (λ (s : Stage). IsHeldAt s w.call o' p (Replied (open_failed old.name (open.Negotiation e)) ∷ at_link n.events ++ h)) (sym n.comes.0) wrote;
+        holds = subst (λ (s : Stage). IsHeldAt s w.call o' p (Replied (open_failed old.name (failed.Negotiation e)) ∷ at_link n.events ++ h)) (sym n.comes.0) wrote;
         caused = (cause, q.caused h w.called.caused);
       };
       done = λ z. ended_done o' p n.comes.0 z;
     }
 
 pub early_fails : {L : Type 0} (link : Ghosts L) (at : ℕ) (old : Peering L) (o o' : Opened L Authentication) (p : Option Prepared) (left : ℕ) (e : NegotiationError) → old.held ≡ Early o p → IsReadyWith o p → OpeningRan {E = AllocError} link peer_mechanism o (2 ^ 62) (Ok (poll.Failed e)) o' left
-    → Rested link at (2 ^ 62) old (told (record old { held = Early o' p }) (reply.OpenError (open.Negotiation e)))
+    → Rested link at (2 ^ 62) old (told (record old { held = Early o' p }) (reply.OpenError (failed.Negotiation e)))
 early_fails {L} link at old o o' p left e l r n =
-    let answer = open_failed old.name (open.Negotiation e) in
+    let answer = open_failed old.name (failed.Negotiation e) in
     record {
       run = record {
         events = Replied answer ∷ at_link n.events;
@@ -335,7 +335,7 @@ pub connect_fails : {L : Type 0} (link : Ghosts L) (at : ℕ) (old : Peering L) 
     → Rested link at 0 old (told (record old { held = Unopened back.codec }) (reply.OpenError (open_error_of e)))
 connect_fails {L} link at old o p (connection.Memory x) back l r c n = absurd (n x refl)
 connect_fails {L} link at old o p (connection.TransportError transport.FramingError) back l r c n =
-    let answer = open_failed old.name (open.TransportError transport.FramingError) in
+    let answer = open_failed old.name (failed.TransportError transport.FramingError) in
     record {
       run = record {
         events = Replied answer ∷ [];
@@ -350,7 +350,7 @@ connect_fails {L} link at old o p (connection.TransportError transport.FramingEr
             inl (record {
               call = w.1.call;
               name = old.name;
-              error = open.TransportError transport.FramingError;
+              error = failed.TransportError transport.FramingError;
               made = w.1.made;
               replied = ap (λ (u : List NamedReply). u ++ answer ∷ []) w.1.replied;
               called = record {

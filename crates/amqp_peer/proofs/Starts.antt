@@ -25,7 +25,7 @@ use Rattle.amqp_opening.proofs.Exchanges.{gated_nothing}
 use Rattle.amqp_opening.proofs.Openings.{has_begun, has_begun_plain}
 use Rattle.amqp_words.specs.declared.call.Call.{Call}
 use Rattle.amqp_words.specs.declared.call.Call.TheVariants.{Close}
-use Rattle.amqp_words.specs.declared.open_error.OpenError.TheVariants as open
+use Rattle.amqp_words.specs.declared.open_error.OpenError.TheVariants as failed
 use Rattle.amqp_words.specs.declared.reply.Reply.TheVariants as reply
 use Rattle.amqp_words.specs.declared.reply.NamedReply.{NamedReply}
 use Rattle.amqp_peer.specs.declared.held.Held.{Held}
@@ -133,8 +133,8 @@ pub begins_refused : {L : Type 0} (link : Ghosts L) (at n : ℕ) (call : Call) (
     → RestedFrom link at n (IsAsked call old) old new
 begins_refused {L} link at n call old new o p0 c e l sasl r m f =
     let held : f.held ≡ Early (record o { stage = stage.Ended }) p0 = subst (λ (x : Held L). EndedEarly x f.held) l f.ended in
-    let answer = open_failed old.name (open.Negotiation e) in
-    subst (λ (z : Peering L). RestedFrom link at n (IsAsked call old) old z) (sym (f.is ∙ ap (λ (x : Held L). told (record old { held = x }) (reply.OpenError (open.Negotiation e))) held))
+    let answer = open_failed old.name (failed.Negotiation e) in
+    subst (λ (z : Peering L). RestedFrom link at n (IsAsked call old) old z) (sym (f.is ∙ ap (λ (x : Held L). told (record old { held = x }) (reply.OpenError (failed.Negotiation e))) held))
     (record {
       run = record {
         events = Replied answer ∷ [];
@@ -146,7 +146,7 @@ begins_refused {L} link at n call old new o p0 c e l sasl r m f =
         grows = λ h t a. inl (record {
               call = call;
               name = old.name;
-              error = open.Negotiation e;
+              error = failed.Negotiation e;
               made = a.made;
               replied = ap (λ (u : List NamedReply). u ++ answer ∷ []) a.replied;
               called = record {

@@ -33,7 +33,7 @@ use Rattle.amqp_opening.specs.Authentication.{peer_mechanism, MadeFor, HasAllowe
 use Rattle.amqp_opening.specs.Opening.{amqp_header, IsOpeningCause}
 use Rattle.amqp_words.specs.declared.call.Call.{Call}
 use Rattle.amqp_words.specs.declared.call.Call.TheVariants as call
-use Rattle.amqp_words.specs.declared.open_error.OpenError.TheVariants as open
+use Rattle.amqp_words.specs.declared.open_error.OpenError.TheVariants as failed
 use Rattle.amqp_words.specs.declared.reply.Reply.{Reply}
 use Rattle.amqp_words.specs.declared.reply.Reply.TheVariants as reply
 use Rattle.amqp_peer.specs.declared.prepared.Prepared.{Prepared}
@@ -202,11 +202,11 @@ abbrev pub HasCause : List Local → Reply → Type 0
 HasCause h reply.Pending = ⊤
 HasCause h reply.Connection = IsMade h
 HasCause h reply.Closed = IsParted h
-HasCause h (reply.OpenError (open.Negotiation e)) = OpenCauseIn (made_in h) e (link_in h)
-HasCause h (reply.OpenError (open.TransportError e)) = Once (TransportCause e) h
-HasCause h (reply.OpenError open.RemoteClosed) = IsShut None (given_in h)
-HasCause h (reply.OpenError (open.RemoteClosedWithError e)) = IsShut (Some e) (given_in h)
-HasCause h (reply.OpenError open.IllegalState) = Once (λ g. IsOther (given_in g)) h
+HasCause h (reply.OpenError (failed.Negotiation e)) = OpenCauseIn (made_in h) e (link_in h)
+HasCause h (reply.OpenError (failed.TransportError e)) = Once (TransportCause e) h
+HasCause h (reply.OpenError failed.RemoteClosed) = IsShut None (given_in h)
+HasCause h (reply.OpenError (failed.RemoteClosedWithError e)) = IsShut (Some e) (given_in h)
+HasCause h (reply.OpenError failed.IllegalState) = Once (λ g. IsOther (given_in g)) h
 HasCause h (reply.ConnectionError e) = ConnectionCause e h
 
 -- each reply has its cause

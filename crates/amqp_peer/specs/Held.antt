@@ -152,7 +152,7 @@ bound c idle at = record { codec = c; clock = record { idle = idle_of idle; sinc
 -- the connection began, or its Open was too large
 abbrev pub IsConnecting : {L : Type 0} → Wire L → Prepared → Result Unit ConnectionFault → Held L → Type 0
 IsConnecting {L} w p (Ok u) new = (s : State L) × (new ≡ Late s) × OpensTo w p.end (Ok s)
-IsConnecting {L} w p (Err e) new = (back : Wire L) × (new ≡ Unopened back.codec) × OpensTo {L} w p.end (Err (e, back))
+IsConnecting {L} w p (Err e) new = (back : Wire L) × (new ≡ Unopened back.codec) × OpensTo {L = L} w p.end (Err (e, back))
 
 abbrev pub ConnectedWith : {L : Type 0} → Opened L Authentication → Option Prepared → ℕ → Result Unit ConnectionFault → Held L → Type 0
 ConnectedWith o None at result new = ⊥

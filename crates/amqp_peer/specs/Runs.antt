@@ -10,7 +10,7 @@ use Rattle.amqp_wire.specs.Events.{NotRead, NotWritten, Went, Includes, reads_in
 use Rattle.amqp_engine.specs.declared.error.Error.{Error as ConnectionFault}
 use Rattle.amqp_engine.specs.declared.error.Error.TheVariants as fault
 use Rattle.amqp_words.specs.declared.open_error.OpenError.{OpenError}
-use Rattle.amqp_words.specs.declared.open_error.OpenError.TheVariants as open
+use Rattle.amqp_words.specs.declared.open_error.OpenError.TheVariants as failed
 use Rattle.amqp_words.specs.declared.reply.Reply.{Reply}
 use Rattle.amqp_words.specs.declared.reply.Reply.TheVariants as reply
 use Rattle.sasl_gate.specs.declared.gate.error.NegotiationError.{NegotiationError}
@@ -99,13 +99,13 @@ pub record Stepped {L : Type 0} (link : Ghosts L) (old : Peering L) (first : Loc
 
 -- what an open or accept is answered for a fault
 abbrev pub open_error_of : ConnectionFault → OpenError
-open_error_of (fault.TransportError e) = open.TransportError e
-open_error_of fault.RemoteClosed = open.RemoteClosed
-open_error_of (fault.RemoteClosedWithError e) = open.RemoteClosedWithError e
-open_error_of (fault.Memory a) = open.IllegalState
-open_error_of fault.IllegalState = open.IllegalState
-open_error_of fault.NotImplemented = open.IllegalState
-open_error_of fault.NotFound = open.IllegalState
+open_error_of (fault.TransportError e) = failed.TransportError e
+open_error_of fault.RemoteClosed = failed.RemoteClosed
+open_error_of (fault.RemoteClosedWithError e) = failed.RemoteClosedWithError e
+open_error_of (fault.Memory a) = failed.IllegalState
+open_error_of fault.IllegalState = failed.IllegalState
+open_error_of fault.NotImplemented = failed.IllegalState
+open_error_of fault.NotFound = failed.IllegalState
 
 -- what the caller is told of the reason for which a connection has stopped: none where this end closed it
 abbrev pub told_by : ConnectionStopReason → Option ConnectionFault
@@ -138,7 +138,7 @@ error_in p = error_by p.fault (reason_of p.held)
 
 -- why an open or accept failed; a connection that has stopped before it was made always tells why
 abbrev pub open_failure : Option ConnectionFault → OpenError
-open_failure None = open.IllegalState
+open_failure None = failed.IllegalState
 open_failure (Some e) = open_error_of e
 
 -- how an open or accept is answered in the end, and how a close is
@@ -188,4 +188,4 @@ greeted p = greeted_in p.progress p
 pub record Refused {L : Type 0} (old : Peering L) (e : NegotiationError) (new : Peering L) : Type 0 where
   pub held : Held L
   pub ended : EndedEarly old.held held
-  pub is : new ≡ told (record old { held = held }) (reply.OpenError (open.Negotiation e))
+  pub is : new ≡ told (record old { held = held }) (reply.OpenError (failed.Negotiation e))

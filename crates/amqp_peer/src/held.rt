@@ -5,7 +5,7 @@ ghost use Rattle.amqp_engine.specs.Calls.{Sends};
 ghost use Rattle.amqp_engine.specs.State.{State, closing, close_frame, stop_reason_of};
 ghost use Rattle.amqp_peer.specs.contracts.held.Held.{the_row};
 ghost use Rattle.amqp_peer.specs.declared.held.Held.{Held};
-ghost use Rattle.amqp_peer.specs.Held.{IsThere, IsEarly, IsReady, IsExchanged, IsActive, IsLate, with_link, link_at, nothing_held, BeganWith, BeganPlain, EndedEarly, RanEarly, Connected, SteppedLate, ClosedLate, is_made, reason_of};
+ghost use Rattle.amqp_peer.specs.Held.{IsThere, IsEarly, IsReady, IsExchanged, IsActive, IsLate, with_link, link_at, nothing_held, BeganWith, BeganPlain, EndedEarly, RanEarly, Connected, IsConnecting, bound, SteppedLate, ClosedLate, is_made, reason_of};
 
 use amqp_composites::error::Error as AmqpError;
 use amqp_engine::{ConnectionEngine, EngineStep, Error as ConnectionError};
@@ -160,21 +160,35 @@ impl<L: Link> Held<L> {
         ensures there { IsThere self.new }
     {
         match mem::replace(self, Held::Moving) {
-            Held::Early(opening, Some(prepared)) => {
-                let idle = prepared.idle.map(u64::from);
-                let transport = Transport::bind_to_framed_codec(opening.into_codec(), idle, at);
-                match ConnectionEngine::open(alloc, transport, prepared.end) {
-                    Ok(engine) => {
-                        *self = Held::Late(engine);
-                        Ok(())
-                    }
-                    Err((error, transport)) => {
-                        *self = Held::Unopened(transport.into_framed_codec());
-                        Err(error)
-                    }
-                }
-            }
+            Held::Early(opening, prepared) => match prepared {
+                Some(prepared) => self.begin_connection(alloc, at, opening, prepared),
+                None => unreachable!(),
+            },
             _ => unreachable!(),
+        }
+    }
+
+    fn begin_connection(
+        &mut self,
+        alloc: Global,
+        at: u64,
+        opening: Opening<L, Authentication>,
+        prepared: Prepared,
+    ) -> Result<(), ConnectionError>
+        ensures connecting { IsConnecting (bound opening.negotiation.codec prepared.idle at) prepared result self.new }
+        ensures there { IsThere self.new }
+    {
+        let idle = prepared.idle.map(u64::from);
+        let transport = Transport::bind_to_framed_codec(opening.into_codec(), idle, at);
+        match ConnectionEngine::open(alloc, transport, prepared.end) {
+            Ok(engine) => {
+                *self = Held::Late(engine);
+                Ok(())
+            }
+            Err((error, transport)) => {
+                *self = Held::Unopened(transport.into_framed_codec());
+                Err(error)
+            }
         }
     }
 
