@@ -107,15 +107,13 @@ fn other_headers_are_refused(rt: HostRuntime) -> Result<(), Fail> {
     let alloc = rt.alloc();
     let plain = begun(alloc, Authentication::Idle, None)?;
     refused(&rt, plain, &SASL_HEADER, "NotImplemented", &AMQP_HEADER)?;
+    let error = "ProtocolHeaderMismatch";
     let exchange = client(&rt, alloc)?;
     let sasl = begun(alloc, Authentication::Idle, Some(exchange))?;
-    refused(
-        &rt,
-        sasl,
-        &AMQP_HEADER,
-        "ProtocolHeaderMismatch",
-        &SASL_HEADER,
-    )
+    refused(&rt, sasl, &AMQP_HEADER, error, &SASL_HEADER)?;
+    let exchange = listener(&rt, alloc)?;
+    let sasl = begun(alloc, Authentication::Idle, Some(exchange))?;
+    refused(&rt, sasl, &AMQP_HEADER, error, &SASL_HEADER)
 }
 
 // The AMQP header comes byte by byte, the last one with what follows it.
@@ -137,53 +135,4 @@ fn kept<X: Exchange>(rt: &impl Abort, mut opening: Opening<Pipe, X>) -> Result<(
 fn plain_opening_keeps_what_follows(rt: HostRuntime) -> Result<(), Fail> {
     let plain = begun(rt.alloc(), Authentication::Idle, None)?;
     kept(&rt, plain)
-}
-
-// What one end has written, and the other was not given yet, reaches it.
-fn carried<X: Exchange>(
-    from: &mut Opening<Pipe, X>,
-    to: &mut Opening<Pipe, X>,
-    alloc: Global,
-) -> Result<&'static str, Fail> {
-    let bytes = from.link_ref().untaken().to_vec(alloc)?;
-    from.link().taken(bytes.len());
-    given(to, &bytes)
-}
-
-// The SASL headers, the bodies of both ends, and then the AMQP headers.
-fn opened<X: Exchange>(
-    rt: &impl Abort,
-    alloc: Global,
-    mut client: Opening<Pipe, X>,
-    mut server: Opening<Pipe, X>,
-) -> Result<(), Fail> {
-    assert!(rt; given(&mut client, b"")? == "pending");
-    for _ in 0..2 {
-        assert!(rt; carried(&mut client, &mut server, alloc)? == "pending");
-        assert!(rt; carried(&mut server, &mut client, alloc)? == "pending");
-    }
-    assert!(rt; carried(&mut client, &mut server, alloc)? == "pending");
-    assert!(rt; carried(&mut server, &mut client, alloc)? == "exchanged");
-    assert!(rt; carried(&mut client, &mut server, alloc)? == "exchanged");
-    Ok(())
-}
-
-// Both ends of an exchange over a pipe, each with what it is before it begins.
-fn both_opened<X: Exchange>(
-    rt: &impl Abort,
-    alloc: Global,
-    client: (X, X),
-    server: (X, X),
-) -> Result<(), Fail> {
-    let client = begun(alloc, client.0, Some(client.1))?;
-    let server = begun(alloc, server.0, Some(server.1))?;
-    opened(rt, alloc, client, server)
-}
-
-#[test]
-fn both_ends_pass(rt: HostRuntime) -> Result<(), Fail> {
-    let client = client(&rt, rt.alloc())?;
-    let server = listener(&rt, rt.alloc())?;
-    let client = (Authentication::Idle, client);
-    both_opened(&rt, rt.alloc(), client, (Authentication::Idle, server))
 }
