@@ -75,6 +75,11 @@ guarded_at m s Ended n events h = absurd h
 pub has_guarded : {L X : Type 0} (m : Mechanism X) (o : Opened L X) (events : List LinkEvent) → HasOpening m o events → IsGuarded m o.has_sasl o.negotiation.exchange events
 has_guarded m o events h = guarded_at m o.has_sasl o.stage o.negotiation events h
 
+-- both AMQP headers are there
+pub has_exchanged : {L X : Type 0} (m : Mechanism X) (o : Opened L X) (events : List LinkEvent) → o.stage ≡ Exchanged → HasOpening m o events
+    → HasIntro o.has_sasl m o.negotiation.exchange (amqp_header ++ o.negotiation.codec.input) o.negotiation.codec.output events
+has_exchanged m o events stage h = subst (λ (s : Stage). HasAt m o.has_sasl s o.negotiation events) stage h
+
 -- the link that it holds is no part of what it says
 negotiation_with : {L X : Type 0} (m : Mechanism X) (p : Phase) (n : Negotiating L X) (w : L) (events : List LinkEvent) → HasIn m p n events → HasIn m p (record n { codec = record n.codec { link = w } }) events
 negotiation_with m HeaderPhase n w events h = record { read = h.read; wrote = h.wrote; held = h.held }
