@@ -17,6 +17,7 @@ use Rattle.amqp_engine.specs.Phases.{state_of, is_stopped, has_failed}
 use Rattle.amqp_engine.specs.Sentence.{Ran}
 use Rattle.amqp_engine.specs.State.{State, stop_reason_of}
 use Rattle.amqp_words.specs.declared.call.Call.{Call}
+use Rattle.amqp_words.specs.declared.call.Call.TheVariants.{Close}
 use Rattle.amqp_words.specs.declared.reply.Reply.{Reply}
 use Rattle.amqp_words.specs.declared.reply.Reply.TheVariants as reply
 use Rattle.amqp_words.specs.declared.reply.NamedReply.{NamedReply}
@@ -46,7 +47,7 @@ record Moves {L : Type 0} (link : Ghosts L) (n : ℕ) (old new : Peering L) (es 
   pub answered_is : replied_in es ≡ answers
   pub few : reads_in (link_in es) ≤ n
 
-advanced : {L : Type 0} (link : Ghosts L) (at n : ℕ) (old new : Peering L) (es : List Local) (answers : List NamedReply) → Moves link n old new es answers → new.replies ≡ old.replies ++ answers → new.kind ≡ old.kind
+abbrev advanced : {L : Type 0} (link : Ghosts L) (at n : ℕ) (old new : Peering L) (es : List Local) (answers : List NamedReply) → Moves link n old new es answers → new.replies ≡ old.replies ++ answers → new.kind ≡ old.kind
     → ((h : List Local) → moment_in h ≡ at → Has old h → Has new (es ++ h)) → Advanced link at n old new
 advanced link at n old new es answers m a k g =
     record { events = es; inside = m.inside; went = m.went; answers = a ∙ ap (λ (u : List NamedReply). old.replies ++ u) (sym m.answered_is); few = m.few; kind = k; grows = g }
@@ -243,30 +244,33 @@ close_ends : (e : Option ConnectionFault) → IsCloseEnd (close_reply e)
 close_ends None = tt
 close_ends (Some e) = tt
 
-finish_close : {L : Type 0} (old : Peering L) (s : State L) (h : List Local) → old.held ≡ Late s → is_stopped s.phase ≡ true → (has_failed s.phase ≡ true) ⊎ (Includes (link_in h) (NotWritten Full) ⊎ (s.wire.codec.output ≡ [])) → IsClosing old h
+pub finish_close : {L : Type 0} (old : Peering L) (s : State L) (h : List Local) (call : Call) (name : ℕ) (error : Option (List ℕ)) → old.held ≡ Late s → is_stopped s.phase ≡ true → (has_failed s.phase ≡ true) ⊎ (Includes (link_in h) (NotWritten Full) ⊎ (s.wire.codec.output ≡ []))
+    → made_in h ≡ (old.name, Close error) ∷ (name, call) ∷ [] → HasCalled call old.held h → IsMadeIn old.fault old.held h
+    → ((r : NamedReply) → (replied_in h ++ r ∷ [] ≡ pending name ∷ made_reply name ∷ pending old.name ∷ r ∷ []) ⊎ (replied_in h ++ r ∷ [] ≡ pending name ∷ made_reply name ∷ r ∷ []))
     → HasClosed (finished old (close_reply (error_in old))) (Replied (answered old.name (close_reply (error_in old))) ∷ h)
-finish_close {L} old s h e z f w =
-    let k = is_running w.call old.held s h e w.called in
-    let i : BeginsWithOpen (given_in h) × IsFaultIn old.fault s h = subst (λ (x : Held L). IsMadeIn old.fault x h) e w.is_made in
-    let c : HasCause h (close_reply (error_in old)) = subst (λ (r : _). HasCause h (close_reply (error_by old.fault r))) (sym (ap reason_of e)) (close_cause w.call old.fault s h k z f i.0 i.1) in
+finish_close {L} old s h call name error e z f made called is_made replied =
+    let k = is_running call old.held s h e called in
+    let i : BeginsWithOpen (given_in h) × IsFaultIn old.fault s h = subst (λ (x : Held L). IsMadeIn old.fault x h) e is_made in
+    let c : HasCause h (close_reply (error_in old)) = subst (λ (r : _). HasCause h (close_reply (error_by old.fault r))) (sym (ap reason_of e)) (close_cause call old.fault s h k z f i.0 i.1) in
     record {
-      call = w.call;
-      name = w.name;
+      call = call;
+      name = name;
       closing = old.name;
-      error = w.error;
+      error = error;
       reply = close_reply (error_in old);
-      made = w.made;
+      made = made;
       end = close_ends (error_in old);
-      replied = elim w.replied [
-        | inl y ↦ inr (ap (λ (u : List NamedReply). u ++ answered old.name (close_reply (error_in old)) ∷ []) y)
-        | inr y ↦ inl (ap (λ (u : List NamedReply). u ++ answered old.name (close_reply (error_in old)) ∷ []) y)
-      ];
-      called = called_keeps w.call old.held h (answered old.name (close_reply (error_in old))) c w.called;
+      replied = replied (answered old.name (close_reply (error_in old)));
+      called = called_keeps call old.held h (answered old.name (close_reply (error_in old))) c called;
       done = λ z. subst IsBusy e z;
     }
 
+finish_waiting : {L : Type 0} (old : Peering L) (s : State L) (h : List Local) → old.held ≡ Late s → is_stopped s.phase ≡ true → (has_failed s.phase ≡ true) ⊎ (Includes (link_in h) (NotWritten Full) ⊎ (s.wire.codec.output ≡ [])) → IsClosing old h
+    → HasClosed (finished old (close_reply (error_in old))) (Replied (answered old.name (close_reply (error_in old))) ∷ h)
+finish_waiting old s h e z f w = finish_close old s h w.call w.name w.error e z f w.made w.called w.is_made (λ r. inl (ap (λ (u : List NamedReply). u ++ r ∷ []) w.replied))
+
 -- what was queued is written after a step that rests
-written_after : {L : Type 0} {link : Ghosts L} {s s' : State L} (h : List Local) (r : Ran link s s') → IsWritten s'.phase r.events s'.wire.codec.output → (has_failed s'.phase ≡ true) ⊎ (Includes (link_in (moved r ++ h)) (NotWritten Full) ⊎ (s'.wire.codec.output ≡ []))
+pub written_after : {L : Type 0} {link : Ghosts L} {s s' : State L} (h : List Local) (r : Ran link s s') → IsWritten s'.phase r.events s'.wire.codec.output → (has_failed s'.phase ≡ true) ⊎ (Includes (link_in (moved r ++ h)) (NotWritten Full) ⊎ (s'.wire.codec.output ≡ []))
 written_after h r (inl f) = inl f
 written_after h r (inr (inl y)) = inr (inl (subst (λ (es : List LinkEvent). Includes es (NotWritten Full)) (sym (link_after h (passed r))) (includes_left r.events (link_in h) (NotWritten Full) y)))
 written_after h r (inr (inr y)) = inr (inr y)
@@ -304,7 +308,7 @@ stopped_in {L} link at progress.Opening old s s' p e st =
 stopped_in link at progress.Open old s s' p e st = stopped_quiet link at old s s' e st
 stopped_in {L} link at progress.Closing old s s' p e st =
     stopped_answered link at old s s' (close_reply (error_in (record old { held = Late s' }))) e st
-    (λ h t x. inr (finish_close (record old { held = Late s' }) s' (moved st.run ++ h) refl st.told.stopped (written_after h st.run st.told.written) (stopped_has link at progress.Closing old s s' h st t e (subst (λ (z : Progress). HasIn z old h) p x))))
+    (λ h t x. inr (finish_waiting (record old { held = Late s' }) s' (moved st.run ++ h) refl st.told.stopped (written_after h st.run st.told.written) (stopped_has link at progress.Closing old s s' h st t e (subst (λ (z : Progress). HasIn z old h) p x))))
 stopped_in link at progress.Over old s s' p e st = stopped_quiet link at old s s' e st
 
 pub stopped_rests : {L : Type 0} (link : Ghosts L) (at : ℕ) (old : Peering L) (s s' : State L) → old.held ≡ Late s → EngineStepped link at s (Ok step.Stopped) s' → Rested link at 1 old (concluded (record old { held = Late s' }))
@@ -328,7 +332,7 @@ worked_advances link at old s s' e st = greets_in link at old.progress old s s' 
 
 -- ---- steps after steps
 
-pub advanced_then : {L : Type 0} (link : Ghosts L) (at m n : ℕ) (P : List Local → Type 0) (a b c : Peering L) → AdvancedFrom link at m P a b → Advanced link at n b c → AdvancedFrom link at (m + n) P a c
+abbrev pub advanced_then : {L : Type 0} (link : Ghosts L) (at m n : ℕ) (P : List Local → Type 0) (a b c : Peering L) → AdvancedFrom link at m P a b → Advanced link at n b c → AdvancedFrom link at (m + n) P a c
 advanced_then {L} link at m n P a b c x y =
     record {
       events = y.events ++ x.events;
@@ -340,10 +344,10 @@ advanced_then {L} link at m n P a b c x y =
       grows = λ h t p. subst (λ (u : List Local). Has c u) (sym (append_assoc y.events x.events h)) (y.grows (x.events ++ h) (moment_in-inside x.events h x.inside ∙ t) (x.grows h t p));
     }
 
-pub advanced_more : {L : Type 0} (link : Ghosts L) (at m n : ℕ) (P : List Local → Type 0) (a b : Peering L) → m ≤ n → AdvancedFrom link at m P a b → AdvancedFrom link at n P a b
+abbrev pub advanced_more : {L : Type 0} (link : Ghosts L) (at m n : ℕ) (P : List Local → Type 0) (a b : Peering L) → m ≤ n → AdvancedFrom link at m P a b → AdvancedFrom link at n P a b
 advanced_more link at m n P a b l x = record { events = x.events; inside = x.inside; went = x.went; answers = x.answers; few = omega (arith, x.few, l); kind = x.kind; grows = x.grows }
 
-pub advanced_none : {L : Type 0} (link : Ghosts L) (at : ℕ) (a : Peering L) → Advanced link at 0 a a
+abbrev pub advanced_none : {L : Type 0} (link : Ghosts L) (at : ℕ) (a : Peering L) → Advanced link at 0 a a
 advanced_none link at a = record { events = []; inside = tt; went = λ d. refl; answers = sym (append-nil a.replies); few = omega arith; kind = refl; grows = λ h t p. p }
 
 pub worked_none : {L : Type 0} (link : Ghosts L) (at : ℕ) (a : Peering L) → Worked link at 0 a a

@@ -46,7 +46,7 @@ heard_open_more h r o = subst BeginsWithOpen (sym (given_after h (passed r))) (b
 -- at most one frame is read
 one_frame : {L : Type 0} (at : ℕ) (s s' : State L) (given : List Frame) → IsMoment at s given s' → length given ≤ 1
 one_frame at s s' given (inl k) = omega (arith, ap length k.0)
-one_frame at s s' given (inr k) = omega (arith, ap length k.1.0)
+one_frame at s s' given (inr k) = omega (arith, ap length k.1)
 
 -- ---- where the connection is not made
 
@@ -259,7 +259,7 @@ refused_unheard link at call (connection.RemoteClosedWithError x) s s' h st a k 
 
 pub unmade_failed : {L : Type 0} (link : Ghosts L) (at : ℕ) (call : Call) (fault : Option ConnectionFault) (e : ConnectionFault) (s s' : State L) (h : List Local) (st : Stepped link at s (Err e) s') → IsRunning call s h → prepared_in (made_in h) ≡ prepared_of call → moment_in h ≡ at → (a : (x : _) → e ≡ connection.Memory x → ⊥)
     → IsUnmadeAt fault s h → IsUnmadeAt (first_fault fault e) s' (moved st.run ++ h)
-unmade_failed link at call None e s s' h st k prep m a u = early_cause link at call e s s' h st k u prep m a
+unmade_failed link at call None e s s' h st k prep m a u = (early_cause link at call e s s' h st k u prep m a, refused_unheard link at call e s s' h st a k (λ z. u.unheard))
 unmade_failed link at call (Some f) e s s' h st k prep m a u = (once_more (EarlyFault f) (moved st.run) h u.0, refused_unheard link at call e s s' h st a k u.1)
 
 late_cause : {L : Type 0} (link : Ghosts L) (at : ℕ) (call : Call) (e : ConnectionFault) (s s' : State L) (h : List Local) (st : Stepped link at s (Err e) s') → IsRunning call s h → BeginsWithOpen (given_in h) → prepared_in (made_in h) ≡ prepared_of call → moment_in h ≡ at → (a : (x : _) → e ≡ connection.Memory x → ⊥) → Once (LateFault e) (moved st.run ++ h)
@@ -282,7 +282,7 @@ fault_failed link at call (Some f) e s s' h st k o prep m a u = once_more (LateF
 pub is_running : {L : Type 0} (call : Call) (held : Held L) (s : State L) (h : List Local) → held ≡ Late s → HasCalled call held h → IsRunning call s h
 is_running {L} call held s h e c = subst (λ (x : Held L). IsHeld call x h) e c.holds
 
-called_moves : {L : Type 0} (link : Ghosts L) (at : ℕ) (call : Call) (held : Held L) (s s' : State L) (h : List Local) (r : Ran link s s') → IsMoment at s r.given s' → moment_in h ≡ at → held ≡ Late s → HasCalled call held h → HasCalled call (Late s') (moved r ++ h)
+pub called_moves : {L : Type 0} (link : Ghosts L) (at : ℕ) (call : Call) (held : Held L) (s s' : State L) (h : List Local) (r : Ran link s s') → IsMoment at s r.given s' → moment_in h ≡ at → held ≡ Late s → HasCalled call held h → HasCalled call (Late s') (moved r ++ h)
 called_moves link at call held s s' h r m t e c = record { holds = running_grows link at call s s' h r m t (is_running call held s h e c); caused = (passed r).caused h c.caused }
 
 -- Whatever becomes of its fault: the same calls, the same replies.
@@ -322,7 +322,7 @@ closing_moves {L} link at old s s' fault h r m t e g w =
       name = w.name;
       error = w.error;
       made = made_after h (passed r) ∙ w.made;
-      replied = elim w.replied [ inl z ↦ inl (replied_after h (passed r) ∙ z) | inr z ↦ inr (replied_after h (passed r) ∙ z) ];
+      replied = replied_after h (passed r) ∙ w.replied;
       called = called_moves link at w.call old.held s s' h r m t e w.called;
       is_made = (heard_open_more h r i.0, g w.call (is_running w.call old.held s h e w.called) (ap prepared_in w.made) i.0 i.1);
     }

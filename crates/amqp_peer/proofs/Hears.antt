@@ -17,7 +17,7 @@ use Rattle.amqp_peer.specs.Causes.{BeginsWithOpen, IsOther}
 use Rattle.amqp_peer.specs.Held.{is_made_state}
 
 -- what the first frame is
-first_kind : List Frame → Option BodyKind
+abbrev first_kind : List Frame → Option BodyKind
 first_kind [] = None
 first_kind (x ∷ xs) = Some (kind_of x.body)
 
@@ -74,20 +74,26 @@ heard_length p.Ended reason xs (inr (inr h)) f n = answered_length reason xs h
 heard_length p.Failed reason xs h f n = absurd (cc f)
 
 -- what comes later does not change what came first
-first_or : Frame → List Frame → Frame
+abbrev first_or : Frame → List Frame → Frame
 first_or d [] = d
 first_or d (x ∷ xs) = x
 
+one_not : 1 ≤ 0 → ⊥
+one_not n = omega (arith, n)
+
+two_not : (x first z : Frame) (zs : List Frame) → x ∷ z ∷ zs ≡ first ∷ [] → ⊥
+two_not x first z zs e = omega (arith, ap length e)
+
 pub begins_front : (xs ys : List Frame) → 1 ≤ length xs → BeginsWithOpen (xs ++ ys) → BeginsWithOpen xs
-begins_front [] ys n o = omega (arith, n)
+begins_front [] ys n o = absurd (one_not n)
 begins_front (x ∷ xs) ys n o = record { channel = o.channel; first = o.first; more = xs; is = ap (λ (z : Frame). z ∷ xs) (ap (first_or x) o.is) }
 
 nothing_behind : (x first : Frame) (xs ys : List Frame) → x ∷ (xs ++ ys) ≡ first ∷ [] → x ∷ xs ≡ first ∷ []
 nothing_behind x first [] ys e = ap (λ (z : Frame). z ∷ []) (ap (first_or x) e)
-nothing_behind x first (z ∷ zs) ys e = omega (arith, ap length e)
+nothing_behind x first (z ∷ zs) ys e = absurd (two_not x first z (zs ++ ys) e)
 
 pub other_front : (xs ys : List Frame) → 1 ≤ length xs → IsOther (xs ++ ys) → IsOther xs
-other_front [] ys n o = omega (arith, n)
+other_front [] ys n o = absurd (one_not n)
 other_front (x ∷ xs) ys n o = record { first = o.first; other = o.other; is = nothing_behind x o.first xs ys o.is }
 
 -- a frame other than Open came first, and so Open did not

@@ -225,9 +225,9 @@ replies_in progress.Idle p h x = replies_as [] (made_in h) (replied_in h) x.made
 replies_in progress.Opening p h x = replies_as ((p.name, x.call) ∷ []) (made_in h) (replied_in h) x.made (inl x.replied)
 replies_in progress.Open p h x = replies_as ((x.name, x.call) ∷ []) (made_in h) (replied_in h) x.made (inr (inl x.replied))
 replies_in progress.Closing p h x =
-    replies_as ((p.name, Close x.error) ∷ (x.name, x.call) ∷ []) (made_in h) (replied_in h) x.made (elim x.replied [ inl z ↦ inl z | inr z ↦ inr (inl z) ])
+    replies_as ((p.name, Close x.error) ∷ (x.name, x.call) ∷ []) (made_in h) (replied_in h) x.made (inl x.replied)
 replies_in progress.Over p h (inl x) = replies_as ((x.name, x.call) ∷ []) (made_in h) (replied_in h) x.made (inr (inr (x.error, x.replied)))
-replies_in progress.Over p h (inr x) = replies_as ((x.closing, Close x.error) ∷ (x.name, x.call) ∷ []) (made_in h) (replied_in h) x.made (inr (inr (x.reply, x.end, x.replied)))
+replies_in progress.Over p h (inr x) = replies_as ((x.closing, Close x.error) ∷ (x.name, x.call) ∷ []) (made_in h) (replied_in h) x.made (inr (x.reply, x.end, x.replied))
 
 pub replies_law : {L : Type 0} (p : Peering L) (h : List Local) → Has p h → AreReplies (made_in h) (replied_in h)
 replies_law p h x = replies_in p.progress p h x

@@ -79,7 +79,7 @@ since_one events given queued x h e =
 
 pub since_after : {L : Type 0} {link : Ghosts L} {old new : State L} (at : ℕ) (r : Ran link old new) (h : List Local) → moment_in h ≡ at → IsMoment at old r.given new → old.wire.clock.since ≡ since_in h → new.wire.clock.since ≡ since_in (moved r ++ h)
 since_after at r h m (inl k) s = k.1 ∙ s ∙ sym (since_parts r.events r.given r.queued h k.0)
-since_after at r h m (inr k) s = k.2.1 ∙ sym m ∙ sym (since_one r.events r.given r.queued k.0 h k.1.0)
+since_after at r h m (inr k) s = k.2 ∙ sym m ∙ sym (since_one r.events r.given r.queued k.0 h k.1)
 
 -- Open stays the first
 pub begins_more : (xs ys : List Frame) → BeginsWithOpen xs → BeginsWithOpen (xs ++ ys)

@@ -4,6 +4,8 @@ use Rattle.std.proofs.lemmas.List.{append-nil}
 use Rattle.std.proofs.lemmas.Option.{same_Some}
 use Rattle.std.specs.declared.alloc.AllocError.{AllocError}
 use Rattle.amqp_wire.specs.declared.link.Link.{Ghosts}
+use Rattle.amqp_wire.specs.declared.link.Stop.TheVariants.{Empty}
+use Rattle.amqp_wire.specs.declared.link.Held.TheVariants.{Full}
 use Rattle.amqp_wire.specs.Events.{LinkEvent, NotRead, NotWritten, Includes, Went, reads_in, read_of, wrote_of}
 use Rattle.amqp_transport.specs.declared.frames.Frame.{Frame}
 use Rattle.amqp_transport.specs.declared.transport.Error.TheVariants as transport
@@ -48,7 +50,7 @@ use Rattle.amqp_peer.specs.Replies.{pending, open_failed, answered}
 use Rattle.amqp_peer.specs.Runs.{IsSettled, AdvancedFrom, Advanced, RestedFrom, Rested, IsAsked, Refused, told, open_error_of}
 use Rattle.amqp_peer.proofs.Advances.{advanced_then, rested_then, called_keeps}
 use Rattle.amqp_peer.proofs.Histories.{made_in-append, link_in-append, replied_in-append, made_in-keeps, given_in-append, sent_in-append, given_in-at, sent_in-at, replied_in-at, link_in-at, inside-at, caused-at, once_now}
-use Rattle.amqp_peer.proofs.Moved.{Passed, passed_parts, made_after, link_after, given_after, sent_after, replied_after}
+use Rattle.amqp_peer.proofs.Moved.{Passed, made_after, link_after, given_after, sent_after, replied_after}
 use Rattle.amqp_peer.proofs.Written.{written_guarded, written_exchanging}
 
 -- ---- what passed at the link alone
@@ -98,7 +100,7 @@ way_ready o o' (Some p) r u = u
 -- ---- the exchange of headers goes on
 
 -- the opening that is held
-opening_or : {L : Type 0} → Opened L Authentication → Held L → Opened L Authentication
+abbrev opening_or : {L : Type 0} → Opened L Authentication → Held L → Opened L Authentication
 opening_or d (Early o p) = o
 opening_or d (Late s) = d
 opening_or d (Unopened c) = d
@@ -139,8 +141,8 @@ few_in : (es : List LinkEvent) (left total : ℕ) → left + reads_in es ≡ tot
 few_in es left total n = let z = ap reads_in (link_in-at es) in omega (arith, n, z)
 
 settled_in : (es : List LinkEvent) (left : ℕ) → left + reads_in es ≡ 2 ^ 62 → IsHeldUp es left → IsSettled (at_link es)
-settled_in es left n (inl a) = inl (subst (λ (u : List LinkEvent). Includes u (NotRead _)) (sym (link_in-at es)) a)
-settled_in es left n (inr (inl a)) = inr (inl (subst (λ (u : List LinkEvent). Includes u (NotWritten _)) (sym (link_in-at es)) a))
+settled_in es left n (inl a) = inl (subst (λ (u : List LinkEvent). Includes u (NotRead Empty)) (sym (link_in-at es)) a)
+settled_in es left n (inr (inl a)) = inr (inl (subst (λ (u : List LinkEvent). Includes u (NotWritten Full)) (sym (link_in-at es)) a))
 settled_in es left n (inr (inr a)) = let z = ap reads_in (link_in-at es) in inr (inr (inl (omega (arith, n, z, a))))
 
 -- what an end that waits holds

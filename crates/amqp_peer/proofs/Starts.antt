@@ -2,14 +2,18 @@
 use Rattle.std.proofs.Common.{◌≡◌, ◌≤◌, ◌+◌, ◌^◌, ◌⊎◌, inl, inr, ℕ, List, [], ◌∷◌, ◌++◌, Bool, true, false, length, Option, Some, None, Result, Ok, Err, refl, sym, ap, ◌∙◌, subst, append_assoc, arith}
 use Rattle.std.proofs.lemmas.List.{append-nil}
 use Rattle.amqp_wire.specs.declared.link.Link.{Ghosts}
-use Rattle.amqp_wire.specs.Events.{LinkEvent, Went, reads_in, read_of, wrote_of}
+use Rattle.amqp_wire.specs.declared.link.Held.TheVariants.{Full}
+use Rattle.amqp_wire.specs.Events.{LinkEvent, NotWritten, Includes, Went, reads_in, read_of, wrote_of}
 use Rattle.amqp_composites.specs.declared.error.Error.{Error as AmqpError}
 use Rattle.amqp_engine.specs.declared.error.Error.{Error as ConnectionFault}
 use Rattle.amqp_engine.specs.declared.error.Error.TheVariants as connection
 use Rattle.amqp_transport.specs.declared.transport.Error.TheVariants as transport
 use Rattle.amqp_engine.specs.Calls.{IsTooLarge}
-use Rattle.amqp_engine.specs.Outcomes.{HasClosed as EngineClosed}
-use Rattle.amqp_engine.specs.Phases.{has_failed}
+use Rattle.amqp_engine.specs.declared.engine.EngineStep.TheVariants as step
+use Rattle.amqp_engine.specs.declared.phase.Phase.{Phase}
+use Rattle.amqp_engine.specs.declared.phase.Phase.TheVariants as p
+use Rattle.amqp_engine.specs.Outcomes.{IsMoment, IsOnward, IsRefusal, Stepped as EngineStepped, HasClosed as EngineClosed}
+use Rattle.amqp_engine.specs.Phases.{has_failed, is_stopped}
 use Rattle.amqp_engine.specs.Sentence.{Ran}
 use Rattle.amqp_engine.specs.State.{State, closing, close_frame, close_phase}
 use Rattle.sasl_gate.specs.declared.gate.error.NegotiationError.{NegotiationError}
@@ -33,24 +37,24 @@ use Rattle.amqp_peer.specs.declared.held.Held.TheVariants.{Early, Late, Unopened
 use Rattle.amqp_peer.specs.declared.peer.Progress.{Progress}
 use Rattle.amqp_peer.specs.declared.peer.Progress.TheVariants as progress
 use Rattle.amqp_peer.specs.declared.prepared.Prepared.{Prepared}
-use Rattle.amqp_peer.specs.Causes.{closing as own_closing, MadeIn, IsOpenCause, not_allowed, OpenCauseIn, AllCaused, prepared_in}
+use Rattle.amqp_peer.specs.Causes.{closing as own_closing, MadeIn, IsOpenCause, not_allowed, OpenCauseIn, AllCaused, BeginsWithOpen, prepared_in}
 use Rattle.amqp_peer.specs.Gated.{IsTalk, IsGatedIn}
 use Rattle.amqp_peer.specs.Held.{IsReadyWith, IsBusyWith, IsBusy, IsActive, link_at, EndedEarly}
 use Rattle.amqp_peer.specs.History.{Local, Made, Polled, Replied, made_in, link_in, given_in, sent_in, replied_in, moment_in, IsInside, read_in, wrote_in}
 use Rattle.amqp_peer.specs.Peering.{Peering, Has, HasIn, HasCalled, IsHeld, IsHeldAt, IsRunning, IsExchanging, IsUntouched, IsWaiting, IsOpen, IsClosing, HasNothing, HasFailedOpen, HasClosed, HasWritten, IsMadeIn, IsFaultIn, LateFault, link_of}
 use Rattle.amqp_peer.specs.Prepared.{prepared_of, sasl_of}
-use Rattle.amqp_peer.specs.Replies.{pending, connection as made_reply, open_failed}
-use Rattle.amqp_peer.specs.Runs.{AdvancedFrom, Advanced, RestedFrom, Rested, Stepped, IsAsked, IsAskedToClose, Refused, told, error_for, first_fault}
-use Rattle.amqp_peer.proofs.Advances.{called_keeps, settled_left, went_late}
-use Rattle.amqp_peer.proofs.Grows.{closing_moves, fault_same}
+use Rattle.amqp_peer.specs.Replies.{pending, connection as made_reply, open_failed, answered}
+use Rattle.amqp_peer.specs.Runs.{AdvancedFrom, Advanced, RestedFrom, Rested, Stepped, IsAsked, IsAskedToClose, Refused, told, finished, close_reply, error_in, first_fault}
+use Rattle.amqp_peer.proofs.Advances.{called_keeps, settled_left, went_late, finish_close, written_after}
+use Rattle.amqp_peer.proofs.Grows.{closing_moves, fault_same, fault_failed, called_moves, is_running, heard_open_more}
 use Rattle.amqp_peer.proofs.Quiet.{quiet_replied, quiet_made, called_quiet, made_quiet, has_polled}
 use Rattle.amqp_peer.proofs.Histories.{inside-append, link_in-append, given_in-append, sent_in-append, replied_in-append, once_more}
-use Rattle.amqp_peer.proofs.Moved.{moved, passed}
+use Rattle.amqp_peer.proofs.Moved.{moved, passed, made_after, replied_after}
 
 -- ---- an open or accept
 
 -- what an end holds that was asked for it
-asked_early : {L : Type 0} → Opened L Authentication → Held L → Opened L Authentication
+abbrev asked_early : {L : Type 0} → Opened L Authentication → Held L → Opened L Authentication
 asked_early d (Early o p) = o
 asked_early d (Late s) = d
 asked_early d (Unopened c) = d
@@ -106,13 +110,13 @@ begins_plain {L} link at n call old new o p0 p e prep sasl r =
       settled = r.settled;
     }
 
-ended_done_at : {L : Type 0} {o : Opened L Authentication} (p : Option Prepared) → IsBusyWith (record o { stage = stage.Ended }) p → ⊥
-ended_done_at None z = z
-ended_done_at (Some p) z = z
+ended_done_at : {L : Type 0} (o : Opened L Authentication) (p : Option Prepared) → IsBusyWith (record o { stage = stage.Ended }) p → ⊥
+ended_done_at o None z = z
+ended_done_at o (Some p) z = z
 
-ended_not_at : {L : Type 0} {o : Opened L Authentication} (p : Option Prepared) → IsReadyWith (record o { stage = stage.Ended }) p → ⊥
-ended_not_at None z = z
-ended_not_at (Some p) z = z
+ended_not_at : {L : Type 0} (o : Opened L Authentication) (p : Option Prepared) → IsReadyWith (record o { stage = stage.Ended }) p → ⊥
+ended_not_at o None z = z
+ended_not_at o (Some p) z = z
 
 -- an open or accept is refused before anything is written
 nothing_written : (call : Call) (c : SaslCall) (h : List Local) → sasl_of call ≡ Some c → link_in h ≡ [] → HasWritten call h
@@ -153,10 +157,10 @@ begins_refused {L} link at n call old new o p0 c e l sasl r m f =
                 holds = nothing_written call c h sasl a.link;
                 caused = (subst (λ (cs : List (ℕ × Call)). OpenCauseIn cs e (link_in h)) (sym a.made) (refusal_cause c call e h sasl r m), a.caused);
               };
-              done = λ z. ended_done_at {o = o} p0 z;
+              done = λ z. ended_done_at o p0 z;
             });
       };
-      settled = λ z. absurd (ended_not_at {o = o} p0 z);
+      settled = λ z. absurd (ended_not_at o p0 z);
     })
 
 -- the call was made, and answered by pending
@@ -255,48 +259,129 @@ close_fails link at old s s' y connection.NotFound p l c n i = absurd c.told
 close_fails link at old s s' y connection.RemoteClosed p l c n i = absurd c.told
 close_fails link at old s s' y (connection.RemoteClosedWithError x) p l c n i = absurd c.told
 
--- a connection that has stopped is not asked
-pub asked_none : {L : Type 0} (link : Ghosts L) (at : ℕ) (old : Peering L) → AdvancedFrom link at 0 (IsAskedToClose old) old old
-asked_none {L} link at old =
-    record {
-      events = [];
-      inside = tt;
-      went = λ d. refl;
-      answers = sym (append-nil old.replies);
-      few = omega arith;
-      kind = refl;
-      grows = λ h t a. subst (λ (q : Progress). HasIn q old h) (sym a.progress) a.closing;
-    }
-
 -- it was asked, and pending is answered
-waits_to_close : {L : Type 0} (old : Peering L) (h : List Local) → IsAskedToClose old h → Has (record old { replies = old.replies ++ pending old.name ∷ [] }) (Replied (pending old.name) ∷ h)
-waits_to_close {L} old h a =
-    let w = a.closing in
-    subst (λ (q : Progress). HasIn q (record old { replies = old.replies ++ pending old.name ∷ [] }) (Replied (pending old.name) ∷ h)) (sym a.progress)
+waits_to_close : {L : Type 0} (old : Peering L) (h : List Local) → old.progress ≡ progress.Closing → IsAskedToClose old h → Has (record old { replies = old.replies ++ pending old.name ∷ [] }) (Replied (pending old.name) ∷ h)
+waits_to_close {L} old h p w =
+    subst (λ (q : Progress). HasIn q (record old { replies = old.replies ++ pending old.name ∷ [] }) (Replied (pending old.name) ∷ h)) (sym p)
     (record {
       call = w.call;
       name = w.name;
       error = w.error;
       made = w.made;
-      replied = inr (ap (λ (u : List NamedReply). u ++ pending old.name ∷ []) a.unanswered);
+      replied = ap (λ (u : List NamedReply). u ++ pending old.name ∷ []) w.replied;
       called = called_keeps w.call old.held h (pending old.name) tt w.called;
       is_made = made_quiet old.fault old.held h (Replied (pending old.name) ∷ h) (quiet_replied (pending old.name) h) w.is_made;
     })
 
-pub asked_waits : {L : Type 0} (link : Ghosts L) (at : ℕ) (old new : Peering L) → Advanced link at 0 (record old { replies = old.replies ++ pending old.name ∷ [] }) new → AdvancedFrom link at 0 (IsAskedToClose old) old new
-asked_waits {L} link at old new r =
-    let es = r.events in
+pub asked_waits : {L : Type 0} (link : Ghosts L) (at n : ℕ) (old new : Peering L) → old.progress ≡ progress.Closing → Rested link at n (record old { replies = old.replies ++ pending old.name ∷ [] }) new → RestedFrom link at n (IsAskedToClose old) old new
+asked_waits {L} link at n old new p r =
+    let es = r.run.events in
     let one = Replied (pending old.name) ∷ [] in
     let links : link_in (es ++ one) ≡ link_in es = link_in-append es one ∙ append-nil (link_in es) in
     record {
-      events = es ++ one;
-      inside = inside-append es one r.inside tt;
-      went = λ d. subst (λ (u : List LinkEvent). Went link (link_of d old) u (link_of d new)) (sym links) (r.went d);
-      answers = r.answers ∙ append_assoc old.replies (pending old.name ∷ []) (replied_in es) ∙ ap (λ (u : List NamedReply). old.replies ++ u) (sym (replied_in-append es one));
-      few = let z = ap reads_in links in omega (arith, z, r.few);
-      kind = r.kind;
-      grows = λ h t a. subst (λ (u : List Local). Has new u) (sym (append_assoc es one h)) (r.grows (Replied (pending old.name) ∷ h) t (waits_to_close old h a));
+      run = record {
+        events = es ++ one;
+        inside = inside-append es one r.run.inside tt;
+        went = λ d. subst (λ (u : List LinkEvent). Went link (link_of d old) u (link_of d new)) (sym links) (r.run.went d);
+        answers = r.run.answers ∙ append_assoc old.replies (pending old.name ∷ []) (replied_in es) ∙ ap (λ (u : List NamedReply). old.replies ++ u) (sym (replied_in-append es one));
+        few = let z = ap reads_in links in omega (arith, z, r.run.few);
+        kind = r.run.kind;
+        grows = λ h t a. subst (λ (u : List Local). Has new u) (sym (append_assoc es one h)) (r.run.grows (Replied (pending old.name) ∷ h) t (waits_to_close old h p a));
+      };
+      settled = λ a. settled_left es one (r.settled a);
     }
+
+-- the connection has stopped before: what was asked is answered in the step of the engine
+asked_ends : {L : Type 0} (link : Ghosts L) (at : ℕ) (old : Peering L) (s s' : State L) (fault : Option ConnectionFault) (h : List Local) (r : Ran link s s') → IsMoment at s r.given s' → moment_in h ≡ at → old.held ≡ Late s → is_stopped s'.phase ≡ true
+    → (has_failed s'.phase ≡ true) ⊎ (Includes (link_in (moved r ++ h)) (NotWritten Full) ⊎ (s'.wire.codec.output ≡ []))
+    → ((call : Call) → IsRunning call s h → prepared_in (made_in h) ≡ prepared_of call → BeginsWithOpen (given_in h) → IsFaultIn old.fault s h → IsFaultIn fault s' (moved r ++ h)) → IsAskedToClose old h
+    → HasClosed (finished (record old { held = Late s'; fault = fault }) (close_reply (error_in (record old { held = Late s'; fault = fault })))) (Replied (answered old.name (close_reply (error_in (record old { held = Late s'; fault = fault })))) ∷ moved r ++ h)
+asked_ends {L} link at old s s' fault h r m t e z f g w =
+    let mid = record old { held = Late s'; fault = fault } in
+    let i : BeginsWithOpen (given_in h) × IsFaultIn old.fault s h = subst (λ (x : Held L). IsMadeIn old.fault x h) e w.is_made in
+    let answers = replied_after h (passed r) ∙ w.replied in
+    finish_close mid s' (moved r ++ h) w.call w.name w.error refl z f (made_after h (passed r) ∙ w.made) (called_moves link at w.call old.held s s' h r m t e w.called)
+    (heard_open_more h r i.0, g w.call (is_running w.call old.held s h e w.called) (ap prepared_in w.made) i.0 i.1) (λ x. inr (ap (λ (u : List NamedReply). u ++ x ∷ []) answers))
+
+stopped_close : {L : Type 0} (link : Ghosts L) (at : ℕ) (old : Peering L) (s s' : State L) (fault : Option ConnectionFault) (r : Ran link s s') → reads_in r.events ≤ 1 → IsMoment at s r.given s' → old.held ≡ Late s → is_stopped s'.phase ≡ true
+    → ((h : List Local) → (has_failed s'.phase ≡ true) ⊎ (Includes (link_in (moved r ++ h)) (NotWritten Full) ⊎ (s'.wire.codec.output ≡ [])))
+    → ((h : List Local) → moment_in h ≡ at → (call : Call) → IsRunning call s h → prepared_in (made_in h) ≡ prepared_of call → BeginsWithOpen (given_in h) → IsFaultIn old.fault s h → IsFaultIn fault s' (moved r ++ h))
+    → RestedFrom link at 1 (IsAskedToClose old) old (finished (record old { held = Late s'; fault = fault }) (close_reply (error_in (record old { held = Late s'; fault = fault }))))
+stopped_close {L} link at old s s' fault r few m e z f g =
+    let mid = record old { held = Late s'; fault = fault } in
+    let answer = answered old.name (close_reply (error_in mid)) in
+    record {
+      run = record {
+        events = Replied answer ∷ moved r;
+        inside = (passed r).inside;
+        went = went_late link old.held (Late s') s s' r e refl;
+        answers = ap (λ (u : List NamedReply). old.replies ++ (u ++ answer ∷ [])) (sym (passed r).silent);
+        few = subst (λ (es : List LinkEvent). reads_in es ≤ 1) (sym (passed r).link) few;
+        kind = refl;
+        grows = λ h t a. inr (asked_ends link at old s s' fault h r m t e z (f h) (g h t) a);
+      };
+      settled = λ a. absurd (cc (z, a));
+    }
+
+pub close_rests : {L : Type 0} (link : Ghosts L) (at : ℕ) (old : Peering L) (s s' : State L) → old.held ≡ Late s → EngineStepped link at s (Ok step.Stopped) s' → RestedFrom link at 1 (IsAskedToClose old) old (finished (record old { held = Late s' }) (close_reply (error_in (record old { held = Late s' }))))
+close_rests link at old s s' e st =
+    stopped_close link at old s s' old.fault st.run st.few st.moment e st.told.stopped (λ h. written_after h st.run st.told.written) (λ h t call k prep o f. fault_same old.fault s s' h st.run st.told.phase f)
+
+-- a connection that has stopped neither works nor waits
+stopped_not_onward : (q r : Phase) → is_stopped q ≡ true → IsOnward q r → ⊥
+stopped_not_onward p.OpenSent r s o = absurd (cc s)
+stopped_not_onward p.Opened r s o = absurd (cc s)
+stopped_not_onward p.CloseReceived r s o = absurd (cc s)
+stopped_not_onward p.Refused r s o = absurd (cc s)
+stopped_not_onward (p.Rejected why) r s o = absurd (cc s)
+stopped_not_onward p.CloseSent r s o = absurd (cc s)
+stopped_not_onward p.Discarding r s o = absurd (cc s)
+stopped_not_onward p.Ended r s o = o
+stopped_not_onward p.Failed r s o = o
+
+pub close_worked_not : {L : Type 0} (link : Ghosts L) (at : ℕ) (s s' : State L) → is_stopped s.phase ≡ true → EngineStepped link at s (Ok step.Worked) s' → ⊥
+close_worked_not link at s s' e st = stopped_not_onward s.phase s'.phase e st.told.onward
+
+pub close_pending_not : {L : Type 0} (link : Ghosts L) (at : ℕ) (s s' : State L) → is_stopped s.phase ≡ true → EngineStepped link at s (Ok step.Pending) s' → ⊥
+close_pending_not link at s s' e st = absurd (cc (st.told.live, ap is_stopped st.told.phase, e))
+
+stopped_not_refused : (e : ConnectionFault) (q r : Phase) → is_stopped q ≡ true → IsRefusal q e r → ⊥
+stopped_not_refused e p.OpenSent r s o = absurd (cc s)
+stopped_not_refused e p.Opened r s o = absurd (cc s)
+stopped_not_refused e p.CloseReceived r s o = o
+stopped_not_refused e p.Refused r s o = o
+stopped_not_refused e (p.Rejected why) r s o = o
+stopped_not_refused e p.CloseSent r s o = o
+stopped_not_refused e p.Discarding r s o = o
+stopped_not_refused e p.Ended r s o = o
+stopped_not_refused e p.Failed r s o = o
+
+failed_stops : (q : Phase) → has_failed q ≡ true → is_stopped q ≡ true
+failed_stops p.OpenSent f = absurd (cc f)
+failed_stops p.Opened f = absurd (cc f)
+failed_stops p.CloseReceived f = absurd (cc f)
+failed_stops p.Refused f = absurd (cc f)
+failed_stops (p.Rejected why) f = absurd (cc f)
+failed_stops p.CloseSent f = absurd (cc f)
+failed_stops p.Discarding f = absurd (cc f)
+failed_stops p.Ended f = absurd (cc f)
+failed_stops p.Failed f = refl
+
+-- it fails alone by its transport
+stopped_fails : {L : Type 0} (link : Ghosts L) (at : ℕ) (s s' : State L) (e : ConnectionFault) → is_stopped s.phase ≡ true → EngineStepped link at s (Err e) s' → ((x : _) → e ≡ connection.Memory x → ⊥) → has_failed s'.phase ≡ true
+stopped_fails link at s s' (connection.Memory x) z st n = absurd (n x refl)
+stopped_fails link at s s' (connection.TransportError t) z st n = st.told.0
+stopped_fails link at s s' connection.IllegalState z st n = absurd (stopped_not_refused connection.IllegalState s.phase s'.phase z st.told.1)
+stopped_fails link at s s' connection.NotImplemented z st n = absurd (stopped_not_refused connection.NotImplemented s.phase s'.phase z st.told.1)
+stopped_fails link at s s' connection.NotFound z st n = absurd (stopped_not_refused connection.NotFound s.phase s'.phase z st.told.1)
+stopped_fails link at s s' connection.RemoteClosed z st n = absurd st.told
+stopped_fails link at s s' (connection.RemoteClosedWithError x) z st n = absurd st.told
+
+pub close_fails_at_once : {L : Type 0} (link : Ghosts L) (at : ℕ) (old : Peering L) (s s' : State L) (e : ConnectionFault) → old.held ≡ Late s → is_stopped s.phase ≡ true → EngineStepped link at s (Err e) s' → ((x : _) → e ≡ connection.Memory x → ⊥)
+    → RestedFrom link at 1 (IsAskedToClose old) old (finished (record old { held = Late s'; fault = first_fault old.fault e }) (close_reply (error_in (record old { held = Late s'; fault = first_fault old.fault e }))))
+close_fails_at_once link at old s s' e l z st n =
+    let f = stopped_fails link at s s' e z st n in
+    stopped_close link at old s s' (first_fault old.fault e) st.run st.few st.moment l (failed_stops s'.phase f) (λ h. inl f) (λ h t call k prep o x. fault_failed link at call old.fault e s s' h st k o prep t n x)
 
 -- a close was called
 abbrev pub called_to_close : {L : Type 0} → Peering L → ℕ → Peering L
@@ -306,17 +391,13 @@ is_asked_to_close : {L : Type 0} (old : Peering L) (name at : ℕ) (condition : 
 is_asked_to_close old name at condition h w =
     let q = quiet_made at name (Close condition) h in
     record {
-      closing = record {
-        call = w.call;
-        name = w.name;
-        error = condition;
-        made = ap (λ (u : List (ℕ × Call)). (name, Close condition) ∷ u) w.made;
-        replied = inl w.replied;
-        called = called_quiet w.call old.held h (Made at name (Close condition) ∷ h) q w.called.caused w.called;
-        is_made = made_quiet old.fault old.held h (Made at name (Close condition) ∷ h) q w.is_made;
-      };
-      progress = refl;
-      unanswered = w.replied;
+      call = w.call;
+      name = w.name;
+      error = condition;
+      made = ap (λ (u : List (ℕ × Call)). (name, Close condition) ∷ u) w.made;
+      replied = w.replied;
+      called = called_quiet w.call old.held h (Made at name (Close condition) ∷ h) q w.called.caused w.called;
+      is_made = made_quiet old.fault old.held h (Made at name (Close condition) ∷ h) q w.is_made;
     }
 
 pub closed : {L : Type 0} (link : Ghosts L) (at n name : ℕ) (condition : Option (List ℕ)) (old new : Peering L) → n ≤ 2 ^ 63 → old.progress ≡ progress.Open → RestedFrom link at n (IsAskedToClose (called_to_close old name)) (called_to_close old name) new → Stepped link old (Made at name (Close condition)) new

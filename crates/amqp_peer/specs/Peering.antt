@@ -199,13 +199,13 @@ pub record IsOpen {L : Type 0} (p : Peering L) (h : List Local) : Type 0 where
   pub called : HasCalled call p.held h
   pub is_made : IsMadeIn p.fault p.held h
 
--- a close waits, or is to be answered at once
+-- a close waits
 pub record IsClosing {L : Type 0} (p : Peering L) (h : List Local) : Type 0 where
   pub call : Call
   pub name : ℕ
   pub error : Option (List ℕ)
   pub made : made_in h ≡ (p.name, Close error) ∷ (name, call) ∷ []
-  pub replied : (replied_in h ≡ pending name ∷ connection name ∷ []) ⊎ (replied_in h ≡ pending name ∷ connection name ∷ pending p.name ∷ [])
+  pub replied : replied_in h ≡ pending name ∷ connection name ∷ pending p.name ∷ []
   pub called : HasCalled call p.held h
   pub is_made : IsMadeIn p.fault p.held h
 

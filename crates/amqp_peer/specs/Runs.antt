@@ -17,6 +17,7 @@ use Rattle.sasl_gate.specs.declared.gate.error.NegotiationError.{NegotiationErro
 use Rattle.amqp_opening.specs.declared.authentication.Authentication.{Authentication}
 use Rattle.amqp_opening.specs.Opening.{Opened}
 use Rattle.amqp_words.specs.declared.call.Call.{Call}
+use Rattle.amqp_words.specs.declared.call.Call.TheVariants.{Close}
 use Rattle.amqp_peer.specs.declared.prepared.Prepared.{Prepared}
 use Rattle.amqp_peer.specs.declared.held.Held.{Held}
 use Rattle.amqp_peer.specs.declared.held.Held.TheVariants.{Early, Late, Unopened, Moving}
@@ -25,7 +26,7 @@ use Rattle.amqp_peer.specs.declared.peer.Progress.TheVariants as progress
 use Rattle.amqp_peer.specs.Held.{IsActive, EndedEarly, reason_of, is_made}
 use Rattle.amqp_peer.specs.History.{Local, made_in, link_in, given_in, sent_in, replied_in, moment_in, IsInside}
 use Rattle.amqp_peer.specs.Causes.{AllCaused}
-use Rattle.amqp_peer.specs.Peering.{Peering, Has, IsUntouched, IsClosing, link_of}
+use Rattle.amqp_peer.specs.Peering.{Peering, Has, HasCalled, IsMadeIn, IsUntouched, link_of}
 use Rattle.amqp_peer.specs.Replies.{pending, connection, answered}
 
 -- why an end can do no more now: the link had no input or took no output, or a great many reads were made, or frames read and queued
@@ -79,9 +80,13 @@ pub record IsAsked {L : Type 0} (call : Call) (p : Peering L) (h : List Local) :
 
 -- a close was asked for, and not answered yet
 pub record IsAskedToClose {L : Type 0} (p : Peering L) (h : List Local) : Type 0 where
-  pub closing : IsClosing p h
-  pub progress : p.progress ≡ progress.Closing
-  pub unanswered : replied_in h ≡ pending closing.name ∷ connection closing.name ∷ []
+  pub call : Call
+  pub name : ℕ
+  pub error : Option (List ℕ)
+  pub made : made_in h ≡ (p.name, Close error) ∷ (name, call) ∷ []
+  pub replied : replied_in h ≡ pending name ∷ connection name ∷ []
+  pub called : HasCalled call p.held h
+  pub is_made : IsMadeIn p.fault p.held h
 
 -- An end made a step, which began with a call or a poll: what passed at its link, its frames and its replies are added to its
 -- history. It stops where it can do no more now, or where the connection has not begun or has ended.

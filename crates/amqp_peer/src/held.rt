@@ -231,6 +231,17 @@ impl<L: Link> Held<L> {
         }
     }
 
+    /// Whether the connection has begun and stopped.
+    pub fn has_stopped(&self) -> bool
+        requires { IsLate self.now }
+        ensures { result ≡ true → IsActive self.now → ⊥ }
+    {
+        match self {
+            Held::Late(engine) => engine.stop_reason().is_some(),
+            _ => false,
+        }
+    }
+
     /// Why the connection has stopped; none before it has.
     pub fn stop_reason(&self) -> Option<&ConnectionStopReason>
         ensures { option_map (λ r. r.now) result ≡ reason_of self.now }

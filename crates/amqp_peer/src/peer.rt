@@ -1,5 +1,5 @@
 //! One end of a connection: what it is asked to do, and what it answers.
-ghost use Rattle.std.specs.Prelude.{◌≡◌, ◌↔◌, ◌≤◌, ◌<◌, ◌+◌, List, ℕ, [], ◌∷◌, ◌++◌, length, true, false, Ok, Err, Some, None, IfOk, OnOk, OnErr, IsTrue, IsErrOf, IfErr, option_map};
+ghost use Rattle.std.specs.Prelude.{◌≡◌, ◌↔◌, ◌≤◌, ◌<◌, ◌+◌, ◌^◌, List, ℕ, [], ◌∷◌, ◌++◌, length, true, false, Ok, Err, Some, None, IfOk, OnOk, OnErr, IsTrue, IsErrOf, IfErr, option_map};
 ghost use Rattle.std.specs.Borrow.{Lends, sem};
 ghost use Rattle.amqp_peer.specs.contracts.peer.Peer.{the_row};
 ghost use Rattle.amqp_peer.specs.declared.peer.PeerError.TheVariants.{Memory};
@@ -7,7 +7,7 @@ ghost use Rattle.amqp_opening.specs.Permission.{IsAllowedSaslCall};
 ghost use Rattle.amqp_words.specs.declared.call.Call.{Call};
 ghost use Rattle.amqp_peer.specs.declared.peer.Progress.{Progress};
 ghost use Rattle.amqp_peer.specs.Calls.{IsAllowedLayer};
-ghost use Rattle.amqp_peer.specs.Held.{IsThere, IsEarly, IsReady, IsExchanged, IsLate, with_link};
+ghost use Rattle.amqp_peer.specs.Held.{IsThere, IsEarly, IsReady, IsExchanged, IsActive, IsLate, with_link};
 ghost use Rattle.amqp_peer.specs.History.{Made, Polled};
 ghost use Rattle.amqp_peer.specs.Peering.{Peering, fresh, link_of, MayCall};
 ghost use Rattle.amqp_peer.specs.Prepared.{prepared_of, sasl_of};
@@ -96,8 +96,15 @@ pub struct Peer<L: Link> {
 impl<L: Link> Model for Peer<L> {
     ghost use Rattle.amqp_peer.specs.Peering.{Peering};
     ghost use Rattle.amqp_peer.specs.Held.{IsThere};
+    ghost use Rattle.amqp_fields.specs.contracts.map.FieldMap as map;
+    ghost use Rattle.amqp_frames.specs.contracts.shared.ConnectionStopReason as stop_reason;
+    ghost use Rattle.amqp_frames.specs.contracts.shared.IncomingSession as asked;
+    ghost use Rattle.amqp_transport.specs.contracts.frames.Frame as frame;
+    ghost use Rattle.std.specs.Coded.{codes};
 
     ghost Value = { Peering L };
+
+    ghost coded = { Prim.hlevel (codes, map.the_row.coded, stop_reason.the_row.coded, asked.the_row.coded, frame.the_row.coded) };
 
     ghost view = { λ p. record { held = p.held; kind = p.kind; progress = p.progress; name = p.name; fault = p.fault; replies = p.replies; failed = p.failed } };
 
@@ -144,7 +151,7 @@ fn told_of(
     alloc: Global,
     reason: Option<&ConnectionStopReason>,
 ) -> Result<Option<ConnectionError>, AllocError>
-    ensures { IfOk result (λ e. e ≡ told_of (option_map (λ r. r.now) reason)) }
+    ensures { IfOk result (λ e. e ≡ told_of (option_map (λ r. r.now) reason.entry)) }
 {
     match reason {
         Some(ConnectionStopReason::RemoteClosed) => Ok(Some(ConnectionError::RemoteClosed)),
@@ -470,7 +477,7 @@ impl<L: Link> Peer<L> {
     // Queues a Close, unless one is queued or owed.
     fn queue_close(&mut self, condition: Option<Symbol>) -> Result<(), AllocError>
         requires { IsLate self.old.held }
-        ensures ok { OnOk result ((at : ℕ) → Advanced L.Link at 0 self.old self.new) }
+        ensures ok { OnOk result ((at : ℕ) → self.old.progress ≡ Progress.Closing → Advanced L.Link at 0 self.old self.new) }
         ensures late { OnOk result (IsLate self.new.held) }
         ensures alive { self.new.failed ≡ self.old.failed }
     {
@@ -485,19 +492,44 @@ impl<L: Link> Peer<L> {
         }
     }
 
-    // A close waits where the connection has not stopped.
-    fn ask_close(&mut self, condition: Option<Symbol>) -> Result<(), AllocError>
+    // A close waits: its Close goes out, and the peer's is awaited.
+    fn close_open(&mut self, at: u64, condition: Option<Symbol>) -> Result<(), AllocError>
         requires { IsLate self.old.held }
-        ensures ok { OnOk result ((at : ℕ) → AdvancedFrom L.Link at 0 (IsAskedToClose self.old) self.old self.new) }
-        ensures late { OnOk result (IsLate self.new.held) }
+        ensures ok { OnOk result (self.old.progress ≡ Progress.Closing → RestedFrom L.Link at (2 ^ 62) (IsAskedToClose self.old) self.old self.new) }
         ensures alive { self.new.failed ≡ self.old.failed }
     {
-        if self.held.stop_reason().is_some() {
-            discard(condition);
-            return Ok(());
-        }
         self.answer(Reply::Pending)?;
-        self.queue_close(condition)
+        self.queue_close(condition)?;
+        self.go_on(at)
+    }
+
+    // The connection has stopped before: a close is answered at once.
+    fn close_stopped(&mut self, at: u64) -> Result<(), AllocError>
+        requires late { IsLate self.old.held }
+        requires stopped { IsActive self.old.held → ⊥ }
+        ensures ok { OnOk result (RestedFrom L.Link at 1 (IsAskedToClose self.old) self.old self.new) }
+        ensures alive { self.new.failed ≡ self.old.failed }
+    {
+        match self.held.step(at) {
+            Ok(_) => self.conclude_close(),
+            Err(ConnectionError::Memory(error)) => Err(error),
+            Err(error) => {
+                self.note(error);
+                self.conclude_close()
+            }
+        }
+    }
+
+    fn close_on(&mut self, at: u64, condition: Option<Symbol>) -> Result<(), AllocError>
+        requires { IsLate self.old.held }
+        ensures ok { OnOk result (self.old.progress ≡ Progress.Closing → RestedFrom L.Link at (2 ^ 62) (IsAskedToClose self.old) self.old self.new) }
+        ensures alive { self.new.failed ≡ self.old.failed }
+    {
+        if self.held.has_stopped() {
+            discard(condition);
+            return self.close_stopped(at);
+        }
+        self.close_open(at, condition)
     }
 
     // A close of this name; it is answered at once where the connection has stopped.
@@ -508,8 +540,7 @@ impl<L: Link> Peer<L> {
     {
         self.name = name;
         self.progress = Progress::Closing;
-        self.ask_close(condition)?;
-        self.go_on(at)
+        self.close_on(at, condition)
     }
 
     fn make(&mut self, at: u64, name: u64, call: Call) -> Result<(), AllocError>
