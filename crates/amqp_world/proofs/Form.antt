@@ -1,5 +1,5 @@
 -- The replies of a step have their form.
-use Rattle.std.proofs.Common.{◌≡◌, ◌<◌, ◌+◌, ◌⊎◌, ◌==◌, ⊤, inl, inr, List, ℕ, [], ◌∷◌, ◌++◌, Bool, true, false, if◌then◌else◌, length, refl, sym, ap, ◌∙◌, subst, arith}
+use Rattle.std.proofs.Common.{◌≡◌, ◌<◌, ◌+◌, ◌⊎◌, ◌==◌, inl, inr, List, ℕ, [], ◌∷◌, ◌++◌, Bool, true, false, if◌then◌else◌, length, refl, sym, ap, ◌∙◌, subst, arith}
 use Rattle.std.proofs.lemmas.Bool.{eqb-true}
 use Rattle.amqp_words.specs.declared.open_error.OpenError as open_error
 use Rattle.amqp_words.specs.declared.call.Call as peer_call
@@ -40,7 +40,7 @@ named_right cs (x ∷ xs) ys p = named_right cs xs ys p.1
 -- ---- names fall, the newest first
 
 abbrev Falls : ℕ → List (ℕ × peer_call.Call) → Type 0
-Falls n [] = ⊤
+Falls n [] = Unit {0}
 Falls n (c ∷ cs) = (c.0 < n) × Falls c.0 cs
 
 falls_below : (n k : ℕ) (cs : List (ℕ × peer_call.Call)) → n < k → Falls n cs → Falls k cs

@@ -54,7 +54,15 @@ impl Model for World {
     ghost use Rattle.amqp_world.specs.WorldView.{WorldView};
     ghost use Rattle.amqp_world.specs.Related.{Related, view_of};
 
+    ghost use Rattle.std.specs.Coded.{codes};
+    ghost use Rattle.amqp_fields.specs.contracts.map.FieldMap as map;
+    ghost use Rattle.amqp_frames.specs.contracts.shared.ConnectionStopReason as stop_reason;
+    ghost use Rattle.amqp_frames.specs.contracts.shared.IncomingSession as asked;
+    ghost use Rattle.amqp_transport.specs.contracts.frames.Frame as frame;
+
     ghost Value = { WorldView };
+
+    ghost coded = { Prim.hlevel (codes, map.the_row.coded, stop_reason.the_row.coded, asked.the_row.coded, frame.the_row.coded) };
 
     ghost view = { λ w. view_of w.both w.failed };
 
