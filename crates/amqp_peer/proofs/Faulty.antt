@@ -17,11 +17,12 @@ use Rattle.amqp_engine.specs.Faults.{IsFault, IsOwed}
 use Rattle.amqp_engine.specs.Sentence.{Ran}
 use Rattle.amqp_engine.specs.State.{State, error_for}
 use Rattle.amqp_words.specs.declared.call.Call.{Call}
+use Rattle.amqp_transport.specs.Wire.{idle_of}
 use Rattle.amqp_peer.specs.declared.prepared.Prepared.{Prepared}
 use Rattle.amqp_peer.specs.Causes.{prepared_in, idle_with, HasIdled, IsOwn, closing, beating, IsOverlarge, IsRefusedAt, IsForeignAt, IsUnspelledAt, TransportCause}
 use Rattle.amqp_peer.specs.History.{Local, made_in, link_in, moment_in, since_in, at_link, got, put, Once}
 use Rattle.amqp_peer.specs.Peering.{IsRunning}
-use Rattle.amqp_peer.specs.Prepared.{prepared_of, idle_of}
+use Rattle.amqp_peer.specs.Prepared.{prepared_of}
 use Rattle.amqp_peer.proofs.Moved.{moved, passed, link_after}
 use Rattle.amqp_peer.proofs.Written.{read_running}
 

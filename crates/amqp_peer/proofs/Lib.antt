@@ -10,3 +10,5 @@ pub mod Advances
 pub mod Openings
 pub mod Starts
 pub mod Laws
+pub mod Bound
+pub mod Turns

@@ -9,7 +9,7 @@ use Rattle.amqp_wire.specs.declared.link.Held.TheVariants.{Full}
 use Rattle.amqp_wire.specs.Events.{LinkEvent, NotRead, NotWritten, Includes, Went, reads_in, read_of, wrote_of}
 use Rattle.amqp_transport.specs.declared.frames.Frame.{Frame}
 use Rattle.amqp_transport.specs.declared.transport.Error.TheVariants as transport
-use Rattle.amqp_transport.specs.Wire.{Wire}
+use Rattle.amqp_transport.specs.Wire.{Wire, idle_of}
 use Rattle.amqp_engine.specs.declared.error.Error.{Error as ConnectionFault}
 use Rattle.amqp_engine.specs.declared.error.Error.TheVariants as connection
 use Rattle.amqp_engine.specs.Calls.{OpensTo, IsTooLarge}
@@ -45,7 +45,7 @@ use Rattle.amqp_peer.specs.Gated.{IsTalk, IsGatedIn}
 use Rattle.amqp_peer.specs.Held.{IsReadyWith, IsReady, IsMidway, IsBusyWith, IsBusy, IsExchangedWith, IsActive, RanEarly, bound, IsConnecting, link_at}
 use Rattle.amqp_peer.specs.History.{Local, Put, Exchanged, Replied, made_in, link_in, given_in, sent_in, replied_in, moment_in, since_in, at_link, IsInside}
 use Rattle.amqp_peer.specs.Peering.{Peering, Has, HasIn, HasCalled, IsHeld, IsHeldAt, IsExchanging, IsRunning, IsUntouched, IsFaultless, IsMadeIn, IsUnmade, IsUnmadeAt, HasWritten, IsWaiting, HasFailedOpen, HasClosed, link_of}
-use Rattle.amqp_peer.specs.Prepared.{prepared_of, sasl_of, idle_of}
+use Rattle.amqp_peer.specs.Prepared.{prepared_of, sasl_of}
 use Rattle.amqp_peer.specs.Replies.{pending, open_failed, answered}
 use Rattle.amqp_peer.specs.Runs.{IsSettled, AdvancedFrom, Advanced, RestedFrom, Rested, IsAsked, Refused, told, open_error_of}
 use Rattle.amqp_peer.proofs.Advances.{advanced_then, rested_then, called_keeps}

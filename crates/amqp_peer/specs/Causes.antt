@@ -36,8 +36,9 @@ use Rattle.amqp_words.specs.declared.call.Call.TheVariants as call
 use Rattle.amqp_words.specs.declared.open_error.OpenError.TheVariants as failed
 use Rattle.amqp_words.specs.declared.reply.Reply.{Reply}
 use Rattle.amqp_words.specs.declared.reply.Reply.TheVariants as reply
+use Rattle.amqp_transport.specs.Wire.{idle_of}
 use Rattle.amqp_peer.specs.declared.prepared.Prepared.{Prepared}
-use Rattle.amqp_peer.specs.Prepared.{prepared_of, sasl_of, idle_of}
+use Rattle.amqp_peer.specs.Prepared.{prepared_of, sasl_of}
 use Rattle.amqp_peer.specs.History.{Local, Made, Polled, AtLink, Exchanged, Got, Put, Replied, made_in, link_in, given_in, sent_in, moment_in, since_in, Once}
 
 -- the exchange is that of the SASL layer, if there is one

@@ -6,7 +6,7 @@ use Rattle.amqp_composites.specs.declared.error.Error.{Error as AmqpError}
 use Rattle.amqp_frames.specs.declared.shared.ConnectionState.{ConnectionState}
 use Rattle.amqp_frames.specs.declared.shared.ConnectionState.TheVariants as state
 use Rattle.amqp_frames.specs.declared.shared.ConnectionStopReason.{ConnectionStopReason}
-use Rattle.amqp_transport.specs.Wire.{Wire}
+use Rattle.amqp_transport.specs.Wire.{Wire, idle_of}
 use Rattle.sasl_gate.specs.declared.gate.negotiation.Phase.TheVariants.{Header as HeaderPhase}
 use Rattle.amqp_opening.specs.declared.authentication.Authentication.{Authentication}
 use Rattle.amqp_opening.specs.declared.authentication.Authentication.TheVariants.{Idle as IdleExchange}
@@ -25,7 +25,7 @@ use Rattle.amqp_engine.specs.State.{State, stop_reason_of}
 use Rattle.amqp_peer.specs.declared.held.Held.{Held}
 use Rattle.amqp_peer.specs.declared.held.Held.TheVariants.{Early, Late, Unopened, Moving}
 use Rattle.amqp_peer.specs.declared.prepared.Prepared.{Prepared}
-use Rattle.amqp_peer.specs.Prepared.{idle_of}
+
 
 -- the link is not on its way
 abbrev pub IsThere : {L : Type 0} → Held L → Type 0

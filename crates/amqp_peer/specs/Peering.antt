@@ -17,6 +17,7 @@ use Rattle.amqp_words.specs.declared.call.Call.TheVariants.{Close}
 use Rattle.amqp_words.specs.declared.open_error.OpenError.{OpenError}
 use Rattle.amqp_words.specs.declared.reply.Reply.{Reply}
 use Rattle.amqp_words.specs.declared.reply.NamedReply.{NamedReply}
+use Rattle.amqp_transport.specs.Wire.{idle_of}
 use Rattle.amqp_peer.specs.declared.held.Held.{Held}
 use Rattle.amqp_peer.specs.declared.held.Held.TheVariants.{Early, Late, Unopened, Moving}
 use Rattle.amqp_peer.specs.declared.peer.PeerKind.{PeerKind}
@@ -28,7 +29,7 @@ use Rattle.amqp_peer.specs.Causes.{MadeIn, BeginsWithOpen, IsOther, IsHeardOpen,
 use Rattle.amqp_peer.specs.Gated.{IsGatedIn}
 use Rattle.amqp_peer.specs.Held.{IsBusy, link_at, with_link, nothing_held}
 use Rattle.amqp_peer.specs.History.{Local, made_in, link_in, given_in, sent_in, replied_in, read_in, wrote_in, since_in, Once}
-use Rattle.amqp_peer.specs.Prepared.{prepared_of, sasl_of, idle_of}
+use Rattle.amqp_peer.specs.Prepared.{prepared_of, sasl_of}
 use Rattle.amqp_peer.specs.Replies.{pending, connection, open_failed, answered, IsCloseEnd, AreClosing}
 
 -- an end: what holds its link, which side it is, how far its calls are, the name of the last, the first fault that was not told yet, the

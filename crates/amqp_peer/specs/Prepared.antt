@@ -56,8 +56,3 @@ abbrev pub sasl_of : Call → Option SaslCall
 sasl_of (call.Open settings host sasl) = client_sasl sasl host
 sasl_of (call.Accept settings sasl) = listener_sasl sasl
 sasl_of (call.Close error) = None
-
--- the idle time, 0 where there is none
-abbrev pub idle_of : Option ℕ → ℕ
-idle_of None = 0
-idle_of (Some idle) = idle

@@ -1,5 +1,6 @@
 -- An end that goes on.
-use Rattle.std.specs.Prelude.{◌≡◌, ◌≤◌, ◌+◌, ◌^◌, ◌⊎◌, ℕ, List, [], ◌∷◌, ◌++◌, length, Bool, true, false, Option, Some, None, ⊤}
+use Rattle.std.specs.Prelude.{◌≡◌, ◌≤◌, ◌+◌, ◌^◌, ◌⊎◌, ℕ, List, [], ◌∷◌, ◌++◌, length, Bool, true, false, Option, Some, None, Result, Ok, Err, ⊤}
+use Rattle.std.specs.declared.alloc.AllocError.{AllocError}
 use Rattle.amqp_composites.specs.declared.error.Error.{Error as AmqpError}
 use Rattle.amqp_frames.specs.declared.shared.ConnectionStopReason.{ConnectionStopReason}
 use Rattle.amqp_frames.specs.declared.shared.ConnectionStopReason.TheVariants as why
@@ -194,3 +195,23 @@ pub record Refused {L : Type 0} (old : Peering L) (e : NegotiationError) (new : 
   pub held : Held L
   pub ended : EndedEarly old.held held
   pub is : new ≡ told (record old { held = held }) (reply.OpenError (failed.Negotiation e))
+
+-- want of memory apart from the other faults
+abbrev pub without_memory : ConnectionFault → Result ConnectionFault AllocError
+without_memory (fault.Memory a) = Err a
+without_memory (fault.TransportError e) = Ok (fault.TransportError e)
+without_memory fault.IllegalState = Ok fault.IllegalState
+without_memory fault.NotImplemented = Ok fault.NotImplemented
+without_memory fault.NotFound = Ok fault.NotFound
+without_memory fault.RemoteClosed = Ok fault.RemoteClosed
+without_memory (fault.RemoteClosedWithError e) = Ok (fault.RemoteClosedWithError e)
+
+-- what becomes of a Close that was not queued: one is queued or owed already, or the fault is kept
+abbrev pub IsCloseNoted : {L : Type 0} → ConnectionFault → Peering L → Peering L → Type 0
+IsCloseNoted (fault.Memory a) old new = ⊥
+IsCloseNoted (fault.TransportError e) old new = new ≡ record old { fault = first_fault old.fault (fault.TransportError e) }
+IsCloseNoted fault.IllegalState old new = new ≡ old
+IsCloseNoted fault.NotImplemented old new = new ≡ record old { fault = first_fault old.fault fault.NotImplemented }
+IsCloseNoted fault.NotFound old new = new ≡ record old { fault = first_fault old.fault fault.NotFound }
+IsCloseNoted fault.RemoteClosed old new = new ≡ record old { fault = first_fault old.fault fault.RemoteClosed }
+IsCloseNoted (fault.RemoteClosedWithError e) old new = new ≡ record old { fault = first_fault old.fault (fault.RemoteClosedWithError e) }

@@ -45,6 +45,33 @@ pub enum Held<L: Link> {
     Moving,
 }
 
+fn milliseconds(idle: Option<u32>) -> Option<u64>
+    ensures { result ≡ idle }
+{
+    match idle {
+        Some(idle) => Some(u64::from(idle)),
+        None => None,
+    }
+}
+
+// The connection begins over the codec of an opening; a refusal leaves the codec.
+fn begin_connection<L: Link>(
+    alloc: Global,
+    at: u64,
+    opening: Opening<L, Authentication>,
+    prepared: Prepared,
+) -> (Held<L>, Result<(), ConnectionError>)
+    ensures connecting { IsConnecting (bound opening.negotiation.codec prepared.idle at) prepared result.1 result.0 }
+    ensures there { IsThere result.0 }
+{
+    let idle = milliseconds(prepared.idle);
+    let transport = Transport::bind_to_framed_codec(opening.into_codec(), idle, at);
+    match ConnectionEngine::open(alloc, transport, prepared.end) {
+        Ok(engine) => (Held::Late(engine), Ok(())),
+        Err((error, transport)) => (Held::Unopened(transport.into_framed_codec()), Err(error)),
+    }
+}
+
 impl<L: Link> Held<L> {
     /// A link with which nothing was done; takes no memory.
     pub fn new(alloc: Global, link: L) -> Self
@@ -161,34 +188,14 @@ impl<L: Link> Held<L> {
     {
         match mem::replace(self, Held::Moving) {
             Held::Early(opening, prepared) => match prepared {
-                Some(prepared) => self.begin_connection(alloc, at, opening, prepared),
+                Some(prepared) => {
+                    let (held, result) = begin_connection(alloc, at, opening, prepared);
+                    discard(mem::replace(self, held));
+                    result
+                }
                 None => unreachable!(),
             },
             _ => unreachable!(),
-        }
-    }
-
-    fn begin_connection(
-        &mut self,
-        alloc: Global,
-        at: u64,
-        opening: Opening<L, Authentication>,
-        prepared: Prepared,
-    ) -> Result<(), ConnectionError>
-        ensures connecting { IsConnecting (bound opening.negotiation.codec prepared.idle at) prepared result self.new }
-        ensures there { IsThere self.new }
-    {
-        let idle = prepared.idle.map(u64::from);
-        let transport = Transport::bind_to_framed_codec(opening.into_codec(), idle, at);
-        match ConnectionEngine::open(alloc, transport, prepared.end) {
-            Ok(engine) => {
-                *self = Held::Late(engine);
-                Ok(())
-            }
-            Err((error, transport)) => {
-                *self = Held::Unopened(transport.into_framed_codec());
-                Err(error)
-            }
         }
     }
 

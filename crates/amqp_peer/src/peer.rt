@@ -11,7 +11,7 @@ ghost use Rattle.amqp_peer.specs.Held.{IsThere, IsEarly, IsReady, IsExchanged, I
 ghost use Rattle.amqp_peer.specs.History.{Made, Polled};
 ghost use Rattle.amqp_peer.specs.Peering.{Peering, fresh, link_of, MayCall};
 ghost use Rattle.amqp_peer.specs.Prepared.{prepared_of, sasl_of};
-ghost use Rattle.amqp_peer.specs.Runs.{Stepped, Advanced, AdvancedFrom, Worked, Rested, RestedFrom, IsAsked, IsAskedToClose, Refused, open_error_of, open_failure, open_reply, close_reply, told_of, error_for, first_fault, error_in, told, finished, concluded, greeted_if, greeted};
+ghost use Rattle.amqp_peer.specs.Runs.{Stepped, Advanced, AdvancedFrom, Worked, Rested, RestedFrom, IsAsked, IsAskedToClose, Refused, open_error_of, open_failure, open_reply, close_reply, told_of, error_for, first_fault, error_in, told, finished, concluded, greeted_if, greeted, without_memory, IsCloseNoted};
 
 use crate::copies::{copied_error, discard};
 use crate::held::{Held, Way};
@@ -143,6 +143,16 @@ fn open_error_of(fault: ConnectionError) -> OpenError
         | ConnectionError::IllegalState
         | ConnectionError::NotImplemented
         | ConnectionError::NotFound => OpenError::IllegalState,
+    }
+}
+
+// Want of memory apart from the other faults.
+fn without_memory(error: ConnectionError) -> Result<ConnectionError, AllocError>
+    ensures { result ≡ without_memory error }
+{
+    match error {
+        ConnectionError::Memory(error) => Err(error),
+        error => Ok(error),
     }
 }
 
@@ -337,8 +347,8 @@ impl<L: Link> Peer<L> {
                 self.conclude()?;
                 Ok(false)
             }
-            Err(ConnectionError::Memory(error)) => Err(error),
             Err(error) => {
+                let error = without_memory(error)?;
                 self.note(error);
                 Ok(true)
             }
@@ -369,8 +379,10 @@ impl<L: Link> Peer<L> {
     {
         match self.held.connect(self.alloc, at) {
             Ok(()) => self.go_on(at),
-            Err(ConnectionError::Memory(error)) => Err(error),
-            Err(error) => self.finish(Reply::OpenError(open_error_of(error))),
+            Err(error) => {
+                let error = without_memory(error)?;
+                self.finish(Reply::OpenError(open_error_of(error)))
+            }
         }
     }
 
@@ -483,9 +495,20 @@ impl<L: Link> Peer<L> {
     {
         match self.held.close(error_for(condition)) {
             Ok(()) => Ok(()),
-            Err(ConnectionError::Memory(error)) => Err(error),
-            Err(ConnectionError::IllegalState) => Ok(()),
-            Err(error) => {
+            Err(error) => self.note_close(error),
+        }
+    }
+
+    // A Close was not queued.
+    fn note_close(&mut self, error: ConnectionError) -> Result<(), AllocError>
+        ensures ok { OnOk result (IsCloseNoted error self.old self.new) }
+        ensures held { self.new.held ≡ self.old.held }
+        ensures alive { self.new.failed ≡ self.old.failed }
+    {
+        match error {
+            ConnectionError::Memory(error) => Err(error),
+            ConnectionError::IllegalState => Ok(()),
+            error => {
                 self.note(error);
                 Ok(())
             }
@@ -512,8 +535,8 @@ impl<L: Link> Peer<L> {
     {
         match self.held.step(at) {
             Ok(_) => self.conclude_close(),
-            Err(ConnectionError::Memory(error)) => Err(error),
             Err(error) => {
+                let error = without_memory(error)?;
                 self.note(error);
                 self.conclude_close()
             }
