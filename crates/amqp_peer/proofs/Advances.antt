@@ -1,12 +1,11 @@
 -- A step of the connection is a step of its end.
-use Rattle.std.proofs.Common.{◌≡◌, ◌≤◌, ◌+◌, ◌^◌, ◌⊎◌, inl, inr, ℕ, List, [], ◌∷◌, ◌++◌, Bool, true, false, length, Option, Some, None, Result, Ok, Err, refl, sym, ap, ◌∙◌, subst, append_assoc, length-append, arith}
+use Rattle.std.proofs.Common.{◌≡◌, ◌≤◌, ◌+◌, ◌^◌, ◌⊎◌, inl, inr, ℕ, List, [], ◌∷◌, ◌++◌, Bool, true, false, length, Option, Some, None, Ok, Err, refl, sym, ap, ◌∙◌, subst, append_assoc, length-append, arith}
 use Rattle.std.proofs.lemmas.List.{append-nil}
 use Rattle.amqp_wire.specs.declared.link.Held.TheVariants.{Full}
 use Rattle.amqp_wire.specs.declared.link.Link.{Ghosts}
 use Rattle.amqp_wire.specs.declared.link.Stop.TheVariants.{Empty}
 use Rattle.amqp_wire.specs.Events.{LinkEvent, NotRead, NotWritten, Includes, Went, reads_in}
 use Rattle.amqp_wire.proofs.Events.{includes_left, went_then, reads_in-append}
-use Rattle.amqp_transport.specs.declared.frames.Frame.{Frame}
 use Rattle.amqp_engine.specs.declared.engine.EngineStep.TheVariants as step
 use Rattle.amqp_engine.specs.declared.error.Error.{Error as ConnectionFault}
 use Rattle.amqp_engine.specs.declared.error.Error.TheVariants as connection
@@ -15,25 +14,24 @@ use Rattle.amqp_engine.specs.declared.phase.Phase.TheVariants as p
 use Rattle.amqp_engine.specs.Outcomes.{IsMoment, IsOnward, IsRefusal, IsWritten, Stepped as EngineStepped}
 use Rattle.amqp_engine.specs.Phases.{state_of, is_stopped, has_failed}
 use Rattle.amqp_engine.specs.Sentence.{Ran}
-use Rattle.amqp_engine.specs.State.{State, stop_reason_of}
+use Rattle.amqp_engine.specs.State.{State}
 use Rattle.amqp_words.specs.declared.call.Call.{Call}
 use Rattle.amqp_words.specs.declared.call.Call.TheVariants.{Close}
 use Rattle.amqp_words.specs.declared.reply.Reply.{Reply}
-use Rattle.amqp_words.specs.declared.reply.Reply.TheVariants as reply
 use Rattle.amqp_words.specs.declared.reply.NamedReply.{NamedReply}
 use Rattle.amqp_peer.specs.declared.held.Held.{Held}
-use Rattle.amqp_peer.specs.declared.held.Held.TheVariants.{Early, Late, Unopened, Moving}
+use Rattle.amqp_peer.specs.declared.held.Held.TheVariants.{Late}
 use Rattle.amqp_peer.specs.declared.peer.Progress.{Progress}
 use Rattle.amqp_peer.specs.declared.peer.Progress.TheVariants as progress
-use Rattle.amqp_peer.specs.Causes.{BeginsWithOpen, IsMade, HasCause}
+use Rattle.amqp_peer.specs.Causes.{BeginsWithOpen, HasCause}
 use Rattle.amqp_peer.specs.Held.{IsBusy, IsActive, link_at, is_made, is_made_state, reason_of}
-use Rattle.amqp_peer.specs.History.{Local, Replied, made_in, link_in, given_in, sent_in, replied_in, moment_in, IsInside, Once}
-use Rattle.amqp_peer.specs.Peering.{Peering, Has, HasIn, HasCalled, IsHeld, IsHeldAt, IsExchanging, IsUnmade, IsUnmadeAt, IsMadeIn, IsFaultIn, LateFault, IsRunning, IsWaiting, IsOpen, IsClosing, HasFailedOpen, HasClosed, link_of}
+use Rattle.amqp_peer.specs.History.{Local, Replied, made_in, link_in, given_in, sent_in, replied_in, moment_in, IsInside}
+use Rattle.amqp_peer.specs.Peering.{Peering, Has, HasIn, HasCalled, IsUnmade, IsUnmadeAt, IsMadeIn, IsFaultIn, IsWaiting, IsOpen, IsClosing, HasFailedOpen, HasClosed, link_of}
 use Rattle.amqp_peer.specs.Replies.{pending, connection as made_reply, answered, IsCloseEnd}
 use Rattle.amqp_peer.specs.Runs.{IsSettled, AdvancedFrom, Advanced, Worked, RestedFrom, Rested, first_fault, error_by, error_in, open_failure, open_reply, close_reply, finished, concluded_in, concluded, greeted_if, greeted_in, greeted}
 use Rattle.amqp_peer.proofs.Answers.{open_cause, close_cause}
 use Rattle.amqp_peer.proofs.Grows.{is_running, onward_sound, waiting_moves, open_moves, closing_moves, over_moves, moves_in, unmade_same, fault_same, unmade_worked, fault_worked, made_worked, made_came, unmade_failed, fault_failed}
-use Rattle.amqp_peer.proofs.Histories.{inside-append, link_in-append, given_in-append, sent_in-append, replied_in-append, moment_in-inside, once_more}
+use Rattle.amqp_peer.proofs.Histories.{inside-append, link_in-append, given_in-append, sent_in-append, replied_in-append, moment_in-inside}
 use Rattle.amqp_peer.proofs.Moved.{moved, passed, made_after, link_after, replied_after, running_grows}
 use Rattle.amqp_peer.proofs.Quiet.{quiet_replied, running_quiet, called_quiet, fault_quiet}
 use Rattle.amqp_peer.proofs.Written.{out_running}
@@ -83,8 +81,8 @@ pending_rests link at old s s' e st =
     record {
       run = advanced link at 1 old (record old { held = Late s' }) (moved r) [] (moves link 1 old (record old { held = Late s' }) s s' r st.few e refl) (sym (append-nil old.replies)) refl
           (λ h t x. moves_in link at old.progress old s s' old.fault h r st.moment t e
-              (λ call k prep u. unmade_same link call old.fault s s' h r k st.told.phase u)
-              (λ call k prep o f. fault_same old.fault s s' h r st.told.phase f) x);
+          (λ call k prep u. unmade_same link call old.fault s s' h r k st.told.phase u)
+          (λ call k prep o f. fault_same old.fault s s' h r st.told.phase f) x);
       settled = λ a. inl (subst (λ (es : List LinkEvent). Includes es (NotRead Empty)) (sym (passed r).link) st.told.found);
     }
 
@@ -146,8 +144,8 @@ failed_advances link at old s s' e l st n =
     record {
       run = advanced link at 1 old new (moved r) [] (moves link 1 old new s s' r st.few l refl) (sym (append-nil old.replies)) refl
           (λ h t x. moves_in link at old.progress old s s' (first_fault old.fault e) h r st.moment t l
-              (λ call k prep u. unmade_failed link at call old.fault e s s' h st k prep t n u)
-              (λ call k prep o f. fault_failed link at call old.fault e s s' h st k o prep t n f) x);
+          (λ call k prep u. unmade_failed link at call old.fault e s s' h st k prep t n u)
+          (λ call k prep o f. fault_failed link at call old.fault e s s' h st k o prep t n f) x);
       frames = λ a. worked_frames r (failed_did link at s s' e st n a).0;
       stays = λ a. active_late old.held s l (failed_did link at s s' e st n a).1;
     }

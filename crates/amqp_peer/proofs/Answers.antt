@@ -1,7 +1,6 @@
 -- Why the last answer of a call comes.
-use Rattle.std.proofs.Common.{◌≡◌, ◌⊎◌, inl, inr, ℕ, List, [], ◌∷◌, ◌++◌, Bool, true, false, if◌then◌else◌, Option, Some, None, refl, sym, ap, ◌∙◌, subst}
+use Rattle.std.proofs.Common.{◌≡◌, ◌⊎◌, inl, inr, ℕ, List, [], ◌∷◌, ◌++◌, Bool, true, false, if◌then◌else◌, Option, Some, None, sym, ap, ◌∙◌, subst}
 use Rattle.std.proofs.lemmas.List.{append-nil}
-use Rattle.amqp_composites.specs.declared.close.Close.{Close}
 use Rattle.amqp_composites.specs.declared.error.Error.{Error as AmqpError}
 use Rattle.amqp_frames.specs.declared.body.FrameBody.{FrameBody}
 use Rattle.amqp_frames.specs.declared.body.FrameBody.TheVariants as b
@@ -13,17 +12,17 @@ use Rattle.amqp_engine.specs.declared.error.Error.{Error as ConnectionFault}
 use Rattle.amqp_engine.specs.declared.error.Error.TheVariants as connection
 use Rattle.amqp_engine.specs.declared.phase.Phase.{Phase}
 use Rattle.amqp_engine.specs.declared.phase.Phase.TheVariants as p
-use Rattle.amqp_engine.specs.Heard.{IsParted as HasParted, IsMistaken, IsAnswered, IsHeard, IsOver}
+use Rattle.amqp_engine.specs.Heard.{IsMistaken, IsHeard, IsOver}
 use Rattle.amqp_engine.specs.Phases.{kind_of, is_stopped, has_failed, IsClose}
 use Rattle.amqp_engine.specs.Sentence.{IsSaid, IsClosed}
 use Rattle.amqp_engine.specs.State.{State, stop_reason_of, remote_reason, own_reason, answered_reason}
 use Rattle.amqp_words.specs.declared.call.Call.{Call}
 use Rattle.amqp_words.specs.declared.reply.Reply.TheVariants as reply
 use Rattle.amqp_peer.specs.Causes.{BeginsWithOpen, EndsWithClose, IsLeft, IsParted, IsOut, HasCause}
-use Rattle.amqp_peer.specs.History.{Local, link_in, given_in, sent_in, Once}
-use Rattle.amqp_peer.specs.Peering.{IsRunning, IsFaultless, IsUnmadeAt, IsFaultIn}
+use Rattle.amqp_peer.specs.History.{Local, link_in, given_in, sent_in}
+use Rattle.amqp_peer.specs.Peering.{IsRunning, IsUnmadeAt, IsFaultIn}
 use Rattle.amqp_peer.specs.Runs.{told_by, told_of, error_by, open_failure, open_reply, close_reply}
-use Rattle.amqp_peer.proofs.Hears.{IsCloseAlone, mistaken_other, answered_begins, parted_unheard, close_begins_not, other_then, greeted_begins}
+use Rattle.amqp_peer.proofs.Hears.{mistaken_other, answered_begins, parted_unheard, close_begins_not, other_then}
 use Rattle.amqp_peer.proofs.Written.{out_running}
 
 -- ---- where a connection has stopped

@@ -1,7 +1,6 @@
 -- A transport over the codec of an opening.
-use Rattle.std.proofs.Common.{◌≡◌, ℕ, Option, None, refl, sym, ap, ◌∙◌}
+use Rattle.std.proofs.Common.{◌≡◌, ℕ, Option, None, ap, ◌∙◌}
 use Rattle.amqp_wire.specs.Codec.{Codec}
-use Rattle.amqp_transport.specs.declared.idle_clock.IdleClock.{IdleClock}
 use Rattle.amqp_transport.specs.Wire.{Wire, idle_of}
 use Rattle.amqp_peer.specs.Held.{bound}
 

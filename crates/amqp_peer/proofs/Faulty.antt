@@ -1,5 +1,5 @@
 -- Why the transport of a connection failed, in words of its history.
-use Rattle.std.proofs.Common.{◌≡◌, ◌≤◌, ◌<◌, ◌+◌, ◌⊎◌, inl, inr, ℕ, List, [], ◌∷◌, ◌++◌, Option, Some, None, refl, sym, ap, ◌∙◌, subst, append_assoc, arith}
+use Rattle.std.proofs.Common.{◌≡◌, inl, inr, ℕ, List, [], ◌++◌, Some, None, refl, sym, ap, ◌∙◌, subst, append_assoc, arith}
 use Rattle.amqp_wire.specs.declared.link.Link.{Ghosts}
 use Rattle.amqp_wire.specs.declared.link.Held.TheVariants.{Failed as FailedWrite}
 use Rattle.amqp_wire.specs.declared.link.Stop.TheVariants.{End as EndStop, Failed}
@@ -12,15 +12,12 @@ use Rattle.amqp_transport.specs.declared.transport.Error.TheVariants as fault
 use Rattle.amqp_transport.specs.Clocks.{HasElapsed}
 use Rattle.amqp_engine.specs.declared.phase.Phase.{Phase}
 use Rattle.amqp_engine.specs.declared.phase.Phase.TheVariants as p
-use Rattle.amqp_engine.specs.Calls.{IsTooLarge}
 use Rattle.amqp_engine.specs.Faults.{IsFault, IsOwed}
 use Rattle.amqp_engine.specs.Sentence.{Ran}
 use Rattle.amqp_engine.specs.State.{State, error_for}
 use Rattle.amqp_words.specs.declared.call.Call.{Call}
-use Rattle.amqp_transport.specs.Wire.{idle_of}
-use Rattle.amqp_peer.specs.declared.prepared.Prepared.{Prepared}
-use Rattle.amqp_peer.specs.Causes.{prepared_in, idle_with, HasIdled, IsOwn, closing, beating, IsOverlarge, IsRefusedAt, IsForeignAt, IsUnspelledAt, TransportCause}
-use Rattle.amqp_peer.specs.History.{Local, made_in, link_in, moment_in, since_in, at_link, got, put, Once}
+use Rattle.amqp_peer.specs.Causes.{prepared_in, idle_with, HasIdled, IsOwn, closing, beating, TransportCause}
+use Rattle.amqp_peer.specs.History.{Local, made_in, link_in, moment_in, at_link, got, put, Once}
 use Rattle.amqp_peer.specs.Peering.{IsRunning}
 use Rattle.amqp_peer.specs.Prepared.{prepared_of}
 use Rattle.amqp_peer.proofs.Moved.{moved, passed, link_after}

@@ -1,31 +1,26 @@
 -- A connection that goes on is still what its history says.
-use Rattle.std.proofs.Common.{◌≡◌, ◌≤◌, ◌+◌, ◌⊎◌, inl, inr, ℕ, List, [], ◌∷◌, ◌++◌, Bool, true, false, length, Option, Some, None, Result, Ok, Err, refl, sym, ap, ◌∙◌, subst, append_assoc, arith}
+use Rattle.std.proofs.Common.{◌≡◌, ◌≤◌, ◌⊎◌, inl, inr, ℕ, List, [], ◌∷◌, ◌++◌, true, false, length, Option, Some, None, Err, refl, sym, ap, ◌∙◌, subst, arith}
 use Rattle.std.proofs.lemmas.List.{append-nil}
 use Rattle.amqp_wire.specs.declared.link.Link.{Ghosts}
 use Rattle.amqp_transport.specs.declared.frames.Frame.{Frame}
-use Rattle.amqp_transport.specs.declared.transport.Error.{Error as TransportFault}
-use Rattle.amqp_engine.specs.declared.engine.EngineStep.TheVariants as step
 use Rattle.amqp_engine.specs.declared.error.Error.{Error as ConnectionFault}
 use Rattle.amqp_engine.specs.declared.error.Error.TheVariants as connection
 use Rattle.amqp_engine.specs.declared.phase.Phase.{Phase}
 use Rattle.amqp_engine.specs.declared.phase.Phase.TheVariants as p
-use Rattle.amqp_engine.specs.declared.phase.Rejection.{Rejection}
 use Rattle.amqp_engine.specs.Heard.{IsHeard}
-use Rattle.amqp_engine.specs.Outcomes.{IsMoment, IsOnward, IsRefusal, IsTold, Stepped}
+use Rattle.amqp_engine.specs.Outcomes.{IsMoment, IsOnward, IsRefusal, Stepped}
 use Rattle.amqp_engine.specs.Phases.{state_of, has_failed}
 use Rattle.amqp_engine.specs.Sentence.{Ran}
 use Rattle.amqp_engine.specs.State.{State}
 use Rattle.amqp_words.specs.declared.call.Call.{Call}
-use Rattle.amqp_words.specs.declared.call.Call.TheVariants.{Close}
-use Rattle.amqp_words.specs.declared.reply.NamedReply.{NamedReply}
 use Rattle.amqp_peer.specs.declared.held.Held.{Held}
-use Rattle.amqp_peer.specs.declared.held.Held.TheVariants.{Early, Late, Unopened, Moving}
+use Rattle.amqp_peer.specs.declared.held.Held.TheVariants.{Late}
 use Rattle.amqp_peer.specs.declared.peer.Progress.{Progress}
 use Rattle.amqp_peer.specs.declared.peer.Progress.TheVariants as progress
-use Rattle.amqp_peer.specs.Causes.{BeginsWithOpen, IsOther, TransportCause, AllCaused, prepared_in, IsHeardOpen}
+use Rattle.amqp_peer.specs.Causes.{BeginsWithOpen, IsOther, prepared_in}
 use Rattle.amqp_peer.specs.Held.{is_made_state}
-use Rattle.amqp_peer.specs.History.{Local, made_in, link_in, given_in, sent_in, replied_in, moment_in, Once}
-use Rattle.amqp_peer.specs.Peering.{Peering, IsHeld, IsRunning, HasCalled, IsFaultless, IsUnheard, IsUnmadeAt, IsUnmade, IsFaultIn, IsMadeIn, EarlyFault, LateFault, HasNothing, IsWaiting, IsOpen, IsClosing, HasFailedOpen, HasClosed, HasIn}
+use Rattle.amqp_peer.specs.History.{Local, made_in, given_in, moment_in, Once}
+use Rattle.amqp_peer.specs.Peering.{Peering, IsHeld, IsRunning, HasCalled, IsFaultless, IsUnheard, IsUnmadeAt, IsUnmade, IsFaultIn, IsMadeIn, EarlyFault, LateFault, IsWaiting, IsOpen, IsClosing, HasFailedOpen, HasClosed, HasIn}
 use Rattle.amqp_peer.specs.Prepared.{prepared_of}
 use Rattle.amqp_peer.specs.Runs.{first_fault}
 use Rattle.amqp_peer.proofs.Faulty.{transport_once}
@@ -64,7 +59,7 @@ close_first link at call s s' h r m k e c =
     let g = given_after h (passed r) in
     let n = one_frame at s s' r.given m in
     parted_short s'.reason (given_in (moved r ++ h)) (omega (arith, ap length g, ap length (ap (λ (xs : List Frame). xs ++ r.given) none), n))
-        (subst (λ (q : Phase). IsHeard q s'.reason (given_in (moved r ++ h))) c (heard_after link call s s' h r k))
+    (subst (λ (q : Phase). IsHeard q s'.reason (given_in (moved r ++ h))) c (heard_after link call s s' h r k))
 
 -- the first frame that came is a Close, or one came before
 pub record IsBehind {L : Type 0} {link : Ghosts L} {s s' : State L} (h : List Local) (r : Ran link s s') : Type 0 where

@@ -1,9 +1,7 @@
 -- What the frames that were read say of a connection.
-use Rattle.std.proofs.Common.{◌≡◌, ◌≤◌, ◌+◌, ◌⊎◌, inl, inr, ℕ, List, [], ◌∷◌, ◌++◌, length, true, false, Option, Some, None, refl, sym, ap, ◌∙◌, subst, length-append, arith}
+use Rattle.std.proofs.Common.{◌≡◌, ◌≤◌, inl, inr, ℕ, List, [], ◌∷◌, ◌++◌, length, true, false, Option, Some, None, refl, sym, ap, ◌∙◌, subst, length-append, arith}
 use Rattle.std.proofs.lemmas.Option.{same_Some}
 use Rattle.amqp_composites.specs.declared.close.Close.{Close}
-use Rattle.amqp_composites.specs.declared.error.Error.{Error as AmqpError}
-use Rattle.amqp_frames.specs.declared.body.FrameBody.{FrameBody}
 use Rattle.amqp_frames.specs.declared.body.FrameBody.TheVariants as b
 use Rattle.amqp_frames.specs.declared.shared.ConnectionStopReason.{ConnectionStopReason}
 use Rattle.amqp_transport.specs.declared.frames.Frame.{Frame}
@@ -133,7 +131,7 @@ parted_short reason xs n h =
 pub parted_unheard : (reason : ConnectionStopReason) (xs : List Frame) (h : IsParted reason xs) → (BeginsWithOpen xs → ⊥) → xs ≡ record { channel = h.channel; body = b.Close h.last } ∷ []
 parted_unheard reason xs h n =
     parted_alone reason xs h (λ g. let o = greeted_begins h.front g in
-        n (record { channel = o.channel; first = o.first; more = o.more ++ record { channel = h.channel; body = b.Close h.last } ∷ []; is = h.is ∙ ap (λ (u : List Frame). u ++ record { channel = h.channel; body = b.Close h.last } ∷ []) o.is }))
+    n (record { channel = o.channel; first = o.first; more = o.more ++ record { channel = h.channel; body = b.Close h.last } ∷ []; is = h.is ∙ ap (λ (u : List Frame). u ++ record { channel = h.channel; body = b.Close h.last } ∷ []) o.is }))
 
 pub answered_begins : (reason : ConnectionStopReason) (xs : List Frame) → IsAnswered reason xs → BeginsWithOpen xs
 answered_begins reason xs h =

@@ -1,6 +1,6 @@
 -- Laws of one end: what it says of its history, whatever the other end does.
-use Rattle.std.proofs.Common.{◌≡◌, ◌↔◌, ◌⊎◌, inl, inr, ℕ, List, [], ◌∷◌, ◌++◌, Bool, true, false, Option, Some, None, refl, sym, ap, ◌∙◌, subst, append_assoc}
-use Rattle.amqp_wire.specs.Events.{LinkEvent, read_of, wrote_of}
+use Rattle.std.proofs.Common.{◌≡◌, ◌↔◌, inl, inr, ℕ, List, [], ◌∷◌, ◌++◌, Option, Some, None, refl, sym, ap, subst}
+use Rattle.amqp_wire.specs.Events.{wrote_of}
 use Rattle.amqp_engine.specs.declared.error.Error.{Error as ConnectionFault}
 use Rattle.amqp_engine.specs.Sentence.{Has as EngineHas}
 use Rattle.amqp_engine.specs.State.{State}
@@ -26,10 +26,10 @@ use Rattle.amqp_peer.specs.Calls.{IsFirstCall, IsClose, IsValidCall}
 use Rattle.amqp_peer.specs.Causes.{AllCaused}
 use Rattle.amqp_peer.specs.Gated.{IsTalk, IsGatedIn, IsGated}
 use Rattle.amqp_peer.specs.Held.{IsBusyWith, IsBusy, link_at, with_link}
-use Rattle.amqp_peer.specs.History.{Local, made_in, link_in, given_in, sent_in, replied_in, read_in, wrote_in, since_in}
-use Rattle.amqp_peer.specs.Peering.{Peering, fresh, link_of, with_link_of, Has, HasIn, HasCalled, IsHeld, IsHeldAt, IsExchanging, IsRunning, IsUntouched, IsFaultless, IsUnmadeAt, IsUnmade, IsFaultIn, IsMadeIn, HasWritten, HasNothing, IsWaiting, IsOpen, IsClosing, HasFailedOpen, HasClosed, MayCall, MayCallIn}
+use Rattle.amqp_peer.specs.History.{Local, made_in, link_in, given_in, sent_in, replied_in, read_in, wrote_in}
+use Rattle.amqp_peer.specs.Peering.{Peering, fresh, link_of, with_link_of, Has, HasIn, HasCalled, IsHeld, IsHeldAt, IsExchanging, IsRunning, IsUnmadeAt, IsUnmade, IsFaultIn, IsMadeIn, HasWritten, MayCall, MayCallIn}
 use Rattle.amqp_peer.specs.Prepared.{sasl_of}
-use Rattle.amqp_peer.specs.Replies.{pending, connection, AreReplies, IsConnected}
+use Rattle.amqp_peer.specs.Replies.{pending, AreReplies, IsConnected}
 use Rattle.amqp_peer.proofs.Histories.{made_in-append as made_append, link_in-append as link_append, replied_in-append as replied_append}
 use Rattle.amqp_peer.proofs.Written.{written_exchanging, written_running}
 

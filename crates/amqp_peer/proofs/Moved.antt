@@ -1,20 +1,20 @@
 -- One run of the connection, as part of a history.
-use Rattle.std.proofs.Common.{◌≡◌, ◌⊎◌, inl, inr, ℕ, List, [], ◌∷◌, ◌++◌, refl, sym, ap, ◌∙◌, subst, append_assoc}
+use Rattle.std.proofs.Common.{◌≡◌, inl, inr, ℕ, List, [], ◌∷◌, ◌++◌, sym, ap, ◌∙◌, subst, append_assoc}
 use Rattle.std.proofs.Math.Path.{ap₂}
 use Rattle.std.proofs.lemmas.List.{append-nil}
 use Rattle.amqp_wire.specs.declared.link.Link.{Ghosts}
 use Rattle.amqp_wire.specs.Events.{LinkEvent}
 use Rattle.amqp_transport.specs.declared.frames.Frame.{Frame}
 use Rattle.amqp_engine.specs.Outcomes.{IsMoment}
-use Rattle.amqp_engine.specs.Sentence.{Ran, Has as EngineHas, History}
+use Rattle.amqp_engine.specs.Sentence.{Ran, Has as EngineHas}
 use Rattle.amqp_engine.specs.State.{State}
 use Rattle.amqp_engine.proofs.Says.{goes_on}
 use Rattle.amqp_words.specs.declared.call.Call.{Call}
 use Rattle.amqp_words.specs.declared.reply.NamedReply.{NamedReply}
 use Rattle.amqp_peer.specs.Causes.{AllCaused, BeginsWithOpen}
-use Rattle.amqp_peer.specs.History.{Local, AtLink, Got, made_in, link_in, given_in, sent_in, replied_in, moment_in, since_in, at_link, got, put, IsInside}
+use Rattle.amqp_peer.specs.History.{Local, made_in, link_in, given_in, sent_in, replied_in, moment_in, since_in, at_link, got, put, IsInside}
 use Rattle.amqp_peer.specs.Peering.{IsRunning}
-use Rattle.amqp_peer.proofs.Histories.{made_in-append, link_in-append, given_in-append, sent_in-append, replied_in-append, inside-append, moment_in-inside, made_in-keeps, given_in-at, sent_in-at, replied_in-at, link_in-at, inside-at, since_in-at, caused-at, given_in-got, sent_in-got, link_in-got, replied_in-got, inside-got, caused-got, sent_in-put, given_in-put, link_in-put, replied_in-put, inside-put, caused-put, since_in-put}
+use Rattle.amqp_peer.proofs.Histories.{link_in-append, given_in-append, sent_in-append, replied_in-append, inside-append, moment_in-inside, made_in-keeps, given_in-at, sent_in-at, replied_in-at, link_in-at, inside-at, since_in-at, caused-at, given_in-got, sent_in-got, link_in-got, replied_in-got, inside-got, caused-got, sent_in-put, given_in-put, link_in-put, replied_in-put, inside-put, caused-put, since_in-put}
 
 -- what passed at the link, then the frames that were read, then those that were queued
 abbrev pub moved : {L : Type 0} {link : Ghosts L} {old new : State L} → Ran link old new → List Local

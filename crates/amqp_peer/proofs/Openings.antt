@@ -1,22 +1,21 @@
 -- The exchange of headers of an end, and how its connection begins.
-use Rattle.std.proofs.Common.{◌≡◌, ◌≤◌, ◌+◌, ◌^◌, ◌⊎◌, inl, inr, ℕ, List, [], ◌∷◌, ◌++◌, Bool, true, false, length, Option, Some, None, Result, Ok, Err, refl, sym, ap, ◌∙◌, subst, append_assoc, arith}
+use Rattle.std.proofs.Common.{◌≡◌, ◌≤◌, ◌+◌, ◌^◌, inl, inr, ℕ, List, [], ◌∷◌, ◌++◌, Bool, length, Option, Some, None, Ok, Err, refl, sym, ap, ◌∙◌, subst, arith}
 use Rattle.std.proofs.lemmas.List.{append-nil}
-use Rattle.std.proofs.lemmas.Option.{same_Some}
 use Rattle.std.specs.declared.alloc.AllocError.{AllocError}
 use Rattle.amqp_wire.specs.declared.link.Link.{Ghosts}
 use Rattle.amqp_wire.specs.declared.link.Stop.TheVariants.{Empty}
 use Rattle.amqp_wire.specs.declared.link.Held.TheVariants.{Full}
-use Rattle.amqp_wire.specs.Events.{LinkEvent, NotRead, NotWritten, Includes, Went, reads_in, read_of, wrote_of}
+use Rattle.amqp_wire.specs.Events.{LinkEvent, NotRead, NotWritten, Includes, Went, reads_in}
 use Rattle.amqp_transport.specs.declared.frames.Frame.{Frame}
 use Rattle.amqp_transport.specs.declared.transport.Error.TheVariants as transport
-use Rattle.amqp_transport.specs.Wire.{Wire, idle_of}
+use Rattle.amqp_transport.specs.Wire.{Wire}
 use Rattle.amqp_engine.specs.declared.error.Error.{Error as ConnectionFault}
 use Rattle.amqp_engine.specs.declared.error.Error.TheVariants as connection
-use Rattle.amqp_engine.specs.Calls.{OpensTo, IsTooLarge}
-use Rattle.amqp_engine.specs.Sentence.{Has as EngineHas, IsCalm, begun as engine_begun}
+use Rattle.amqp_engine.specs.Calls.{OpensTo}
+use Rattle.amqp_engine.specs.Sentence.{Has as EngineHas}
 use Rattle.amqp_engine.specs.Phases.{has_failed}
 use Rattle.amqp_engine.specs.Settings.{open_of}
-use Rattle.amqp_engine.specs.State.{State, opened, open_frame}
+use Rattle.amqp_engine.specs.State.{State, open_frame}
 use Rattle.amqp_engine.proofs.Says.{starts, starts_calm}
 use Rattle.sasl_gate.specs.declared.gate.error.NegotiationError.{NegotiationError}
 use Rattle.sasl_gate.specs.Negotiation.{IsHeldUp}
@@ -25,14 +24,11 @@ use Rattle.amqp_opening.specs.declared.authentication.SaslCall.{SaslCall}
 use Rattle.amqp_opening.specs.declared.opening.OpeningPoll.TheVariants as poll
 use Rattle.amqp_opening.specs.declared.opening.Stage.{Stage}
 use Rattle.amqp_opening.specs.declared.opening.Stage.TheVariants as stage
-use Rattle.amqp_opening.specs.Authentication.{peer_mechanism, same_by, MadeFor, holds_by, IsCallRefusal, HasAllowedTexts}
-use Rattle.amqp_opening.specs.Opening.{amqp_header, Opened, begun, begun_plain, IsUnderWay, HasIntro, HasAt, HasOpening, IsGuarded, Moves as OpeningMoves, Keeps, Ran as OpeningRan}
-use Rattle.amqp_opening.proofs.Exchanges.{same_made, gated_nothing}
-use Rattle.amqp_opening.proofs.Openings.{has_begun, has_begun_plain}
+use Rattle.amqp_opening.specs.Authentication.{peer_mechanism, same_by}
+use Rattle.amqp_opening.specs.Opening.{Opened, IsUnderWay, HasAt, HasOpening, IsGuarded, Moves as OpeningMoves, Keeps, Ran as OpeningRan}
+use Rattle.amqp_opening.proofs.Exchanges.{same_made}
 use Rattle.amqp_words.specs.declared.call.Call.{Call}
-use Rattle.amqp_words.specs.declared.open_error.OpenError.{OpenError}
 use Rattle.amqp_words.specs.declared.open_error.OpenError.TheVariants as failed
-use Rattle.amqp_words.specs.declared.reply.Reply.{Reply}
 use Rattle.amqp_words.specs.declared.reply.Reply.TheVariants as reply
 use Rattle.amqp_words.specs.declared.reply.NamedReply.{NamedReply}
 use Rattle.amqp_peer.specs.declared.held.Held.{Held}
@@ -40,16 +36,14 @@ use Rattle.amqp_peer.specs.declared.held.Held.TheVariants.{Early, Late, Unopened
 use Rattle.amqp_peer.specs.declared.peer.Progress.{Progress}
 use Rattle.amqp_peer.specs.declared.peer.Progress.TheVariants as progress
 use Rattle.amqp_peer.specs.declared.prepared.Prepared.{Prepared}
-use Rattle.amqp_peer.specs.Causes.{MadeIn, IsOpenCause, not_allowed, in_opening, OpenCauseIn, BeginsWithOpen, HasCause, TransportCause, opening as own_opening, prepared_in}
-use Rattle.amqp_peer.specs.Gated.{IsTalk, IsGatedIn}
-use Rattle.amqp_peer.specs.Held.{IsReadyWith, IsReady, IsMidway, IsBusyWith, IsBusy, IsExchangedWith, IsActive, RanEarly, bound, IsConnecting, link_at}
-use Rattle.amqp_peer.specs.History.{Local, Put, Exchanged, Replied, made_in, link_in, given_in, sent_in, replied_in, moment_in, since_in, at_link, IsInside}
-use Rattle.amqp_peer.specs.Peering.{Peering, Has, HasIn, HasCalled, IsHeld, IsHeldAt, IsExchanging, IsRunning, IsUntouched, IsFaultless, IsMadeIn, IsUnmade, IsUnmadeAt, HasWritten, IsWaiting, HasFailedOpen, HasClosed, link_of}
-use Rattle.amqp_peer.specs.Prepared.{prepared_of, sasl_of}
-use Rattle.amqp_peer.specs.Replies.{pending, open_failed, answered}
-use Rattle.amqp_peer.specs.Runs.{IsSettled, AdvancedFrom, Advanced, RestedFrom, Rested, IsAsked, Refused, told, open_error_of}
-use Rattle.amqp_peer.proofs.Advances.{advanced_then, rested_then, called_keeps}
-use Rattle.amqp_peer.proofs.Histories.{made_in-append, link_in-append, replied_in-append, made_in-keeps, given_in-append, sent_in-append, given_in-at, sent_in-at, replied_in-at, link_in-at, inside-at, caused-at, once_now}
+use Rattle.amqp_peer.specs.Causes.{MadeIn, IsOpenCause, in_opening, OpenCauseIn, BeginsWithOpen, TransportCause, opening as own_opening, prepared_in}
+use Rattle.amqp_peer.specs.Held.{IsReadyWith, IsMidway, IsBusyWith, IsBusy, IsExchangedWith, bound, link_at}
+use Rattle.amqp_peer.specs.History.{Local, Put, Exchanged, Replied, made_in, link_in, given_in, sent_in, moment_in, at_link}
+use Rattle.amqp_peer.specs.Peering.{Peering, HasIn, HasCalled, IsHeld, IsHeldAt, IsExchanging, IsRunning, IsFaultless, IsMadeIn, IsUnmade, IsUnmadeAt, HasWritten, IsWaiting, HasFailedOpen}
+use Rattle.amqp_peer.specs.Prepared.{sasl_of}
+use Rattle.amqp_peer.specs.Replies.{open_failed}
+use Rattle.amqp_peer.specs.Runs.{IsSettled, Advanced, Rested, told, open_error_of}
+use Rattle.amqp_peer.proofs.Histories.{given_in-at, sent_in-at, replied_in-at, link_in-at, inside-at, caused-at, once_now}
 use Rattle.amqp_peer.proofs.Moved.{Passed, made_after, link_after, given_after, sent_after, replied_after}
 use Rattle.amqp_peer.proofs.Written.{written_guarded, written_exchanging}
 
@@ -176,7 +170,7 @@ early_rests {L} link at old o o' p left e r n =
             let w = waiting_early old.progress old o p h e r x in
             subst (λ (q : Progress). HasIn q (record old { held = Early o' p }) (at_link n.events ++ h)) (sym w.0)
             (waiting_grows old o o' p n.events h e w.1
-                (of_exchanging o'.stage w.1.call o' p (at_link n.events ++ h) n.comes.0 (exchanging_grows link w.1.call o o' (2 ^ 62) left p n.events h n.moves n.comes.2 (held_early w.1.call old.held o p h e r w.1.called))));
+            (of_exchanging o'.stage w.1.call o' p (at_link n.events ++ h) n.comes.0 (exchanging_grows link w.1.call o o' (2 ^ 62) left p n.events h n.moves n.comes.2 (held_early w.1.call old.held o p h e r w.1.called))));
       };
       settled = λ a. settled_in n.events left n.moves.counted n.comes.1;
     }
@@ -199,10 +193,10 @@ fails_open {L} link old o o' p left e h l r n w =
     let made = made_same (sasl_of w.call) o.has_sasl o'.has_sasl o.negotiation.exchange o'.negotiation.exchange n.moves.layer n.moves.kept k.made in
     let calls : made_in (at_link n.events ++ h) ≡ (old.name, w.call) ∷ [] = made_after h q ∙ w.made in
     let cause : OpenCauseIn (made_in (at_link n.events ++ h)) e (link_in (at_link n.events ++ h)) =
-        subst (λ (cs : List (ℕ × Call)). OpenCauseIn cs e (link_in (at_link n.events ++ h))) (sym calls)
-        (subst (λ (u : List LinkEvent). IsOpenCause w.call e u) (sym (link_after h q)) (in_opening o'.has_sasl o'.negotiation.exchange made ends.cause)) in
+    subst (λ (cs : List (ℕ × Call)). OpenCauseIn cs e (link_in (at_link n.events ++ h))) (sym calls)
+    (subst (λ (u : List LinkEvent). IsOpenCause w.call e u) (sym (link_after h q)) (in_opening o'.has_sasl o'.negotiation.exchange made ends.cause)) in
     let wrote : HasWritten w.call (at_link n.events ++ h) = written_guarded w.call o'.has_sasl o'.negotiation.exchange (at_link n.events ++ h) made
-        (subst (λ (u : List LinkEvent). IsGuarded peer_mechanism o'.has_sasl o'.negotiation.exchange u) (sym (link_after h q)) ends.guarded) in
+    (subst (λ (u : List LinkEvent). IsGuarded peer_mechanism o'.has_sasl o'.negotiation.exchange u) (sym (link_after h q)) ends.guarded) in
     record {
       call = w.call;
       name = old.name;
@@ -248,7 +242,7 @@ early_exchanged {L} link at old o o' p left e r n =
           let w = waiting_early old.progress old o p h e r x in
           subst (λ (q : Progress). HasIn q (record old { held = Early o' p }) (at_link n.events ++ h)) (sym w.0)
           (waiting_grows old o o' p n.events h e w.1
-              (subst (λ (s : Stage). IsHeldAt s w.1.call o' p (at_link n.events ++ h)) (sym n.comes.0) (exchanging_grows link w.1.call o o' (2 ^ 62) left p n.events h n.moves n.comes.1 (held_early w.1.call old.held o p h e r w.1.called))));
+          (subst (λ (s : Stage). IsHeldAt s w.1.call o' p (at_link n.events ++ h)) (sym n.comes.0) (exchanging_grows link w.1.call o o' (2 ^ 62) left p n.events h n.moves n.comes.1 (held_early w.1.call old.held o p h e r w.1.called))));
     }
 
 pub exchanged_ready : {L : Type 0} (o o' : Opened L Authentication) (p : Option Prepared) → IsReadyWith o p → o'.stage ≡ stage.Exchanged → IsExchangedWith o' p

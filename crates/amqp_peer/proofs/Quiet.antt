@@ -1,5 +1,5 @@
 -- A call, a poll or a reply alone changes nothing of what an end holds.
-use Rattle.std.proofs.Common.{◌≡◌, ◌⊎◌, inl, inr, ℕ, List, [], ◌∷◌, ◌++◌, Option, Some, None, refl, sym, ap, ◌∙◌, subst}
+use Rattle.std.proofs.Common.{◌≡◌, inl, inr, ℕ, List, [], ◌∷◌, ◌++◌, Option, Some, None, refl, sym, ◌∙◌, subst}
 use Rattle.amqp_wire.specs.Events.{LinkEvent, read_of, wrote_of}
 use Rattle.amqp_transport.specs.declared.frames.Frame.{Frame}
 use Rattle.amqp_engine.specs.declared.error.Error.{Error as ConnectionFault}
@@ -19,8 +19,8 @@ use Rattle.amqp_peer.specs.declared.peer.Progress.TheVariants as progress
 use Rattle.amqp_peer.specs.declared.prepared.Prepared.{Prepared}
 use Rattle.amqp_peer.specs.Causes.{BeginsWithOpen, IsOther, AllCaused}
 use Rattle.amqp_peer.specs.Gated.{IsGatedIn}
-use Rattle.amqp_peer.specs.History.{Local, Made, Polled, Replied, made_in, link_in, given_in, sent_in, replied_in, since_in, Once}
-use Rattle.amqp_peer.specs.Peering.{Peering, Has, HasIn, HasCalled, IsHeld, IsHeldAt, IsExchanging, IsRunning, IsFaultless, IsUnmadeAt, IsUnmade, IsFaultIn, IsMadeIn, EarlyFault, LateFault, HasWritten, HasNothing, IsWaiting, IsOpen, IsClosing, HasFailedOpen, HasClosed}
+use Rattle.amqp_peer.specs.History.{Local, Made, Polled, Replied, link_in, given_in, sent_in, since_in, Once}
+use Rattle.amqp_peer.specs.Peering.{Peering, Has, HasIn, HasCalled, IsHeld, IsHeldAt, IsExchanging, IsRunning, IsUnmadeAt, IsUnmade, IsFaultIn, IsMadeIn, EarlyFault, LateFault, HasWritten}
 use Rattle.amqp_peer.specs.Prepared.{sasl_of}
 use Rattle.amqp_peer.proofs.Histories.{once_more}
 

@@ -1,9 +1,9 @@
 -- How the calls of an end begin.
-use Rattle.std.proofs.Common.{◌≡◌, ◌≤◌, ◌+◌, ◌^◌, ◌⊎◌, inl, inr, ℕ, List, [], ◌∷◌, ◌++◌, Bool, true, false, length, Option, Some, None, Result, Ok, Err, refl, sym, ap, ◌∙◌, subst, append_assoc, arith}
+use Rattle.std.proofs.Common.{◌≡◌, ◌≤◌, ◌^◌, ◌⊎◌, inl, inr, ℕ, List, [], ◌∷◌, ◌++◌, true, false, Option, Some, None, Result, Ok, Err, refl, sym, ap, ◌∙◌, subst, append_assoc, arith}
 use Rattle.std.proofs.lemmas.List.{append-nil}
 use Rattle.amqp_wire.specs.declared.link.Link.{Ghosts}
 use Rattle.amqp_wire.specs.declared.link.Held.TheVariants.{Full}
-use Rattle.amqp_wire.specs.Events.{LinkEvent, NotWritten, Includes, Went, reads_in, read_of, wrote_of}
+use Rattle.amqp_wire.specs.Events.{LinkEvent, NotWritten, Includes, Went, reads_in, wrote_of}
 use Rattle.amqp_composites.specs.declared.error.Error.{Error as AmqpError}
 use Rattle.amqp_engine.specs.declared.error.Error.{Error as ConnectionFault}
 use Rattle.amqp_engine.specs.declared.error.Error.TheVariants as connection
@@ -18,12 +18,10 @@ use Rattle.amqp_engine.specs.Sentence.{Ran}
 use Rattle.amqp_engine.specs.State.{State, closing, close_frame, close_phase}
 use Rattle.sasl_gate.specs.declared.gate.error.NegotiationError.{NegotiationError}
 use Rattle.sasl_gate.specs.declared.gate.error.NegotiationError.TheVariants as negotiation
-use Rattle.sasl_gate.specs.Negotiation.{Has as NegotiationHas}
 use Rattle.amqp_opening.specs.declared.authentication.Authentication.{Authentication}
 use Rattle.amqp_opening.specs.declared.authentication.SaslCall.{SaslCall}
-use Rattle.amqp_opening.specs.declared.opening.Stage.{Stage}
 use Rattle.amqp_opening.specs.declared.opening.Stage.TheVariants as stage
-use Rattle.amqp_opening.specs.Authentication.{peer_mechanism, MadeFor, holds_by, IsCallRefusal, HasAllowedTexts}
+use Rattle.amqp_opening.specs.Authentication.{peer_mechanism, MadeFor, holds_by, IsCallRefusal}
 use Rattle.amqp_opening.specs.Opening.{Opened, begun, begun_plain, IsMemoryIn}
 use Rattle.amqp_opening.proofs.Exchanges.{gated_nothing}
 use Rattle.amqp_opening.proofs.Openings.{has_begun, has_begun_plain}
@@ -37,18 +35,18 @@ use Rattle.amqp_peer.specs.declared.held.Held.TheVariants.{Early, Late, Unopened
 use Rattle.amqp_peer.specs.declared.peer.Progress.{Progress}
 use Rattle.amqp_peer.specs.declared.peer.Progress.TheVariants as progress
 use Rattle.amqp_peer.specs.declared.prepared.Prepared.{Prepared}
-use Rattle.amqp_peer.specs.Causes.{closing as own_closing, MadeIn, IsOpenCause, not_allowed, OpenCauseIn, AllCaused, BeginsWithOpen, prepared_in}
+use Rattle.amqp_peer.specs.Causes.{closing as own_closing, MadeIn, IsOpenCause, not_allowed, OpenCauseIn, BeginsWithOpen, prepared_in}
 use Rattle.amqp_peer.specs.Gated.{IsTalk, IsGatedIn}
-use Rattle.amqp_peer.specs.Held.{IsReadyWith, IsBusyWith, IsBusy, IsActive, link_at, EndedEarly}
-use Rattle.amqp_peer.specs.History.{Local, Made, Polled, Replied, made_in, link_in, given_in, sent_in, replied_in, moment_in, IsInside, read_in, wrote_in}
-use Rattle.amqp_peer.specs.Peering.{Peering, Has, HasIn, HasCalled, IsHeld, IsHeldAt, IsRunning, IsExchanging, IsUntouched, IsWaiting, IsOpen, IsClosing, HasNothing, HasFailedOpen, HasClosed, HasWritten, IsMadeIn, IsFaultIn, LateFault, link_of}
+use Rattle.amqp_peer.specs.Held.{IsReadyWith, IsBusyWith, IsActive, link_at, EndedEarly}
+use Rattle.amqp_peer.specs.History.{Local, Made, Polled, Replied, made_in, link_in, given_in, replied_in, moment_in, read_in, wrote_in}
+use Rattle.amqp_peer.specs.Peering.{Peering, Has, HasIn, IsHeldAt, IsRunning, IsExchanging, IsUntouched, IsOpen, HasNothing, HasClosed, HasWritten, IsMadeIn, IsFaultIn, LateFault, link_of}
 use Rattle.amqp_peer.specs.Prepared.{prepared_of, sasl_of}
-use Rattle.amqp_peer.specs.Replies.{pending, connection as made_reply, open_failed, answered}
-use Rattle.amqp_peer.specs.Runs.{AdvancedFrom, Advanced, RestedFrom, Rested, Stepped, IsAsked, IsAskedToClose, Refused, told, finished, close_reply, error_in, first_fault}
+use Rattle.amqp_peer.specs.Replies.{pending, open_failed, answered}
+use Rattle.amqp_peer.specs.Runs.{Advanced, RestedFrom, Rested, Stepped, IsAsked, IsAskedToClose, Refused, told, finished, close_reply, error_in, first_fault}
 use Rattle.amqp_peer.proofs.Advances.{called_keeps, settled_left, went_late, finish_close, written_after}
 use Rattle.amqp_peer.proofs.Grows.{closing_moves, fault_same, fault_failed, called_moves, is_running, heard_open_more}
 use Rattle.amqp_peer.proofs.Quiet.{quiet_replied, quiet_made, called_quiet, made_quiet, has_polled}
-use Rattle.amqp_peer.proofs.Histories.{inside-append, link_in-append, given_in-append, sent_in-append, replied_in-append, once_more}
+use Rattle.amqp_peer.proofs.Histories.{inside-append, link_in-append, replied_in-append, once_more}
 use Rattle.amqp_peer.proofs.Moved.{moved, passed, made_after, replied_after}
 
 -- ---- an open or accept
@@ -148,17 +146,17 @@ begins_refused {L} link at n call old new o p0 c e l sasl r m f =
         few = omega arith;
         kind = refl;
         grows = λ h t a. inl (record {
-              call = call;
-              name = old.name;
-              error = failed.Negotiation e;
-              made = a.made;
-              replied = ap (λ (u : List NamedReply). u ++ answer ∷ []) a.replied;
-              called = record {
-                holds = nothing_written call c h sasl a.link;
-                caused = (subst (λ (cs : List (ℕ × Call)). OpenCauseIn cs e (link_in h)) (sym a.made) (refusal_cause c call e h sasl r m), a.caused);
-              };
-              done = λ z. ended_done_at o p0 z;
-            });
+          call = call;
+          name = old.name;
+          error = failed.Negotiation e;
+          made = a.made;
+          replied = ap (λ (u : List NamedReply). u ++ answer ∷ []) a.replied;
+          called = record {
+            holds = nothing_written call c h sasl a.link;
+            caused = (subst (λ (cs : List (ℕ × Call)). OpenCauseIn cs e (link_in h)) (sym a.made) (refusal_cause c call e h sasl r m), a.caused);
+          };
+          done = λ z. ended_done_at o p0 z;
+        });
       };
       settled = λ z. absurd (ended_not_at o p0 z);
     })

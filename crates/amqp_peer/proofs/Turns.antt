@@ -1,15 +1,13 @@
 -- Steps of what an end holds, as steps of the end.
-use Rattle.std.proofs.Common.{◌≡◌, ◌≤◌, ◌^◌, inl, inr, ℕ, List, [], Bool, true, false, Option, Some, None, Result, Ok, Err, refl, sym, ap, ◌∙◌, subst, arith}
+use Rattle.std.proofs.Common.{◌≡◌, ◌≤◌, ◌^◌, ℕ, List, [], Bool, true, false, Option, Some, None, Result, Ok, Err, refl, sym, ap, ◌∙◌, subst, arith}
 use Rattle.std.specs.Prelude.{OnOk}
 use Rattle.std.specs.declared.alloc.AllocError.{AllocError}
 use Rattle.amqp_composites.specs.declared.error.Error.{Error as AmqpError}
 use Rattle.amqp_wire.specs.declared.link.Link.{Ghosts}
-use Rattle.amqp_transport.specs.Wire.{Wire}
 use Rattle.amqp_engine.specs.declared.engine.EngineStep.{EngineStep}
 use Rattle.amqp_engine.specs.declared.engine.EngineStep.TheVariants as step
 use Rattle.amqp_engine.specs.declared.error.Error.{Error as ConnectionFault}
 use Rattle.amqp_engine.specs.declared.error.Error.TheVariants as connection
-use Rattle.amqp_engine.specs.Calls.{OpensTo}
 use Rattle.amqp_engine.specs.Outcomes.{Stepped as EngineStepped, HasClosed as EngineClosed}
 use Rattle.amqp_engine.specs.Phases.{is_stopped}
 use Rattle.amqp_engine.specs.State.{State}
@@ -22,17 +20,23 @@ use Rattle.amqp_opening.specs.declared.opening.Stage.TheVariants as stage
 use Rattle.amqp_opening.specs.Authentication.{peer_mechanism, MadeFor, holds_by, IsCallRefusal}
 use Rattle.amqp_opening.specs.Opening.{Opened, begun, begun_plain, Ran as OpeningRan, IsMemoryIn}
 use Rattle.amqp_words.specs.declared.call.Call.{Call}
+use Rattle.amqp_words.specs.declared.call.Call.TheVariants.{Open, Accept, Close}
 use Rattle.amqp_words.specs.declared.open_error.OpenError.TheVariants as failed
 use Rattle.amqp_words.specs.declared.reply.Reply.TheVariants as reply
 use Rattle.amqp_peer.specs.declared.held.Held.{Held}
 use Rattle.amqp_peer.specs.declared.held.Held.TheVariants.{Early, Late, Unopened, Moving}
 use Rattle.amqp_peer.specs.declared.peer.Progress.TheVariants as progress
 use Rattle.amqp_peer.specs.declared.prepared.Prepared.{Prepared}
-use Rattle.amqp_peer.specs.Held.{IsEarly, IsLate, IsReadyWith, IsReady, IsExchangedWith, IsExchanged, IsActive, SteppedLate, ClosedLate, RanEarly, BeganWith, BeganPlain, EndedEarly, bound, IsConnecting, ConnectedWith, Connected}
-use Rattle.amqp_peer.specs.Peering.{Peering, Has}
+use Rattle.amqp_peer.specs.Calls.{IsFirstCall, IsClose}
+use Rattle.amqp_peer.specs.declared.peer.PeerKind.{PeerKind}
+use Rattle.amqp_peer.specs.declared.peer.PeerKind.TheVariants.{Client, Listener}
+use Rattle.amqp_peer.specs.declared.peer.Progress.{Progress}
+use Rattle.amqp_peer.specs.History.{Local, Made, Polled}
+use Rattle.amqp_peer.specs.Held.{FitsCall, IsEarly, IsLate, IsReadyWith, IsReady, IsExchangedWith, IsExchanged, IsActive, SteppedLate, ClosedLate, RanEarly, BeganWith, BeganPlain, bound, IsConnecting, Connected}
+use Rattle.amqp_peer.specs.Peering.{Peering, Has, HasIn, MayCall, MayCallIn, IsMadeIn}
 use Rattle.amqp_peer.specs.Prepared.{prepared_of, sasl_of}
-use Rattle.amqp_peer.specs.Runs.{Advanced, AdvancedFrom, Worked, Rested, RestedFrom, IsAsked, IsAskedToClose, Refused, told, finished, concluded, greeted, close_reply, error_in, first_fault, open_error_of, without_memory, IsCloseNoted}
-use Rattle.amqp_peer.proofs.Advances.{worked_advances, pending_rests, stopped_rests, failed_advances, rested_then, rested_more, advanced_none}
+use Rattle.amqp_peer.specs.Runs.{Stepped, Advanced, Worked, Rested, RestedFrom, IsAsked, IsAskedToClose, Refused, told, finished, concluded, greeted, close_reply, error_in, first_fault, open_error_of, without_memory, IsCloseNoted}
+use Rattle.amqp_peer.proofs.Advances.{worked_advances, pending_rests, stopped_rests, failed_advances, rested_more}
 use Rattle.amqp_peer.proofs.Openings.{early_rests, early_fails, early_exchanged, exchanged_ready, connected, connect_fails}
 use Rattle.amqp_peer.proofs.Starts.{close_queued, close_kept, close_fails, close_rests, close_worked_not, close_pending_not, close_fails_at_once, begins_with, begins_plain, begins_refused}
 
@@ -278,3 +282,54 @@ began_plain_ready {L} held held' p e b =
     let k = early_held held e in
     let is : held' ≡ Early (begun_plain k.o) (Some p) = subst (λ (h : Held L). BeganPlain h p held') k.is b in
     subst (λ (h : Held L). IsReady h) (sym is) tt
+
+-- with the end as it is afterwards
+
+pub connect_ended : {L : Type 0} (link : Ghosts L) (at : ℕ) (old new : Peering L) (held : Held L) (e y : ConnectionFault) → IsExchanged old.held → Connected old.held at (Err e) held → without_memory e ≡ Ok y → new ≡ told (record old { held = held }) (reply.OpenError (open_error_of y)) → Rested link at (2 ^ 62) old new
+connect_ended {L} link at old new held e y i c w is =
+    let few : 0 ≤ 2 ^ 62 = omega arith in
+    subst (λ (z : Peering L). Rested link at (2 ^ 62) old z) (sym is) (rested_more link at 0 (2 ^ 62) (Has old) old _ few (connect_ends link at old held e y i c w))
+
+pub open_ended : {L : Type 0} (link : Ghosts L) (at : ℕ) (old new : Peering L) (held : Held L) (left : ℕ) (e : NegotiationError) → IsReady old.held → RanEarly {E = AllocError} link old.held (2 ^ 62) (Ok (poll.Failed e)) held left → new ≡ told (record old { held = held }) (reply.OpenError (failed.Negotiation e)) → Rested link at (2 ^ 63) old new
+open_ended {L} link at old new held left e r h is =
+    let few : 2 ^ 62 ≤ 2 ^ 63 = omega arith in
+    subst (λ (z : Peering L). Rested link at (2 ^ 63) old z) (sym is) (rested_more link at (2 ^ 62) (2 ^ 63) (Has old) old _ few (open_ends link at old held left e r h))
+
+-- ---- a call that an end may make fits what it holds
+
+fits_first : {L : Type 0} (kind : PeerKind) (call : Call) (held : Held L) → IsFirstCall kind call → IsEarly held → FitsCall call held
+fits_first kind (Open settings host sasl) held f e = e
+fits_first kind (Accept settings sasl) held f e = e
+fits_first Client (Close error) held f e = absurd f
+fits_first Listener (Close error) held f e = absurd f
+
+fits_close : {L : Type 0} (call : Call) (held : Held L) → IsClose call → IsLate held → FitsCall call held
+fits_close (Open settings host sasl) held c l = absurd c
+fits_close (Accept settings sasl) held c l = absurd c
+fits_close (Close error) held c l = l
+
+made_late : {L : Type 0} (fault : Option ConnectionFault) (held : Held L) (h : List Local) → IsMadeIn fault held h → IsLate held
+made_late fault (Early o p) h m = m
+made_late fault (Late s) h m = tt
+made_late fault (Unopened c) h m = m
+made_late fault Moving h m = m
+
+fitting : {L : Type 0} (q : Progress) (old : Peering L) (call : Call) (h : List Local) → MayCallIn q old.kind call → HasIn q old h → FitsCall call old.held
+fitting {L} progress.Idle old call h may has = fits_first old.kind call old.held may (subst (λ (x : Held L). IsEarly x) (sym has.holds) tt)
+fitting progress.Opening old call h may has = absurd may
+fitting progress.Open old call h may has = fits_close call old.held may (made_late old.fault old.held h has.is_made)
+fitting progress.Closing old call h may has = absurd may
+fitting progress.Over old call h may has = absurd may
+
+pub misfit : {L : Type 0} (link : Ghosts L) (at name : ℕ) (call : Call) (old new : Peering L) → MayCall old name call → (FitsCall call old.held → ⊥) → Stepped link old (Polled at) new → Stepped link old (Made at name call) new
+misfit link at name call old new may n s =
+    record {
+      events = s.events;
+      inside = s.inside;
+      went = s.went;
+      answers = s.answers;
+      few = s.few;
+      kind = s.kind;
+      settled = s.settled;
+      grows = λ h x. absurd (n (fitting old.progress old call h may x));
+    }

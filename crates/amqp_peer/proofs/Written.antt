@@ -12,10 +12,10 @@ use Rattle.amqp_transport.proofs.Streams.{joined_more}
 use Rattle.amqp_engine.specs.Sentence.{bytes_of_all}
 use Rattle.amqp_engine.specs.State.{State}
 use Rattle.amqp_engine.proofs.Said.{said_form}
-use Rattle.sasl_gate.specs.Frames.{Heard, Carries, said, sasl_header}
+use Rattle.sasl_gate.specs.Frames.{Carries, said, sasl_header}
 use Rattle.amqp_opening.specs.declared.authentication.Authentication.{Authentication}
 use Rattle.amqp_opening.specs.declared.authentication.SaslCall.{SaslCall}
-use Rattle.amqp_opening.specs.Authentication.{peer_mechanism, MadeFor}
+use Rattle.amqp_opening.specs.Authentication.{peer_mechanism}
 use Rattle.amqp_opening.specs.Opening.{amqp_header, Opened, HasIntro, HasPassed, IsPlain, IsGuarded}
 use Rattle.amqp_opening.proofs.Exchanges.{gated_from, gated_passed}
 use Rattle.amqp_opening.proofs.Openings.{has_guarded}
@@ -116,7 +116,7 @@ read_running call s h events k =
       read = ap read_of (link_in-append (at_link events) h ∙ ap (λ (u : List LinkEvent). u ++ link_in h) (link_in-at events))
           ∙ read_of-append events (link_in h)
           ∙ ap (λ (u : List ℕ). u ++ read_of events) (ap read_of k.passed ∙ read_of-append k.since k.before ∙ ap (λ (u : List ℕ). u ++ read_of k.since) i.1
-              ∙ append_assoc i.0 (amqp_header ++ k.arrived) (read_of k.since) ∙ ap (λ (u : List ℕ). i.0 ++ u) (append_assoc amqp_header k.arrived (read_of k.since)))
+          ∙ append_assoc i.0 (amqp_header ++ k.arrived) (read_of k.since) ∙ ap (λ (u : List ℕ). i.0 ++ u) (append_assoc amqp_header k.arrived (read_of k.since)))
           ∙ append_assoc i.0 (amqp_header ++ (k.arrived ++ read_of k.since)) (read_of events)
           ∙ ap (λ (u : List ℕ). i.0 ++ u) (append_assoc amqp_header (k.arrived ++ read_of k.since) (read_of events));
       joined = subst (λ (xs : List Frame). Joined 0 amqp_spells ((k.arrived ++ read_of k.since) ++ read_of events) xs (s.wire.codec.input ++ read_of events))

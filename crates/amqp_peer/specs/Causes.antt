@@ -1,5 +1,5 @@
 -- Why something was replied, by the calls, by what passed at the link and by the frames that were read and queued.
-use Rattle.std.specs.Prelude.{◌≡◌, ◌≢◌, ◌⊎◌, ◌<◌, ◌≤◌, ◌+◌, ℕ, List, [], ◌∷◌, ◌++◌, Bool, true, false, Option, Some, None, ⊤}
+use Rattle.std.specs.Prelude.{◌≡◌, ◌⊎◌, ◌<◌, ◌≤◌, ◌+◌, ℕ, List, [], ◌∷◌, ◌++◌, Bool, true, false, Option, Some, None, ⊤}
 use Rattle.amqp_composites.specs.declared.error.Error.{Error as AmqpError}
 use Rattle.amqp_composites.specs.declared.open.Open.{Open}
 use Rattle.amqp_composites.specs.declared.close.Close.{Close}
@@ -18,12 +18,11 @@ use Rattle.amqp_transport.specs.Kinds.{amqp_spells, no_frame}
 use Rattle.amqp_transport.specs.Stream.{Joined}
 use Rattle.amqp_engine.specs.declared.error.Error.{Error as ConnectionFault}
 use Rattle.amqp_engine.specs.declared.error.Error.TheVariants as connection
-use Rattle.amqp_engine.specs.declared.phase.Rejection.{Rejection}
 use Rattle.amqp_engine.specs.Calls.{IsTooLarge}
 use Rattle.amqp_engine.specs.Heard.{IsGreeted}
 use Rattle.amqp_engine.specs.Phases.{kind_of, IsInner}
 use Rattle.amqp_engine.specs.Sentence.{bytes_of_all}
-use Rattle.amqp_engine.specs.State.{open_frame, close_frame, error_for}
+use Rattle.amqp_engine.specs.State.{open_frame, close_frame}
 use Rattle.sasl_gate.specs.declared.gate.error.NegotiationError.{NegotiationError}
 use Rattle.sasl_gate.specs.declared.gate.error.NegotiationError.TheVariants.{ScramError}
 use Rattle.sasl_gate.specs.declared.scram.error.ScramErrorKind.TheVariants.{TextNotAllowed}
@@ -32,7 +31,6 @@ use Rattle.amqp_opening.specs.declared.authentication.SaslCall.{SaslCall}
 use Rattle.amqp_opening.specs.Authentication.{peer_mechanism, MadeFor, HasAllowedTexts}
 use Rattle.amqp_opening.specs.Opening.{amqp_header, IsOpeningCause}
 use Rattle.amqp_words.specs.declared.call.Call.{Call}
-use Rattle.amqp_words.specs.declared.call.Call.TheVariants as call
 use Rattle.amqp_words.specs.declared.open_error.OpenError.TheVariants as failed
 use Rattle.amqp_words.specs.declared.reply.Reply.{Reply}
 use Rattle.amqp_words.specs.declared.reply.Reply.TheVariants as reply

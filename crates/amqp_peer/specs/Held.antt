@@ -17,7 +17,6 @@ use Rattle.amqp_opening.specs.Authentication.{peer_mechanism}
 use Rattle.amqp_opening.specs.Opening.{Opened, begun as begun_with, begun_plain, IsUnderWay, Ran as OpeningRan}
 use Rattle.amqp_engine.specs.declared.engine.EngineStep.{EngineStep}
 use Rattle.amqp_engine.specs.declared.error.Error.{Error as ConnectionFault}
-use Rattle.amqp_engine.specs.declared.error.Error.TheVariants as fault
 use Rattle.amqp_engine.specs.Calls.{OpensTo, Steps}
 use Rattle.amqp_engine.specs.Outcomes.{Stepped, HasClosed}
 use Rattle.amqp_engine.specs.Phases.{state_of, is_stopped}
@@ -25,7 +24,8 @@ use Rattle.amqp_engine.specs.State.{State, stop_reason_of}
 use Rattle.amqp_peer.specs.declared.held.Held.{Held}
 use Rattle.amqp_peer.specs.declared.held.Held.TheVariants.{Early, Late, Unopened, Moving}
 use Rattle.amqp_peer.specs.declared.prepared.Prepared.{Prepared}
-
+use Rattle.amqp_words.specs.declared.call.Call.{Call}
+use Rattle.amqp_words.specs.declared.call.Call.TheVariants.{Open, Accept, Close}
 
 -- the link is not on its way
 abbrev pub IsThere : {L : Type 0} → Held L → Type 0
@@ -47,6 +47,12 @@ IsLate (Early o p) = ⊥
 IsLate (Late s) = ⊤
 IsLate (Unopened c) = ⊥
 IsLate Moving = ⊥
+
+-- a call fits what is held: an open or accept where nothing began, a close where the connection did
+abbrev pub FitsCall : {L : Type 0} → Call → Held L → Type 0
+FitsCall (Open settings host sasl) held = IsEarly held
+FitsCall (Accept settings sasl) held = IsEarly held
+FitsCall (Close error) held = IsLate held
 
 -- the headers are being exchanged
 abbrev pub IsReadyWith : {L : Type 0} → Opened L Authentication → Option Prepared → Type 0

@@ -1,11 +1,11 @@
 -- An end, in words of what happened at it.
-use Rattle.std.specs.Prelude.{◌≡◌, ◌⊎◌, ℕ, List, [], ◌∷◌, ◌++◌, Bool, true, false, Option, Some, None, ⊤}
+use Rattle.std.specs.Prelude.{◌≡◌, ◌⊎◌, ℕ, List, [], ◌∷◌, ◌++◌, Bool, false, Option, Some, None}
 use Rattle.amqp_wire.specs.Events.{LinkEvent}
 use Rattle.amqp_engine.specs.declared.error.Error.{Error as ConnectionFault}
 use Rattle.amqp_engine.specs.declared.error.Error.TheVariants as connection
 use Rattle.amqp_engine.specs.Phases.{has_failed}
 use Rattle.amqp_engine.specs.Sentence.{Has as EngineHas, IsCalm}
-use Rattle.amqp_engine.specs.State.{State, open_frame}
+use Rattle.amqp_engine.specs.State.{State}
 use Rattle.sasl_gate.specs.declared.gate.negotiation.Phase.TheVariants.{Header as HeaderPhase}
 use Rattle.amqp_opening.specs.declared.authentication.Authentication.{Authentication}
 use Rattle.amqp_opening.specs.declared.opening.Stage.{Stage}
@@ -30,7 +30,7 @@ use Rattle.amqp_peer.specs.Gated.{IsGatedIn}
 use Rattle.amqp_peer.specs.Held.{IsBusy, link_at, with_link, nothing_held}
 use Rattle.amqp_peer.specs.History.{Local, made_in, link_in, given_in, sent_in, replied_in, read_in, wrote_in, since_in, Once}
 use Rattle.amqp_peer.specs.Prepared.{prepared_of, sasl_of}
-use Rattle.amqp_peer.specs.Replies.{pending, connection, open_failed, answered, IsCloseEnd, AreClosing}
+use Rattle.amqp_peer.specs.Replies.{pending, connection, open_failed, answered, IsCloseEnd}
 
 -- an end: what holds its link, which side it is, how far its calls are, the name of the last, the first fault that was not told yet, the
 -- replies that were not taken out, and whether memory was wanting

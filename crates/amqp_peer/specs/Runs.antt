@@ -1,5 +1,5 @@
 -- An end that goes on.
-use Rattle.std.specs.Prelude.{◌≡◌, ◌≤◌, ◌+◌, ◌^◌, ◌⊎◌, ℕ, List, [], ◌∷◌, ◌++◌, length, Bool, true, false, Option, Some, None, Result, Ok, Err, ⊤}
+use Rattle.std.specs.Prelude.{◌≡◌, ◌≤◌, ◌+◌, ◌^◌, ◌⊎◌, ℕ, List, [], ◌∷◌, ◌++◌, length, Bool, true, false, Option, Some, None, Result, Ok, Err}
 use Rattle.std.specs.declared.alloc.AllocError.{AllocError}
 use Rattle.amqp_composites.specs.declared.error.Error.{Error as AmqpError}
 use Rattle.amqp_frames.specs.declared.shared.ConnectionStopReason.{ConnectionStopReason}
@@ -21,7 +21,7 @@ use Rattle.amqp_words.specs.declared.call.Call.{Call}
 use Rattle.amqp_words.specs.declared.call.Call.TheVariants.{Close}
 use Rattle.amqp_peer.specs.declared.prepared.Prepared.{Prepared}
 use Rattle.amqp_peer.specs.declared.held.Held.{Held}
-use Rattle.amqp_peer.specs.declared.held.Held.TheVariants.{Early, Late, Unopened, Moving}
+use Rattle.amqp_peer.specs.declared.held.Held.TheVariants.{Early}
 use Rattle.amqp_peer.specs.declared.peer.Progress.{Progress}
 use Rattle.amqp_peer.specs.declared.peer.Progress.TheVariants as progress
 use Rattle.amqp_peer.specs.Held.{IsActive, EndedEarly, reason_of, is_made}

@@ -5,8 +5,10 @@ ghost use Rattle.amqp_engine.specs.Calls.{Sends};
 ghost use Rattle.amqp_engine.specs.State.{State, closing, close_frame, stop_reason_of};
 ghost use Rattle.amqp_peer.specs.contracts.held.Held.{the_row};
 ghost use Rattle.amqp_peer.specs.declared.held.Held.{Held};
-ghost use Rattle.amqp_peer.specs.Held.{IsThere, IsEarly, IsReady, IsExchanged, IsActive, IsLate, with_link, link_at, nothing_held, BeganWith, BeganPlain, EndedEarly, RanEarly, Connected, IsConnecting, bound, SteppedLate, ClosedLate, is_made, reason_of};
+ghost use Rattle.amqp_peer.specs.Held.{IsThere, IsEarly, IsReady, IsExchanged, IsActive, IsLate, with_link, link_at, nothing_held, BeganWith, BeganPlain, EndedEarly, RanEarly, Connected, IsConnecting, bound, SteppedLate, ClosedLate, FitsCall, is_made, reason_of};
 
+use crate::copies::discard;
+use crate::prepared::Prepared;
 use amqp_composites::error::Error as AmqpError;
 use amqp_engine::{ConnectionEngine, EngineStep, Error as ConnectionError};
 use amqp_frames::{ConnectionState, ConnectionStopReason};
@@ -15,11 +17,9 @@ use amqp_opening::opening::{Opening, OpeningPoll, Stage};
 use amqp_transport::Transport;
 use amqp_wire::codec::FramedCodec;
 use amqp_wire::link::Link;
+use amqp_words::Call;
 use std::alloc::{AllocError, Global};
 use std::mem;
-
-use crate::copies::discard;
-use crate::prepared::Prepared;
 
 /// How far a link has gone on.
 #[derive(Clone, Copy, Debug, PartialEq, Eq)]
@@ -220,6 +220,17 @@ impl<L: Link> Held<L> {
         match self {
             Held::Late(engine) => engine.close(error),
             _ => unreachable!(),
+        }
+    }
+
+    /// Whether a call fits: an open or accept where nothing began, a close where the connection did.
+    pub fn fits(&self, call: &Call) -> bool
+        ensures { IsTrue result ↔ FitsCall call.now self.now }
+    {
+        match (self, call) {
+            (Held::Early(..), Call::Open { .. } | Call::Accept { .. }) => true,
+            (Held::Late(_), Call::Close { .. }) => true,
+            _ => false,
         }
     }
 

@@ -7,7 +7,7 @@ ghost use Rattle.amqp_opening.specs.Permission.{IsAllowedSaslCall};
 ghost use Rattle.amqp_words.specs.declared.call.Call.{Call};
 ghost use Rattle.amqp_peer.specs.declared.peer.Progress.{Progress};
 ghost use Rattle.amqp_peer.specs.Calls.{IsAllowedLayer};
-ghost use Rattle.amqp_peer.specs.Held.{IsThere, IsEarly, IsReady, IsExchanged, IsActive, IsLate, with_link};
+ghost use Rattle.amqp_peer.specs.Held.{IsThere, IsEarly, IsReady, IsExchanged, IsActive, IsLate, FitsCall, with_link};
 ghost use Rattle.amqp_peer.specs.History.{Made, Polled};
 ghost use Rattle.amqp_peer.specs.Peering.{Peering, fresh, link_of, MayCall};
 ghost use Rattle.amqp_peer.specs.Prepared.{prepared_of, sasl_of};
@@ -414,12 +414,7 @@ impl<L: Link> Peer<L> {
     }
 
     // An open or accept with a SASL layer begins.
-    fn begin_with(
-        &mut self,
-        at: u64,
-        prepared: Prepared,
-        sasl: SaslCall,
-    ) -> Result<(), AllocError>
+    fn begin_with(&mut self, at: u64, prepared: Prepared, sasl: SaslCall) -> Result<(), AllocError>
         requires early { IsEarly self.old.held }
         requires allowed { IsAllowedSaslCall sasl }
         ensures ok { OnOk result ((call : Call) → prepared_of call ≡ Some prepared → sasl_of call ≡ Some sasl → RestedFrom L.Link at (2 ^ 63) (IsAsked call self.old) self.old self.new) }
@@ -567,7 +562,8 @@ impl<L: Link> Peer<L> {
     }
 
     fn make(&mut self, at: u64, name: u64, call: Call) -> Result<(), AllocError>
-        requires { MayCall self.old name call }
+        requires may { MayCall self.old name call }
+        requires fits { FitsCall call self.old.held }
         ensures ok { OnOk result (Stepped L.Link self.old (Made at name call) self.new) }
         ensures alive { self.new.failed ≡ self.old.failed }
     {
@@ -585,6 +581,19 @@ impl<L: Link> Peer<L> {
             }
             Call::Close { error } => self.close(at, name, error),
         }
+    }
+
+    // What an end holds fits each call that it may make.
+    fn take(&mut self, at: u64, name: u64, call: Call) -> Result<(), AllocError>
+        requires { MayCall self.old name call }
+        ensures ok { OnOk result (Stepped L.Link self.old (Made at name call) self.new) }
+        ensures alive { self.new.failed ≡ self.old.failed }
+    {
+        if self.held.fits(&call) {
+            return self.make(at, name, call);
+        }
+        discard(call);
+        self.run(at)
     }
 
     fn run(&mut self, at: u64) -> Result<(), AllocError>
@@ -611,7 +620,7 @@ impl<L: Link> Peer<L> {
             discard(call);
             return Err(PeerError::Failed);
         }
-        match self.make(at, name, call) {
+        match self.take(at, name, call) {
             Ok(()) => Ok(()),
             Err(error) => {
                 self.failed = true;

@@ -1,4 +1,4 @@
-use Rattle.std.proofs.Common.{◌≡◌, refl, ap, ◌∙◌, subst, Ok, Err}
+use Rattle.std.proofs.Common.{refl, ap, ◌∙◌, subst, Ok, Err}
 use Rattle.amqp_transport.specs.Wire.{Wire}
 use Rattle.amqp_engine.specs.Calls.{OpensTo}
 use Rattle.amqp_peer.specs.declared.held.Held.TheVariants.{Unopened}

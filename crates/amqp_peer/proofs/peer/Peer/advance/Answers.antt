@@ -1,5 +1,5 @@
 use Rattle.std.proofs.Common.{sym}
-use Rattle.amqp_peer.proofs.Turns.{worked_step, pending_step, stopped_step, failed_step, late_stays}
+use Rattle.amqp_peer.proofs.Turns.{worked_step, pending_step, stopped_step, failed_step}
 use Rattle.amqp_peer.proofs.peer.Peer.advance.Goals as goal
 
 pub returns-in_ok-greet-in-Ok-Worked-clause-more : goal.returns-in_ok-greet-in-Ok-Worked-clause-more

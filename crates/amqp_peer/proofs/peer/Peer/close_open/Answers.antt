@@ -1,18 +1,12 @@
-use Rattle.std.proofs.Common.{rules, ◌≡◌, ◌↔◌, ◌≤◌, ◌<◌, ◌+◌, ◌^◌, List, ℕ, [], ◌∷◌, ◌++◌, length, true, false, Ok, Err, Some, None, IfOk, OnOk, OnErr, IsTrue, IsErrOf, IfErr, option_map, ◌-◌, ◌*◌, ◌/◌, ◌%◌, Bool, nat_eq, nat_lt, slice_index_or, slice_set, bit_and, bit_or, Fits, w8, w32, w64, Bor, MutBor}
-use Rattle.std.specs.Borrow.{Lends, sem}
-use Rattle.amqp_peer.specs.contracts.peer.Peer.{the_row}
-use Rattle.amqp_peer.specs.declared.peer.PeerError.TheVariants.{Memory}
-use Rattle.amqp_opening.specs.Permission.{IsAllowedSaslCall}
-use Rattle.amqp_words.specs.declared.call.Call.{Call}
-use Rattle.amqp_peer.specs.declared.peer.Progress.{Progress}
-use Rattle.amqp_peer.specs.Calls.{IsAllowedLayer}
-use Rattle.amqp_peer.specs.Held.{IsThere, IsEarly, IsReady, IsExchanged, IsActive, IsLate, with_link}
-use Rattle.amqp_peer.specs.History.{Made, Polled}
-use Rattle.amqp_peer.specs.Peering.{Peering, fresh, link_of, MayCall}
-use Rattle.amqp_peer.specs.Prepared.{prepared_of, sasl_of}
-use Rattle.amqp_peer.specs.Runs.{Stepped, Advanced, AdvancedFrom, Worked, Rested, RestedFrom, IsAsked, IsAskedToClose, Refused, open_error_of, open_failure, open_reply, close_reply, told_of, error_for, first_fault, error_in, told, finished, concluded, greeted_if, greeted, without_memory, IsCloseNoted}
+use Rattle.std.proofs.Common.{◌^◌, ap, ◌∙◌, subst}
+use Rattle.amqp_peer.specs.Peering.{Peering, Has}
+use Rattle.amqp_peer.specs.Runs.{Rested}
+use Rattle.amqp_peer.proofs.Advances.{rested_then}
+use Rattle.amqp_peer.proofs.Starts.{asked_waits}
+use Rattle.amqp_peer.proofs.Turns.{on_ok}
 use Rattle.amqp_peer.proofs.peer.Peer.close_open.Goals as goal
 
--- src/peer.rt:519:5
 pub returns-clause-ok : goal.returns-clause-ok
-returns-clause-ok g c = ?
+returns-clause-ok g c =
+    let answered = c.in_ok-answer.ensures.ok in
+    on_ok c.go_on.result (λ r p. asked_waits g.L.Link c.args.at (2 ^ 62) c.args.self.now c.go_on.new.self p (subst (λ (z : Peering _). Rested g.L.Link c.args.at (2 ^ 62) z c.go_on.new.self) answered (rested_then g.L.Link c.args.at 0 (2 ^ 62) (Has _) c.answer.new.self c.queue_close.new.self c.go_on.new.self (c.in_ok-queue_close.ensures.ok c.args.at (ap (λ (z : Peering _). z.progress) answered ∙ p)) r))) c.go_on.ensures.ok

@@ -1,22 +1,16 @@
-use Rattle.std.proofs.Common.{rules, ◌≡◌, ◌↔◌, ◌≤◌, ◌<◌, ◌+◌, ◌^◌, List, ℕ, [], ◌∷◌, ◌++◌, length, true, false, Ok, Err, Some, None, IfOk, OnOk, OnErr, IsTrue, IsErrOf, IfErr, option_map, ◌-◌, ◌*◌, ◌/◌, ◌%◌, Bool, nat_eq, nat_lt, slice_index_or, slice_set, bit_and, bit_or, Fits, w8, w32, w64, Bor, MutBor}
-use Rattle.std.specs.Borrow.{Lends, sem}
-use Rattle.amqp_peer.specs.contracts.peer.Peer.{the_row}
-use Rattle.amqp_peer.specs.declared.peer.PeerError.TheVariants.{Memory}
-use Rattle.amqp_opening.specs.Permission.{IsAllowedSaslCall}
-use Rattle.amqp_words.specs.declared.call.Call.{Call}
-use Rattle.amqp_peer.specs.declared.peer.Progress.{Progress}
-use Rattle.amqp_peer.specs.Calls.{IsAllowedLayer}
-use Rattle.amqp_peer.specs.Held.{IsThere, IsEarly, IsReady, IsExchanged, IsActive, IsLate, with_link}
-use Rattle.amqp_peer.specs.History.{Made, Polled}
-use Rattle.amqp_peer.specs.Peering.{Peering, fresh, link_of, MayCall}
-use Rattle.amqp_peer.specs.Prepared.{prepared_of, sasl_of}
-use Rattle.amqp_peer.specs.Runs.{Stepped, Advanced, AdvancedFrom, Worked, Rested, RestedFrom, IsAsked, IsAskedToClose, Refused, open_error_of, open_failure, open_reply, close_reply, told_of, error_for, first_fault, error_in, told, finished, concluded, greeted_if, greeted, without_memory, IsCloseNoted}
+use Rattle.std.proofs.Common.{◌^◌, sym}
+use Rattle.amqp_peer.specs.Peering.{Has}
+use Rattle.amqp_peer.proofs.Advances.{rested_then}
+use Rattle.amqp_peer.proofs.Turns.{on_ok, connect_begins, connect_ended}
 use Rattle.amqp_peer.proofs.peer.Peer.connect.Goals as goal
 
--- src/peer.rt:375:5
 pub returns-in-Ok-clause-ok : goal.returns-in-Ok-clause-ok
-returns-in-Ok-clause-ok g c = ?
+returns-in-Ok-clause-ok g c =
+    let req = rw (← c.self.view_is) at c.requires in
+    rw (← c.self.view_is) (on_ok c.go_on.result (λ r. rested_then g.L.Link c.args.at 0 (2 ^ 62) (Has _) _ _ c.go_on.new.self (connect_begins g.L.Link c.args.at _ c.connect.new.self c.in-Ok.field-0 req c.in-Ok.ensures.connected) r) c.go_on.ensures.ok)
 
--- src/peer.rt:375:5
 pub returns-in_ok-error-in-Err-clause-ok : goal.returns-in_ok-error-in-Err-clause-ok
-returns-in_ok-error-in-Err-clause-ok g c = ?
+returns-in_ok-error-in-Err-clause-ok g c =
+    let req = rw (← c.self.view_is) at c.requires in
+    let ended = rw c.open_error_of.ensures at c.finish.ensures.ok in
+    rw (← c.self.view_is) (on_ok c.finish.result (λ e. connect_ended g.L.Link c.args.at _ c.finish.new.self c.connect.new.self c.in-Err.error c.in_ok-error-in-Err.error req c.in-Err.ensures.connected (sym c.in_ok-error-in-Err.ensures) e) ended)
