@@ -51,18 +51,12 @@ pub struct World {
 
 impl Model for World {
     ghost use Rattle.std.specs.Prelude.{◌≡◌, false};
-    ghost use Rattle.amqp_world.specs.WorldView.{WorldView};
+    ghost use Rattle.amqp_world.specs.WorldView.{WorldView, view_code};
     ghost use Rattle.amqp_world.specs.Related.{Related, view_of};
-
-    ghost use Rattle.std.specs.Coded.{codes};
-    ghost use Rattle.amqp_fields.specs.contracts.map.FieldMap as map;
-    ghost use Rattle.amqp_frames.specs.contracts.shared.ConnectionStopReason as stop_reason;
-    ghost use Rattle.amqp_frames.specs.contracts.shared.IncomingSession as asked;
-    ghost use Rattle.amqp_transport.specs.contracts.frames.Frame as frame;
 
     ghost Value = { WorldView };
 
-    ghost coded = { Prim.hlevel (codes, map.the_row.coded, stop_reason.the_row.coded, asked.the_row.coded, frame.the_row.coded) };
+    ghost coded = { view_code };
 
     ghost view = { λ w. view_of w.both w.failed };
 
