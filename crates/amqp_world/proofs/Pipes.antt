@@ -1,8 +1,9 @@
 -- Pipes as links: what passed at one.
 use Rattle.std.proofs.Common.{◌≡◌, inl, inr, List, [], ◌∷◌, ◌++◌, subst, arith}
 use Rattle.amqp_wire.specs.declared.link.Stop.TheVariants as stop
+use Rattle.amqp_wire.specs.declared.link.Held.TheVariants as held
 use Rattle.amqp_wire.specs.Link.{Rose}
-use Rattle.amqp_wire.specs.Events.{LinkEvent, NotRead, IsEvent, Went, Includes, read_of, wrote_of}
+use Rattle.amqp_wire.specs.Events.{LinkEvent, NotRead, NotWritten, IsEvent, Went, Includes, read_of, wrote_of}
 use Rattle.amqp_wire.specs.Piped.{Piped}
 use Rattle.amqp_wire.proofs.Events.{went_reads, went_writes, went_mark, went_failed}
 use Rattle.amqp_world.specs.Causes.{IsCalm}
@@ -26,16 +27,22 @@ never_ends a b [] w i = i
 never_ends a b (x ∷ es) w (inl e) = let q : IsEvent piping w.0 (NotRead stop.End) b = subst (λ (y : LinkEvent). IsEvent piping w.0 y b) e w.2 in q.why
 never_ends a b (x ∷ es) w (inr i) = never_ends a w.0 es w.1 i
 
+never_fills : (a b : Piped) (es : List LinkEvent) → Went piping a es b → Includes es (NotWritten held.Full) → ⊥
+never_fills a b [] w i = i
+never_fills a b (x ∷ es) w (inl e) = let q : IsEvent piping w.0 (NotWritten held.Full) b = subst (λ (y : LinkEvent). IsEvent piping w.0 y b) e w.2 in q.why
+never_fills a b (x ∷ es) w (inr i) = never_fills a w.0 es w.1 i
+
 pub pipe_calm : (a b : Piped) (es : List LinkEvent) → Went piping a es b → IsCalm es
 pipe_calm a b es w =
     record {
       unfailed_reads = λ i. never_rose (went_failed piping a b es w (inl i));
       unfailed_writes = λ i. never_rose (went_failed piping a b es w (inr i));
       unended = never_ends a b es w;
+      unfilled = never_fills a b es w;
     }
 
 pub calm_none : IsCalm []
-calm_none = record { unfailed_reads = λ i. i; unfailed_writes = λ i. i; unended = λ i. i }
+calm_none = record { unfailed_reads = λ i. i; unfailed_writes = λ i. i; unended = λ i. i; unfilled = λ i. i }
 
 none_of : (fs es : List LinkEvent) (y : LinkEvent) → (Includes fs y → ⊥) → (Includes es y → ⊥) → Includes (fs ++ es) y → ⊥
 none_of [] es y p q i = q i
@@ -48,4 +55,5 @@ calm_more fs es p q =
       unfailed_reads = none_of fs es _ p.unfailed_reads q.unfailed_reads;
       unfailed_writes = none_of fs es _ p.unfailed_writes q.unfailed_writes;
       unended = none_of fs es _ p.unended q.unended;
+      unfilled = none_of fs es _ p.unfilled q.unfilled;
     }

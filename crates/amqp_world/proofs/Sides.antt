@@ -1,6 +1,6 @@
 -- Where a step leaves both ends.
 use Rattle.std.proofs.Common.{◌≡◌, ◌↔◌, ◌+◌, ◌≤◌, List, ℕ, [], ◌∷◌, ◌++◌, true, false, length, take, drop, refl, sym, ap, ◌∙◌, subst, arith, length-append, append_assoc}
-use Rattle.std.proofs.lemmas.List.{take-append-le}
+use Rattle.std.proofs.lemmas.List.{take-append-le, append-nil}
 use Rattle.std.proofs.Math.Seq.{take-add}
 use Rattle.amqp_wire.specs.Events.{LinkEvent}
 use Rattle.amqp_wire.specs.Piped.{Piped}
@@ -9,26 +9,26 @@ use Rattle.amqp_peer.specs.declared.peer.PeerKind.{PeerKind}
 use Rattle.amqp_words.specs.declared.reply.NamedReply.{NamedReply}
 use Rattle.amqp_peer.specs.History.{Local, made_in, link_in, replied_in, read_in, wrote_in}
 use Rattle.amqp_peer.specs.Calls.{IsValidCall}
-use Rattle.amqp_peer.specs.Causes.{HaveCauses}
+use Rattle.amqp_peer.specs.Causes.{AllCaused}
 use Rattle.amqp_peer.specs.Gated.{IsGated}
-use Rattle.amqp_peer.specs.Peering.{Peering, Has, MayCall, fresh, link_of}
+use Rattle.amqp_peer.specs.Peering.{Peering, Has, MayCall, fresh}
 use Rattle.amqp_peer.specs.Replies.{AreReplies}
 use Rattle.amqp_peer.proofs.Laws.{has_fresh, has_with_link, has_taken, link_of-fresh, may_law, replies_law, gated_law, gated_more, causes_law}
 use Rattle.amqp_words.specs.declared.step.End.{End}
 use Rattle.amqp_words.specs.declared.step.Act.{Act}
 use Rattle.amqp_words.specs.declared.step.Act.TheVariants.{Take, TakeAll, Call}
-use Rattle.amqp_world.specs.History.{Event, wrote, taken, moved, read, calls, called, replied, other, is_same}
+use Rattle.amqp_world.specs.History.{Event, wrote, taken, moved, read, calls, called, begun, begun_by, begun_in, replied, other, is_same}
 use Rattle.amqp_world.specs.Valid.{IsValid, IsValidAct, kind_of}
 use Rattle.amqp_world.specs.Causes.{IsCalm, AreCaused}
 use Rattle.amqp_world.specs.Explains.{Explains}
-use Rattle.amqp_world.specs.Turn.{CanAct, Turned, begun, fed, drained, marked, empty_pipe}
+use Rattle.amqp_world.specs.Turn.{CanAct, Turned, fed, drained, marked, empty_pipe, pipe_of}
 use Rattle.amqp_world.specs.Related.{Side}
 use Rattle.amqp_world.proofs.Pipes.{calm_none, calm_more}
-use Rattle.amqp_world.proofs.Growth.{wrote_near, wrote_far, taken_near, taken_far, calls_near, calls_far, replied_near, replied_far, made_grown, link_grown, replied_grown, read_grown, wrote_grown}
+use Rattle.amqp_world.proofs.Growth.{wrote_near, wrote_far, taken_near, taken_far, calls_near, calls_far, begun_near, begun_far, replied_near, replied_far, made_grown, begun_grown, link_grown, replied_grown, read_grown, wrote_grown}
 use Rattle.amqp_world.proofs.Turns.{marked_link, stepped_input, stepped_mark, stepped_calm, turned_wrote, turned_replied, turned_link}
 use Rattle.amqp_world.proofs.Form.{form_of}
 use Rattle.amqp_world.proofs.Gate.{gate_of}
-use Rattle.amqp_world.proofs.Causes.{caused_last}
+use Rattle.amqp_world.proofs.Causes.{caused_inside}
 
 -- what a valid act moves is there
 moved_within : (e f : End) (act : Act) (past : List Event) → other e ≡ f → IsValidAct e past act → taken e past ≤ length (wrote f past) → moved act (taken e past) (length (wrote f past)) ≤ length (wrote f past)
@@ -37,66 +37,70 @@ moved_within e f TakeAll past o v b = omega arith
 moved_within e f (Call call) past o v b = b
 
 -- how far a step moves the mark of the other end, in words of the past
-moved_to : (e f : End) (past : List Event) (act : Act) (q : Peering Piped) (count : ℕ) → Side f e q past → (link_of q).mark + count ≡ moved act (link_of q).mark (length (link_of q).output) → (link_of q).mark + count ≡ moved act (taken e past) (length (wrote f past))
+moved_to : (e f : End) (past : List Event) (act : Act) (q : Peering Piped) (count : ℕ) → Side f e q past → (pipe_of q).mark + count ≡ moved act (pipe_of q).mark (length (pipe_of q).output) → (pipe_of q).mark + count ≡ moved act (taken e past) (length (wrote f past))
 moved_to e f past act q count far counted =
-    counted ∙ ap (λ (k : ℕ). moved act k (length (link_of q).output)) far.mark ∙ ap (λ (u : List ℕ). moved act (taken e past) (length u)) far.output
+    counted ∙ ap (λ (k : ℕ). moved act k (length (pipe_of q).output)) far.mark ∙ ap (λ (u : List ℕ). moved act (taken e past) (length u)) far.output
 
--- the end that made a step
-pub side_near : (e f : End) (x : Event) (past : List Event) (p q p' q' : Peering Piped) → is_same e x.step.end ≡ true → is_same f x.step.end ≡ false → other e ≡ f → Side e f p past → Side f e q past → Turned p q (length past) x.step.at x.step.act p' q' x.entry → Side e f p' (x ∷ past)
+-- the end that made a step, whose history has the step's events
+pub side_near : (e f : End) (x : Event) (past : List Event) (p q p' q' : Peering Piped) → is_same e x.step.end ≡ true → is_same f x.step.end ≡ false → other e ≡ f → (near : Side e f p past) → Side f e q past → (t : Turned p q (length past) x.step.at x.step.act p' q' x.entry) → (s : Side e f p' (x ∷ past)) × (s.h ≡ t.stepped.events ++ begun x.step.at (length past) x.step.act ∷ near.h)
 side_near e f x past p q p' q' n m o near far t =
     let name : ℕ = length past in
     let es : List Local = t.stepped.events in
     let h' : List Local = es ++ begun x.step.at name x.step.act ∷ near.h in
     let W : List ℕ = wrote f past in
-    let k : Piped = link_of q in
-    let same : link_of p' ≡ link_of t.ran = turned_link p q p' q' name x.step.at x.step.act x.entry t in
-    let before : read_in near.h ++ (link_of p).input ≡ take k.mark k.output =
+    let k : Piped = pipe_of q in
+    let same : pipe_of p' ≡ pipe_of t.ran = turned_link p q p' q' name x.step.at x.step.act x.entry t in
+    let before : read_in near.h ++ (pipe_of p).input ≡ take k.mark k.output =
     near.got ∙ ap (λ (y : End). take (taken e past) (wrote y past)) o ∙ ap (λ (i : ℕ). take i W) (sym far.mark) ∙ ap (λ (u : List ℕ). take k.mark u) (sym far.output) in
     let to : k.mark + t.count ≡ moved x.step.act (taken e past) (length W) = moved_to e f past x.step.act q t.count far t.counted in
     let after : read e (x ∷ past) ≡ take (k.mark + t.count) k.output =
     ap (λ (y : End). take (taken e (x ∷ past)) (wrote y (x ∷ past))) o
     ∙ ap (λ (i : ℕ). take i (wrote f (x ∷ past))) (taken_near e x past n ∙ ap (λ (y : End). moved x.step.act (taken e past) (length (wrote y past))) o ∙ sym to)
     ∙ ap (λ (u : List ℕ). take (k.mark + t.count) u) (wrote_far f x past m ∙ sym far.output) in
-    let came : (link_of p).input ++ take t.count (drop k.mark k.output) ≡ read_in es ++ (link_of t.ran).input = stepped_input p k t.count (begun x.step.at name x.step.act) t.ran t.stepped in
-    let output : (link_of p').output ≡ (link_of p).output ++ x.entry.wrote = ap (λ (z : Piped). z.output) same ∙ t.output in
-    let mark : (link_of p').mark ≡ (link_of p).mark = ap (λ (z : Piped). z.mark) same ∙ stepped_mark p k t.count (begun x.step.at name x.step.act) t.ran t.stepped in
+    let came : (pipe_of p).input ++ take t.count (drop k.mark k.output) ≡ read_in es ++ (pipe_of t.ran).input = stepped_input p k t.count (begun x.step.at name x.step.act) t.ran t.stepped in
+    let output : (pipe_of p').output ≡ (pipe_of p).output ++ x.entry.wrote = ap (λ (z : Piped). z.output) same ∙ t.output in
+    let mark : (pipe_of p').mark ≡ (pipe_of p).mark = ap (λ (z : Piped). z.mark) same ∙ stepped_mark p k t.count (begun x.step.at name x.step.act) t.ran t.stepped in
+    let s : Side e f p' (x ∷ past) =
     record {
       h = h';
-      has = subst (λ (z : Peering Piped). Has z h') (sym t.near_end) (has_taken t.ran h' (t.stepped.grows near.h (has_with_link p (fed (link_of p) k t.count) near.h near.has)));
-      made = made_grown es near.h x.step.at name x.step.act t.stepped.calm ∙ ap (λ (cs : List (ℕ × peer_call.Call)). called x.step.act name cs) near.made ∙ sym (calls_near e x past n);
+      has = subst (λ (z : Peering Piped). Has z h') (sym t.near_end) (has_taken t.ran h' (t.stepped.grows near.h (has_with_link p (fed (pipe_of p) k t.count) near.h near.has)));
+      made = made_grown es near.h x.step.at name x.step.act t.stepped.inside ∙ ap (λ (cs : List (ℕ × peer_call.Call)). called x.step.act name cs) near.made ∙ sym (calls_near e x past n);
+      begins = begun_grown es near.h x.step.at name x.step.act t.stepped.inside ∙ ap (λ (u : List Local). begun x.step.at name x.step.act ∷ u) near.begins ∙ sym (begun_near e x past n);
       got =
-          ap (λ (u : List ℕ). u ++ (link_of p').input) (read_grown es near.h x.step.at name x.step.act) ∙ ap (λ (z : Piped). (read_in near.h ++ read_in es) ++ z.input) same
-          ∙ append_assoc (read_in near.h) (read_in es) (link_of t.ran).input ∙ ap (λ (u : List ℕ). read_in near.h ++ u) (sym came) ∙ sym (append_assoc (read_in near.h) (link_of p).input _)
+          ap (λ (u : List ℕ). u ++ (pipe_of p').input) (read_grown es near.h x.step.at name x.step.act) ∙ ap (λ (z : Piped). (read_in near.h ++ read_in es) ++ z.input) same
+          ∙ append_assoc (read_in near.h) (read_in es) (pipe_of t.ran).input ∙ ap (λ (u : List ℕ). read_in near.h ++ u) (sym came) ∙ sym (append_assoc (read_in near.h) (pipe_of p).input _)
           ∙ ap (λ (u : List ℕ). u ++ take t.count (drop k.mark k.output)) before ∙ sym (take-add k.mark t.count k.output) ∙ sym after;
       sent = wrote_grown es near.h x.step.at name x.step.act ∙ ap (λ (u : List ℕ). wrote_in near.h ++ u) (turned_wrote p q p' q' name x.step.at x.step.act x.entry t) ∙ ap (λ (u : List ℕ). u ++ x.entry.wrote) near.sent ∙ sym (wrote_near e x past n);
       answered = replied_grown es near.h x.step.at name x.step.act ∙ ap (λ (u : List NamedReply). replied_in near.h ++ u) (turned_replied p q p' q' name x.step.at x.step.act x.entry t near.empty) ∙ ap (λ (u : List NamedReply). u ++ x.entry.replies) near.answered ∙ sym (replied_near e x past n);
       calm = subst (λ (u : List LinkEvent). IsCalm u) (sym (link_grown es near.h x.step.at name x.step.act)) (calm_more (link_in es) (link_in near.h) (stepped_calm p k t.count (begun x.step.at name x.step.act) t.ran t.stepped) near.calm);
       output = output ∙ ap (λ (u : List ℕ). u ++ x.entry.wrote) near.output ∙ sym (wrote_near e x past n);
       mark = mark ∙ near.mark ∙ sym (taken_far f x past m);
-      bound = let more : length (link_of p').output ≡ length (link_of p).output + length x.entry.wrote = ap length output ∙ length-append (link_of p).output x.entry.wrote in omega (arith, near.bound);
+      bound = let more : length (pipe_of p').output ≡ length (pipe_of p).output + length x.entry.wrote = ap length output ∙ length-append (pipe_of p).output x.entry.wrote in omega (arith, near.bound);
       empty = ap (λ (z : Peering Piped). z.replies) t.near_end;
       kind = ap (λ (z : Peering Piped). z.kind) t.near_end ∙ t.stepped.kind ∙ near.kind;
       alive = t.alive ∙ near.alive;
-    }
+    } in
+    (s, refl)
 
 -- the other end
 pub side_far : (e f : End) (x : Event) (past : List Event) (p q p' q' : Peering Piped) → is_same e x.step.end ≡ true → is_same f x.step.end ≡ false → other e ≡ f → other f ≡ e → IsValidAct e past x.step.act → Side e f p past → Side f e q past → Turned p q (length past) x.step.at x.step.act p' q' x.entry → Side f e q' (x ∷ past)
 side_far e f x past p q p' q' n m o o' v near far t =
     let W : List ℕ = wrote f past in
-    let k : Piped = link_of q in
+    let k : Piped = pipe_of q in
     let to : k.mark + t.count ≡ moved x.step.act (taken e past) (length W) = moved_to e f past x.step.act q t.count far t.counted in
     let had : taken e past ≤ length W = subst (λ (i : ℕ). i ≤ length W) far.mark (subst (λ (u : List ℕ). k.mark ≤ length u) far.output far.bound) in
     let within : k.mark + t.count ≤ length k.output = subst (λ (u : List ℕ). k.mark + t.count ≤ length u) (sym far.output) (subst (λ (i : ℕ). i ≤ length W) (sym to) (moved_within e f x.step.act past o v had)) in
-    let taken_before : taken f past ≤ length (wrote e past) = subst (λ (i : ℕ). i ≤ length (wrote e past)) near.mark (subst (λ (u : List ℕ). (link_of p).mark ≤ length u) near.output near.bound) in
+    let taken_before : taken f past ≤ length (wrote e past) = subst (λ (i : ℕ). i ≤ length (wrote e past)) near.mark (subst (λ (u : List ℕ). (pipe_of p).mark ≤ length u) near.output near.bound) in
     let same_read : read f past ≡ read f (x ∷ past) =
     ap (λ (y : End). take (taken f past) (wrote y past)) o' ∙ sym (take-append-le (taken f past) (wrote e past) x.entry.wrote taken_before)
     ∙ ap (λ (u : List ℕ). take (taken f past) u) (sym (wrote_near e x past n)) ∙ ap (λ (i : ℕ). take i (wrote e (x ∷ past))) (sym (taken_far f x past m))
     ∙ ap (λ (y : End). take (taken f (x ∷ past)) (wrote y (x ∷ past))) (sym o') in
-    let link : link_of (marked q t.count) ≡ drained k t.count = marked_link q t.count in
+    let link : pipe_of (marked q t.count) ≡ drained k t.count = marked_link q t.count in
     subst (λ (z : Peering Piped). Side f e z (x ∷ past)) (sym t.far_end) (record {
       h = far.h;
       has = has_with_link q (drained k t.count) far.h far.has;
       made = far.made ∙ sym (calls_far f x past m);
+      begins = far.begins ∙ sym (begun_far f x past m);
       got = ap (λ (z : Piped). read_in far.h ++ z.input) link ∙ far.got ∙ same_read;
       sent = far.sent ∙ sym (wrote_far f x past m);
       answered = far.answered ∙ sym (replied_far f x past m);
@@ -112,11 +116,12 @@ side_far e f x past p q p' q' n m o o' v near far t =
 -- a side at the start
 pub side_start : (e f : End) → Side e f (fresh empty_pipe (kind_of e)) []
 side_start e f =
-    let link : link_of (fresh empty_pipe (kind_of e)) ≡ empty_pipe = link_of-fresh empty_pipe (kind_of e) in
+    let link : pipe_of (fresh empty_pipe (kind_of e)) ≡ empty_pipe = link_of-fresh empty_pipe empty_pipe (kind_of e) in
     record {
       h = [];
       has = has_fresh empty_pipe (kind_of e);
       made = refl;
+      begins = refl;
       got = ap (λ (z : Piped). z.input) link;
       sent = refl;
       answered = refl;
@@ -136,29 +141,40 @@ side_replies e f p past s = subst (λ (rs : List NamedReply). AreReplies (calls 
 
 side_gate : (e f : End) (p : Peering Piped) (past : List Event) → Side e f p past → IsGated (calls e past) (wrote e past) (read e past)
 side_gate e f p past s =
-    let own : IsGated (made_in s.h) (wrote_in s.h) (read_in s.h ++ (link_of p).input) = gated_more (made_in s.h) (wrote_in s.h) (read_in s.h) (link_of p).input (gated_law p s.h s.has) in
-    let a : IsGated (calls e past) (wrote_in s.h) (read_in s.h ++ (link_of p).input) = subst (λ (cs : List (ℕ × peer_call.Call)). IsGated cs (wrote_in s.h) (read_in s.h ++ (link_of p).input)) s.made own in
-    let b : IsGated (calls e past) (wrote e past) (read_in s.h ++ (link_of p).input) = subst (λ (u : List ℕ). IsGated (calls e past) u (read_in s.h ++ (link_of p).input)) s.sent a in
+    let own : IsGated (made_in s.h) (wrote_in s.h) (read_in s.h ++ (pipe_of p).input) = gated_more (made_in s.h) (wrote_in s.h) (read_in s.h) (pipe_of p).input (gated_law p s.h s.has) in
+    let a : IsGated (calls e past) (wrote_in s.h) (read_in s.h ++ (pipe_of p).input) = subst (λ (cs : List (ℕ × peer_call.Call)). IsGated cs (wrote_in s.h) (read_in s.h ++ (pipe_of p).input)) s.made own in
+    let b : IsGated (calls e past) (wrote e past) (read_in s.h ++ (pipe_of p).input) = subst (λ (u : List ℕ). IsGated (calls e past) u (read_in s.h ++ (pipe_of p).input)) s.sent a in
     subst (λ (u : List ℕ). IsGated (calls e past) (wrote e past) u) s.got b
 
--- of the replies so far the last have their causes
-side_causes : (e f : End) (p : Peering Piped) (past : List Event) (xs ys : List NamedReply) → replied e past ≡ xs ++ ys → Side e f p past → AreCaused (calls e past) (read e past) (wrote e past) ys
-side_causes e f p past xs ys split s =
-    let own : HaveCauses (calls e past) (link_in s.h) (replied_in s.h) = subst (λ (cs : List (ℕ × peer_call.Call)). HaveCauses cs (link_in s.h) (replied_in s.h)) s.made (causes_law p s.h s.has) in
-    let all : HaveCauses (calls e past) (link_in s.h) (xs ++ ys) = subst (λ (rs : List NamedReply). HaveCauses (calls e past) (link_in s.h) rs) (s.answered ∙ split) own in
-    caused_last (calls e past) (link_in s.h) (link_of p).input (read e past) (wrote e past) xs ys s.got s.sent s.calm all
+-- the replies of a step have their causes
+turn_causes : (e f : End) (x : Event) (past : List Event) (p q p' q' : Peering Piped) (before : Side e f p past) (t : Turned p q (length past) x.step.at x.step.act p' q' x.entry) (near : Side e f p' (x ∷ past)) → near.h ≡ t.stepped.events ++ begun x.step.at (length past) x.step.act ∷ before.h
+    → AreCaused (calls e (x ∷ past)) (begun_by e (x ∷ past)) (read e (x ∷ past)) (wrote e (x ∷ past)) x.entry.replies
+turn_causes e f x past p q p' q' before t near same =
+    let es : List Local = t.stepped.events in
+    let base : List Local = begun x.step.at (length past) x.step.act ∷ before.h in
+    let back : es ++ base ≡ near.h = sym same in
+    let made : made_in (es ++ base) ≡ calls e (x ∷ past) = ap made_in back ∙ near.made in
+    let begins : begun_in (es ++ base) ≡ begun_by e (x ∷ past) = ap begun_in back ∙ near.begins in
+    let reads : read_in (es ++ base) ++ (pipe_of p').input ≡ read e (x ∷ past) = ap (λ (h : List Local). read_in h ++ (pipe_of p').input) back ∙ near.got in
+    let writes : wrote_in (es ++ base) ++ [] ≡ wrote e (x ∷ past) = append-nil (wrote_in (es ++ base)) ∙ ap wrote_in back ∙ near.sent in
+    let calm : IsCalm (link_in (es ++ base)) = subst (λ (h : List Local). IsCalm (link_in h)) same near.calm in
+    let all : AllCaused (es ++ base) = subst AllCaused same (causes_law p' near.h near.has) in
+    let inside : AreCaused (calls e (x ∷ past)) (begun_by e (x ∷ past)) (read e (x ∷ past)) (wrote e (x ∷ past)) (replied_in es) =
+    caused_inside es base (calls e (x ∷ past)) (begun_by e (x ∷ past)) (pipe_of p').input [] (read e (x ∷ past)) (wrote e (x ∷ past)) t.stepped.inside made begins reads writes calm all in
+    subst (λ (rs : List NamedReply). AreCaused (calls e (x ∷ past)) (begun_by e (x ∷ past)) (read e (x ∷ past)) (wrote e (x ∷ past)) rs) (turned_replied p q p' q' (length past) x.step.at x.step.act x.entry t before.empty) inside
 
 -- a step makes an event that is explained
-pub explains_turn : (e f : End) (x : Event) (past : List Event) (p p' q' : Peering Piped) → is_same e x.step.end ≡ true → x.step.end ≡ e → other e ≡ f → IsValid past x.step → Side e f p past → Side e f p' (x ∷ past) → Side f e q' (x ∷ past) → Explains x past
-explains_turn e f x past p p' q' n same o v before near far =
+pub explains_turn : (e f : End) (x : Event) (past : List Event) (p q p' q' : Peering Piped) → is_same e x.step.end ≡ true → x.step.end ≡ e → other e ≡ f → IsValid past x.step → (before : Side e f p past) → (t : Turned p q (length past) x.step.at x.step.act p' q' x.entry) → (near : Side e f p' (x ∷ past))
+    → near.h ≡ t.stepped.events ++ begun x.step.at (length past) x.step.act ∷ before.h → Side f e q' (x ∷ past) → Explains x past
+explains_turn e f x past p q p' q' n same o v before t near grown far =
     let va : IsValidAct e past x.step.act = subst (λ (y : End). IsValidAct y past x.step.act) same v.act in
     let replies : replied e (x ∷ past) ≡ replied e past ++ x.entry.replies = replied_near e x past n in
-    let causes : AreCaused (calls e (x ∷ past)) (read e (x ∷ past)) (wrote e (x ∷ past)) x.entry.replies = side_causes e f p' (x ∷ past) (replied e past) x.entry.replies replies near in
+    let causes : AreCaused (calls e (x ∷ past)) (begun_by e (x ∷ past)) (read e (x ∷ past)) (wrote e (x ∷ past)) x.entry.replies = turn_causes e f x past p q p' q' before t near grown in
     record {
       valid = v;
       form = form_of e f x past same o (calls_near e x past n) replies va (side_replies e f p past before) (side_replies e f p' (x ∷ past) near) (side_replies f e q' (x ∷ past) far);
       gate = gate_of e f (x ∷ past) o (side_gate e f p' (x ∷ past) near) (side_gate f e q' (x ∷ past) far);
-      causes = subst (λ (y : End). AreCaused (calls y (x ∷ past)) (read y (x ∷ past)) (wrote y (x ∷ past)) x.entry.replies) (sym same) causes;
+      causes = subst (λ (y : End). AreCaused (calls y (x ∷ past)) (begun_by y (x ∷ past)) (read y (x ∷ past)) (wrote y (x ∷ past)) x.entry.replies) (sym same) causes;
     }
 
 -- what the code tests at an end is what is valid after the past
@@ -166,6 +182,7 @@ pub may_act : (e f : End) (p q : Peering Piped) (past : List Event) (act : Act) 
 may_act e f p q past (Take n) o near far = rw (far.mark, far.output, o) (λ m. m, λ m. m)
 may_act e f p q past TakeAll o near far = (λ m. m, λ m. m)
 may_act e f p q past (Call call) o near far =
-    let own : MayCall p (length past) call ↔ IsValidCall p.kind (made_in near.h) (length past) call = may_law p (length past) call near.h near.has in
-    let kind : MayCall p (length past) call ↔ IsValidCall (kind_of e) (made_in near.h) (length past) call = subst (λ (y : PeerKind). MayCall p (length past) call ↔ IsValidCall y (made_in near.h) (length past) call) near.kind own in
-    subst (λ (cs : List (ℕ × peer_call.Call)). MayCall p (length past) call ↔ IsValidCall (kind_of e) cs (length past) call) near.made kind
+    let own : MayCall p (length past) call ↔ IsValidCall p.kind (made_in near.h) (replied_in near.h) (length past) call = may_law p (length past) call near.h near.has in
+    let kind : MayCall p (length past) call ↔ IsValidCall (kind_of e) (made_in near.h) (replied_in near.h) (length past) call = subst (λ (y : PeerKind). MayCall p (length past) call ↔ IsValidCall y (made_in near.h) (replied_in near.h) (length past) call) near.kind own in
+    let made : MayCall p (length past) call ↔ IsValidCall (kind_of e) (calls e past) (replied_in near.h) (length past) call = subst (λ (cs : List (ℕ × peer_call.Call)). MayCall p (length past) call ↔ IsValidCall (kind_of e) cs (replied_in near.h) (length past) call) near.made kind in
+    subst (λ (rs : List NamedReply). MayCall p (length past) call ↔ IsValidCall (kind_of e) (calls e past) rs (length past) call) near.answered made

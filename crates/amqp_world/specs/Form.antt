@@ -1,10 +1,11 @@
 -- The form of the replies.
 use Rattle.std.specs.Prelude.{◌≡◌, ◌⊎◌, ◌==◌, List, ℕ, [], ◌∷◌, if◌then◌else◌, length, ⊤}
 use Rattle.amqp_words.specs.declared.call.Call as peer_call
+use Rattle.amqp_words.specs.declared.call.Call.TheVariants.{Open, Accept, Close}
 use Rattle.amqp_words.specs.declared.reply.Reply.{Reply}
-use Rattle.amqp_words.specs.declared.reply.Reply.TheVariants.{Pending, OpenError}
+use Rattle.amqp_words.specs.declared.reply.Reply.TheVariants.{Pending, Connection, Closed, OpenError, ConnectionError}
 use Rattle.amqp_words.specs.declared.reply.NamedReply.{NamedReply}
-use Rattle.amqp_peer.specs.Replies.{pending}
+use Rattle.amqp_peer.specs.Replies.{answered, IsCloseEnd}
 use Rattle.amqp_words.specs.declared.step.End.{End}
 use Rattle.amqp_words.specs.declared.step.Act.{Act}
 use Rattle.amqp_words.specs.declared.step.Act.TheVariants.{Take, TakeAll, Call}
@@ -20,11 +21,17 @@ abbrev pub AreNamed : List (ℕ × peer_call.Call) → List NamedReply → Type 
 AreNamed calls [] = ⊤
 AreNamed calls (r ∷ rs) = IsNamed calls r.name × AreNamed calls rs
 
--- a call, whose name is its step's position, is replied to in its own step, and pending comes first
+-- what a call is replied first: an open or accept waits, and a close waits or has its answer at once
+abbrev pub IsFirstReply : peer_call.Call → Reply → Type 0
+IsFirstReply (Open settings host sasl) r = r ≡ Pending
+IsFirstReply (Accept settings sasl) r = r ≡ Pending
+IsFirstReply (Close error) r = (r ≡ Pending) ⊎ IsCloseEnd r
+
+-- a call, whose name is its step's position, is replied to in its own step, before anything else is replied there
 abbrev pub RepliesAtOnce : ℕ → Act → List NamedReply → Type 0
 RepliesAtOnce name (Take n) replies = ⊤
 RepliesAtOnce name TakeAll replies = ⊤
-RepliesAtOnce name (Call call) replies = (rest : List NamedReply) × (replies ≡ pending name ∷ rest)
+RepliesAtOnce name (Call call) replies = (r : Reply) × (rest : List NamedReply) × IsFirstReply call r × (replies ≡ answered name r ∷ rest)
 
 -- the replies to a name, in order
 abbrev pub replies_to : ℕ → List NamedReply → List Reply
@@ -34,7 +41,10 @@ replies_to name (r ∷ rs) = if name == r.name then r.reply ∷ replies_to name 
 -- a reply after which a call gets no other
 abbrev pub IsFinal : Reply → Type 0
 IsFinal Pending = ⊥
+IsFinal Connection = ⊤
+IsFinal Closed = ⊤
 IsFinal (OpenError e) = ⊤
+IsFinal (ConnectionError e) = ⊤
 
 -- none of these replies is pending
 abbrev pub HasNoPending : List Reply → Type 0

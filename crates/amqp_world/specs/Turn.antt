@@ -2,15 +2,15 @@
 use Rattle.std.specs.Prelude.{◌≡◌, ◌+◌, ◌≤◌, ℕ, [], ◌∷◌, ◌++◌, Some, length, take, drop, false, ⊤}
 use Rattle.amqp_wire.specs.declared.link.Link.{Ghosts}
 use Rattle.amqp_wire.specs.Piped.{Piped}
-use Rattle.amqp_peer.specs.History.{Local, Made, Polled}
-use Rattle.amqp_peer.specs.Peering.{Peering, fresh, link_of, with_link, MayCall, Stepped}
+use Rattle.amqp_peer.specs.Peering.{Peering, fresh, link_of, with_link_of, MayCall}
+use Rattle.amqp_peer.specs.Runs.{Stepped}
 use Rattle.amqp_words.specs.declared.step.End.{End}
 use Rattle.amqp_words.specs.declared.step.End.TheVariants.{Client, Listener}
 use Rattle.amqp_words.specs.declared.step.Act.{Act}
 use Rattle.amqp_words.specs.declared.step.Act.TheVariants.{Take, TakeAll, Call}
 use Rattle.amqp_words.specs.declared.step.Step.{Step}
 use Rattle.amqp_words.specs.declared.trace.Entry.{Entry}
-use Rattle.amqp_world.specs.History.{moved}
+use Rattle.amqp_world.specs.History.{moved, begun}
 use Rattle.amqp_world.specs.Valid.{kind_of}
 use Rattle.amqp_world.specs.WorldView.{WorldView}
 
@@ -26,11 +26,13 @@ piping = record {
   faults = λ p. 0;
 }
 
--- what an act begins at its end: a call, else a poll
-abbrev pub begun : ℕ → ℕ → Act → Local
-begun at name (Take n) = Polled at
-begun at name TakeAll = Polled at
-begun at name (Call call) = Made at name call
+-- a pipe through which nothing passed
+abbrev pub empty_pipe : Piped
+empty_pipe = record { input = []; output = []; mark = 0 }
+
+-- the pipe of an end
+abbrev pub pipe_of : Peering Piped → Piped
+pipe_of p = link_of empty_pipe p
 
 -- an act's call may be made
 abbrev pub MayAct : Peering Piped → ℕ → Act → Type 0
@@ -40,7 +42,7 @@ MayAct near name (Call call) = MayCall near name call
 
 -- an act may be made at the end `near`, whose other is `far`
 abbrev pub CanAct : Peering Piped → Peering Piped → ℕ → Act → Type 0
-CanAct near far name (Take n) = (link_of far).mark + n ≤ length (link_of far).output
+CanAct near far name (Take n) = (pipe_of far).mark + n ≤ length (pipe_of far).output
 CanAct near far name TakeAll = ⊤
 CanAct near far name (Call call) = MayCall near name call
 
@@ -54,22 +56,22 @@ drained far count = record far { mark = far.mark + count }
 
 -- an end after bytes of the far pipe came to its input
 abbrev pub given : Peering Piped → Piped → ℕ → Peering Piped
-given near far count = with_link near (fed (link_of near) far count)
+given near far count = with_link_of near (fed (pipe_of near) far count)
 
 -- an end after bytes of its output were taken
 abbrev pub marked : Peering Piped → ℕ → Peering Piped
-marked far count = with_link far (drained (link_of far) count)
+marked far count = with_link_of far (drained (pipe_of far) count)
 
 -- One step of the end `near`, whose other is `far`: the bytes by which the far mark moves came to its input, it made one call
 -- or one poll, and its replies were taken out. The entry has these and what it wrote. The far end is as before but for its mark.
 pub record Turned (near far : Peering Piped) (name at : ℕ) (act : Act) (near' far' : Peering Piped) (entry : Entry) : Type 0 where
   pub count : ℕ
-  pub counted : (link_of far).mark + count ≡ moved act (link_of far).mark (length (link_of far).output)
+  pub counted : (pipe_of far).mark + count ≡ moved act (pipe_of far).mark (length (pipe_of far).output)
   pub far_end : far' ≡ marked far count
   pub ran : Peering Piped
-  pub stepped : Stepped piping (given near (link_of far) count) (begun at name act) ran
+  pub stepped : Stepped piping (given near (pipe_of far) count) (begun at name act) ran
   pub replies : entry.replies ≡ ran.replies
-  pub output : (link_of ran).output ≡ (link_of near).output ++ entry.wrote
+  pub output : (pipe_of ran).output ≡ (pipe_of near).output ++ entry.wrote
   pub near_end : near' ≡ record ran { replies = [] }
   pub alive : near'.failed ≡ near.failed
 
@@ -83,10 +85,6 @@ pub record IsTurn (old : WorldView) (step : Step) (new : WorldView) : Type 0 whe
   pub entry : Entry
   pub entries : new.entries ≡ old.entries ++ entry ∷ []
   pub turned : IsTurnAt step.end old step new entry
-
--- a pipe through which nothing passed
-abbrev pub empty_pipe : Piped
-empty_pipe = record { input = []; output = []; mark = 0 }
 
 -- no step was made, and nothing happened at the ends
 abbrev pub start : WorldView

@@ -1,11 +1,12 @@
 //! Both ends, the steps made and their entries.
 ghost use Rattle.std.specs.Prelude.{◌≡◌, ◌↔◌, ◌≤◌, ◌+◌, List, ℕ, [], ◌∷◌, ◌++◌, length, drop, true, false, Ok, Err, IfOk, OnOk, OnErr, IsTrue, IsErrOf};
-ghost use Rattle.amqp_peer.specs.Peering.{Peering, link_of, Stepped, fresh};
+ghost use Rattle.amqp_peer.specs.Peering.{Peering, fresh};
+ghost use Rattle.amqp_peer.specs.Runs.{Stepped};
 ghost use Rattle.amqp_words.specs.declared.step.End.TheVariants.{Client, Listener};
 ghost use Rattle.amqp_words.specs.declared.trace.Entry.{Entry};
-ghost use Rattle.amqp_world.specs.History.{moved};
+ghost use Rattle.amqp_world.specs.History.{moved, begun};
 ghost use Rattle.amqp_world.specs.Valid.{IsValid, kind_of};
-ghost use Rattle.amqp_world.specs.Turn.{piping, begun, MayAct, CanAct, given, marked, Turned, IsTurn, empty_pipe, start};
+ghost use Rattle.amqp_world.specs.Turn.{piping, empty_pipe, pipe_of, MayAct, CanAct, given, marked, Turned, IsTurn, start};
 ghost use Rattle.amqp_world.specs.Related.{Related, past_in, view_of};
 
 use amqp_peer::{Peer, PeerError};
@@ -31,8 +32,8 @@ pub struct Both {
 
 /// Moves so many bytes from the far end's output to the near end's input.
 fn transfer(near: &mut Peer<Pipe>, far: &mut Peer<Pipe>, count: usize) -> Result<(), AllocError>
-    requires { (link_of far.old).mark + count ≤ length (link_of far.old).output }
-    ensures near { OnOk result (near.new ≡ given near.old (link_of far.old) count) }
+    requires { (pipe_of far.old).mark + count ≤ length (pipe_of far.old).output }
+    ensures near { OnOk result (near.new ≡ given near.old (pipe_of far.old) count) }
     ensures far { OnOk result (far.new ≡ marked far.old count) }
 {
     let piece = far.link_ref().untaken();
@@ -43,8 +44,8 @@ fn transfer(near: &mut Peer<Pipe>, far: &mut Peer<Pipe>, count: usize) -> Result
 
 /// How many bytes an act moves.
 fn count_of(far: &Peer<Pipe>, act: &Act) -> usize
-    requires { (link_of far.now).mark ≤ length (link_of far.now).output }
-    ensures { (link_of far.now).mark + result ≡ moved act.now (link_of far.now).mark (length (link_of far.now).output) }
+    requires { (pipe_of far.now).mark ≤ length (pipe_of far.now).output }
+    ensures { (pipe_of far.now).mark + result ≡ moved act.now (pipe_of far.now).mark (length (pipe_of far.now).output) }
 {
     match act {
         Act::Take(count) => *count as usize,
@@ -90,7 +91,7 @@ fn turn(
     act: &Act,
 ) -> Result<Entry, AllocError>
     requires can { CanAct near.old far.old name act.now }
-    requires mark { (link_of far.old).mark ≤ length (link_of far.old).output }
+    requires mark { (pipe_of far.old).mark ≤ length (pipe_of far.old).output }
     requires replies { near.old.replies ≡ [] }
     requires alive { near.old.failed ≡ false }
     ensures { IfOk result (λ entry. Turned near.old far.old name at act.now near.new far.new entry) }

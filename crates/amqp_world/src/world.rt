@@ -51,10 +51,12 @@ pub struct World {
 
 impl Model for World {
     ghost use Rattle.std.specs.Prelude.{◌≡◌, false};
-    ghost use Rattle.amqp_world.specs.WorldView.{WorldView};
+    ghost use Rattle.amqp_world.specs.WorldView.{WorldView, view_code};
     ghost use Rattle.amqp_world.specs.Related.{Related, view_of};
 
     ghost Value = { WorldView };
+
+    ghost coded = { view_code };
 
     ghost view = { λ w. view_of w.both w.failed };
 
