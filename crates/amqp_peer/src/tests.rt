@@ -40,7 +40,8 @@ fn a_client_without_a_layer_writes_its_header(rt: HostRuntime) -> Result<(), Fai
     assert!(rt; peer.call(0, 0, call).is_ok());
     assert_eq!(rt; peer.link_ref().output(), HEADER.as_slice());
     let replies = peer.replies();
-    assert!(rt; matches!(&replies.as_slice()[0].reply, Reply::Pending));
+    let first = replies.as_slice().get(0).expect(rt, "a reply");
+    assert!(rt; matches!(&first.reply, Reply::Pending));
     mem::forget(peer);
     Ok(())
 }
