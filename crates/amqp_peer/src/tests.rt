@@ -40,7 +40,7 @@ fn a_client_without_a_layer_writes_its_header(rt: HostRuntime) -> Result<(), Fai
     assert!(rt; peer.call(0, 0, call).is_ok());
     assert_eq!(rt; peer.link_ref().output(), HEADER.as_slice());
     let replies = peer.replies();
-    let first = replies.as_slice().get(0).expect(rt, "a reply");
+    let first = replies.as_slice().get(0).expect(&rt, "a reply");
     assert!(rt; matches!(&first.reply, Reply::Pending));
     mem::forget(peer);
     Ok(())

@@ -1,6 +1,6 @@
 use crate::world::{World, WorldError};
-use amqp_words::{AcceptSasl, Act, Call, ConnectionSettings, End, Reply, Step};
 use amqp_text::{Binary, Text};
+use amqp_words::{AcceptSasl, Act, Call, ConnectionSettings, End, Reply, Step};
 use sasl_gate::SaslProfile;
 use std::alloc::{AllocError, Global};
 use std::test::Fail;
