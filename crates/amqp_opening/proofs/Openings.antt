@@ -1,5 +1,5 @@
 -- What an opening went through, joined.
-use Rattle.std.proofs.Common.{◌≡◌, ◌≤◌, inl, inr, ℕ, Bool, true, false, List, [], ◌++◌, length, take, drop, Option, Some, None, Result, Ok, Err, refl, sym, ap, ◌∙◌, subst, append_assoc, arith}
+use Rattle.std.proofs.Common.{◌≡◌, ◌<◌, ◌≤◌, inl, inr, ℕ, Bool, true, false, List, [], ◌++◌, length, take, drop, Option, Some, None, Result, Ok, Err, refl, sym, ap, ◌∙◌, subst, append_assoc, arith}
 use Rattle.std.proofs.lemmas.List.{append-nil, take-append-drop}
 use Rattle.std.specs.declared.alloc.AllocError.{AllocError}
 use Rattle.amqp_wire.specs.declared.link.Link.{Ghosts}
@@ -21,14 +21,14 @@ use Rattle.sasl_gate.specs.declared.gate.negotiation.GatePoll.TheVariants as gat
 use Rattle.sasl_gate.specs.declared.gate.negotiation.Phase.{Phase}
 use Rattle.sasl_gate.specs.declared.gate.negotiation.Phase.TheVariants.{Header as HeaderPhase, Frames, Failed}
 use Rattle.sasl_gate.specs.Frames.{Heard, said, sasl_header}
-use Rattle.sasl_gate.specs.Negotiation.{Negotiating, LinkCause, at_link as link_failed, HasFrames, HasFailure, HasIn, Has, IsHeldUp, IsMemoryOr, GoesOn, IsPassed, Polled}
+use Rattle.sasl_gate.specs.Negotiation.{Negotiating, LinkCause, at_link as link_failed, HasFrames, HasFailure, HasIn, Has, IsAtRestOrFull as IsNegotiationAtRestOrFull, IsMemoryOr, GoesOn, IsPassed, Polled}
 use Rattle.sasl_gate.proofs.Gates.{only_sasl}
-use Rattle.sasl_gate.proofs.Negotiations.{flush_events, goes_flushed, heard_more}
+use Rattle.sasl_gate.proofs.Negotiations.{flush_events, goes_flushed, heard_more, held_later}
 use Rattle.amqp_opening.specs.declared.opening.OpeningPoll.{OpeningPoll}
 use Rattle.amqp_opening.specs.declared.opening.OpeningPoll.TheVariants as poll
 use Rattle.amqp_opening.specs.declared.opening.Stage.{Stage}
 use Rattle.amqp_opening.specs.declared.opening.Stage.TheVariants.{Idle, Negotiating as NegotiatingStage, Header, Exchanged, Ended}
-use Rattle.amqp_opening.specs.Opening.{amqp_header, Opened, begun, begun_plain, IsUnderWay, HasPassed, HasIntro, HasAt, HasOpening, IsGuarded, in_negotiation, at_amqp_header, at_link, at_plain_header, IsOpeningCause, HasEnding, Moves, Keeps, ComesTo, Ran, IsStopEnd, IsMemoryIn}
+use Rattle.amqp_opening.specs.Opening.{amqp_header, Opened, begun, begun_plain, IsUnderWay, HasPassed, HasIntro, HasAt, HasOpening, IsGuarded, in_negotiation, at_amqp_header, at_link, at_plain_header, IsOpeningCause, HasEnding, Moves, Keeps, IsAtRestAt, IsAtRest, IsAtRestOrFull, ComesTo, Ran, IsStopEnd, IsMemoryIn}
 
 -- ---- how it begins
 
@@ -99,16 +99,15 @@ has_with_link m o w events h = at_with m o.has_sasl o.stage o.negotiation w even
 
 -- ---- one thing after another
 
-held_later : (es fs : List LinkEvent) (left : ℕ) → IsHeldUp fs left → IsHeldUp (fs ++ es) left
-held_later es fs left (inl p) = inl (includes_left fs es _ p)
-held_later es fs left (inr (inl p)) = inr (inl (includes_left fs es _ p))
-held_later es fs left (inr (inr p)) = inr (inr p)
+rests_later : {L X : Type 0} (m : Mechanism X) (es fs : List LinkEvent) (o : Opened L X) → IsAtRestOrFull m fs o → IsAtRestOrFull m (fs ++ es) o
+rests_later m es fs o (inl p) = inl p
+rests_later m es fs o (inr p) = inr (includes_left fs es _ p)
 
 keeps_after : {L X : Type 0} (m : Mechanism X) (a b c : Opened L X) (es fs : List LinkEvent) → Keeps m a es b → Keeps m b fs c → Keeps m a (fs ++ es) c
 keeps_after m a b c es fs p q before h = subst (λ (u : List LinkEvent). HasOpening m c u) (sym (append_assoc fs es before)) (q (es ++ before) (p before h))
 
 comes_after : {L X : Type 0} (m : Mechanism X) (a b c : Opened L X) (es fs : List LinkEvent) (n : ℕ) (r : Result OpeningPoll AllocError) → Keeps m a es b → ComesTo m b fs r c n → ComesTo m a (fs ++ es) r c n
-comes_after m a b c es fs n (Ok poll.Pending) g q = (q.0, held_later es fs n q.1, keeps_after m a b c es fs g q.2)
+comes_after m a b c es fs n (Ok poll.Pending) g q = (q.0, held_later es fs n q.1, keeps_after m a b c es fs g q.2, rests_later m es fs c q.3)
 comes_after m a b c es fs n (Ok poll.Exchanged) g q = (q.0, keeps_after m a b c es fs g q.1)
 comes_after m a b c es fs n (Ok (poll.Failed e)) g q =
     (q.0, λ before h. subst (λ (u : List LinkEvent). HasEnding m c.has_sasl c.negotiation.exchange e u) (sym (append_assoc fs es before)) (q.1 (es ++ before) (g before h)))
@@ -206,11 +205,15 @@ pub keeps_read : {L X : Type 0} (link : Ghosts L) (m : Mechanism X) (o : Opened 
     → (r : ReadOn link o.negotiation.codec left w c k) → Keeps m o r.events (with_codec o c)
 keeps_read link m o c w left k stage r before h = of_awaits m (with_codec o c) (r.events ++ before) stage (awaits_read link m o c w left k stage r before h)
 
+-- it waits for that header
+rests_header : {L X : Type 0} (m : Mechanism X) (o : Opened L X) (c : Codec L) → o.stage ≡ Header → c.output ≡ [] → length c.input < 8 → IsAtRest m (with_codec o c)
+rests_header {L} {X} m o c stage out few = subst (λ (s : Stage). IsAtRestAt m s (record o.negotiation { codec = c })) (sym stage) (out, few)
+
 -- all reads are made
 pub ran_spent : {L X : Type 0} (link : Ghosts L) (m : Mechanism X) (o : Opened L X) (c : Codec L) (left k : ℕ) → o.stage ≡ Header → m.same o.negotiation.exchange o.negotiation.exchange
-    → ReadOn link o.negotiation.codec left Spent c k → Ran {E = AllocError} link m o left (Ok poll.Pending) (with_codec o c) k
-ran_spent link m o c left k stage s r =
-    record { events = r.events; moves = moves_read link m o c Spent left k s r; comes = (under_way o.stage stage, inr (inr r.end), keeps_read link m o c Spent left k stage r) }
+    → o.negotiation.codec.output ≡ [] → length c.input < 8 → ReadOn link o.negotiation.codec left Spent c k → Ran {E = AllocError} link m o left (Ok poll.Pending) (with_codec o c) k
+ran_spent link m o c left k stage s out few r =
+    record { events = r.events; moves = moves_read link m o c Spent left k s r; comes = (under_way o.stage stage, inr (inr r.end), keeps_read link m o c Spent left k stage r, inl (rests_header m o c stage (r.output ∙ out) few)) }
 
 -- a read ended it
 ran_read_failed : {L X : Type 0} (link : Ghosts L) (m : Mechanism X) (o : Opened L X) (c : Codec L) (stop : Stop) (e : NegotiationError) (left k : ℕ) → o.stage ≡ Header → m.same o.negotiation.exchange o.negotiation.exchange
@@ -224,14 +227,14 @@ ran_read_failed link m o c stop e left k stage s r cause =
 
 -- a read gave nothing
 pub ran_stopped : {L X : Type 0} (link : Ghosts L) (m : Mechanism X) (o : Opened L X) (c : Codec L) (stop : Stop) (left k : ℕ) (result : OpeningPoll) (new : Opened L X) → o.stage ≡ Header → m.same o.negotiation.exchange o.negotiation.exchange
-    → ReadOn link o.negotiation.codec left (Stopped stop) c k → IsStopEnd stop (with_codec o c) result new → Ran {E = AllocError} link m o left (Ok result) new k
-ran_stopped {L} {X} link m o c Empty left k result new stage s r e =
+    → o.negotiation.codec.output ≡ [] → length c.input < 8 → ReadOn link o.negotiation.codec left (Stopped stop) c k → IsStopEnd stop (with_codec o c) result new → Ran {E = AllocError} link m o left (Ok result) new k
+ran_stopped {L} {X} link m o c Empty left k result new stage s out few r e =
     subst (λ (t : OpeningPoll). Ran {E = AllocError} link m o left (Ok t) new k) (sym e.0) (subst (λ (p : Opened L X). Ran {E = AllocError} link m o left (Ok poll.Pending) p k) (sym e.1)
-    (record { events = r.events; moves = moves_read link m o c (Stopped Empty) left k s r; comes = (under_way o.stage stage, inl r.end, keeps_read link m o c (Stopped Empty) left k stage r) }))
-ran_stopped {L} {X} link m o c End left k result new stage s r e =
+    (record { events = r.events; moves = moves_read link m o c (Stopped Empty) left k s r; comes = (under_way o.stage stage, inl r.end, keeps_read link m o c (Stopped Empty) left k stage r, inl (rests_header m o c stage (r.output ∙ out) few)) }))
+ran_stopped {L} {X} link m o c End left k result new stage s out few r e =
     subst (λ (t : OpeningPoll). Ran {E = AllocError} link m o left (Ok t) new k) (sym e.0) (subst (λ (p : Opened L X). Ran {E = AllocError} link m o left (Ok (poll.Failed (Io InputEnd))) p k) (sym e.1)
     (ran_read_failed link m o c End (Io InputEnd) left k stage s r (λ before. includes_left r.events before (NotRead End) r.end)))
-ran_stopped {L} {X} link m o c FailedRead left k result new stage s r e =
+ran_stopped {L} {X} link m o c FailedRead left k result new stage s out few r e =
     subst (λ (t : OpeningPoll). Ran {E = AllocError} link m o left (Ok t) new k) (sym e.0) (subst (λ (p : Opened L X). Ran {E = AllocError} link m o left (Ok (poll.Failed (Io Fault))) p k) (sym e.1)
     (ran_read_failed link m o c FailedRead (Io Fault) left k stage s r (λ before. inl (includes_left r.events before (NotRead FailedRead) r.end))))
 
@@ -265,7 +268,7 @@ keeps_flushed link m o c held stage f before h = of_awaits m (with_codec o c) (f
 pub ran_full : {L X : Type 0} (link : Ghosts L) (m : Mechanism X) (o : Opened L X) (c : Codec L) (left : ℕ) → o.stage ≡ Header → m.same o.negotiation.exchange o.negotiation.exchange
     → Flushed link o.negotiation.codec (Some Full) c → Ran {E = AllocError} link m o left (Ok poll.Pending) (with_codec o c) left
 ran_full link m o c left stage s f =
-    record { events = flush_events f.bytes (Some Full); moves = moves_flushed link m o c (Some Full) left s f; comes = (under_way o.stage stage, inr (inl (inl refl)), keeps_flushed link m o c (Some Full) stage f) }
+    record { events = flush_events f.bytes (Some Full); moves = moves_flushed link m o c (Some Full) left s f; comes = (under_way o.stage stage, inr (inl (inl refl)), keeps_flushed link m o c (Some Full) stage f, inr (inl refl)) }
 
 -- the link failed
 pub ran_failed : {L X : Type 0} (link : Ghosts L) (m : Mechanism X) (o : Opened L X) (c : Codec L) (left : ℕ) → o.stage ≡ Header → m.same o.negotiation.exchange o.negotiation.exchange
@@ -355,9 +358,14 @@ keeps_polled link m o n left k events stage g before h =
     let old = to_negotiates m o before stage h in
     subst (λ (s : Stage). HasAt m o.has_sasl s n (events ++ before)) (sym stage) (old.0, g.grows before old.1)
 
+-- a negotiation that is at rest is an opening that is
+rests_polled : {L X : Type 0} (m : Mechanism X) (o : Opened L X) (n : Negotiating L X) (events : List LinkEvent) → o.stage ≡ NegotiatingStage → IsNegotiationAtRestOrFull m events n → IsAtRestOrFull m events (record o { negotiation = n })
+rests_polled m o n events stage (inl p) = inl (subst (λ (s : Stage). IsAtRestAt m s n) (sym stage) p)
+rests_polled m o n events stage (inr p) = inr p
+
 pub ran_pending : {L X : Type 0} (link : Ghosts L) (m : Mechanism X) (o : Opened L X) (n : Negotiating L X) (left k : ℕ) → o.stage ≡ NegotiatingStage → Polled link m o.negotiation left (Ok gate.Pending) n k → Ran {E = AllocError} link m o left (Ok poll.Pending) (record o { negotiation = n }) k
 ran_pending link m o n left k stage p =
-    record { events = p.events; moves = moves_polled link m o n left k p.events p.goes; comes = (subst IsUnderWay (sym stage) tt, p.answer, keeps_polled link m o n left k p.events stage p.goes) }
+    record { events = p.events; moves = moves_polled link m o n left k p.events p.goes; comes = (subst IsUnderWay (sym stage) tt, p.answer.0, keeps_polled link m o n left k p.events stage p.goes, rests_polled m o n p.events stage p.answer.1) }
 
 -- it failed
 failed_ending : {L X : Type 0} (m : Mechanism X) (s : Bool) (n : Negotiating L X) (e : NegotiationError) (events : List LinkEvent) → s ≡ true → HasFailure m e n events → HasEnding m s n.exchange e events

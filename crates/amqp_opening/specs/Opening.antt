@@ -1,19 +1,20 @@
 -- The opening of a connection over a link, in words of the bytes that were read and written: the SASL negotiation, where
 -- there is one, and then the AMQP headers (OASIS AMQP 1.0, part 2, section 2.2).
-use Rattle.std.specs.Prelude.{◌≡◌, ◌≢◌, ◌≤◌, ◌+◌, ◌⊎◌, ℕ, Bool, true, false, List, [], ◌∷◌, ◌++◌, length, take, Option, Some, None, Result, Ok, Err, ⊤}
+use Rattle.std.specs.Prelude.{◌≡◌, ◌≢◌, ◌<◌, ◌≤◌, ◌+◌, ◌⊎◌, ℕ, Bool, true, false, List, [], ◌∷◌, ◌++◌, length, take, Option, Some, None, Result, Ok, Err, ⊤}
 use Rattle.std.specs.declared.alloc.AllocError.{AllocError}
 use Rattle.amqp_composites.specs.declared.sasl_body.SaslBody.{SaslBody}
 use Rattle.amqp_wire.specs.declared.link.Link.{Ghosts}
 use Rattle.amqp_wire.specs.declared.link.Stop.{Stop}
 use Rattle.amqp_wire.specs.declared.link.Stop.TheVariants.{Empty, End, Failed as FailedRead}
+use Rattle.amqp_wire.specs.declared.link.Held.TheVariants.{Full}
 use Rattle.amqp_wire.specs.declared.link.IoKind.TheVariants.{Fault, End as InputEnd}
-use Rattle.amqp_wire.specs.Events.{LinkEvent, Went, read_of, wrote_of, reads_in}
+use Rattle.amqp_wire.specs.Events.{LinkEvent, NotWritten, Went, read_of, wrote_of, reads_in, Includes}
 use Rattle.sasl_gate.specs.declared.gate.error.NegotiationError.{NegotiationError}
 use Rattle.sasl_gate.specs.declared.gate.error.NegotiationError.TheVariants.{Memory, ProtocolHeaderMismatch, NotImplemented, SaslError, ScramError, Io, DecodeError, IllegalState, FramingError}
 use Rattle.sasl_gate.specs.declared.gate.exchange.Exchange.{Ghosts as Mechanism}
 use Rattle.sasl_gate.specs.declared.gate.exchange.Turn.TheVariants.{Pass}
 use Rattle.sasl_gate.specs.Frames.{Heard, said, sasl_header}
-use Rattle.sasl_gate.specs.Negotiation.{Negotiating, LinkCause, IsCaused, IsHeldUp, Has}
+use Rattle.sasl_gate.specs.Negotiation.{Negotiating, LinkCause, IsCaused, IsHeldUp, IsAtRest as IsNegotiationAtRest, Has}
 use Rattle.sasl_gate.specs.ScramBodies.{IsOnlySasl}
 use Rattle.amqp_opening.specs.declared.opening.OpeningPoll.{OpeningPoll}
 use Rattle.amqp_opening.specs.declared.opening.OpeningPoll.TheVariants as poll
@@ -131,10 +132,26 @@ Keeps m old events new = (before : List LinkEvent) → HasOpening m old before �
 abbrev pub Ends : {L X : Type 0} → Mechanism X → Opened L X → List LinkEvent → NegotiationError → Opened L X → Type 0
 Ends m old events e new = (before : List LinkEvent) → HasOpening m old before → HasEnding m new.has_sasl new.negotiation.exchange e (events ++ before)
 
+-- the negotiation is at rest, or all is written and fewer than the eight bytes of the AMQP header of the other end are there
+abbrev pub IsAtRestAt : {L X : Type 0} → Mechanism X → Stage → Negotiating L X → Type 0
+IsAtRestAt m Idle n = ⊥
+IsAtRestAt m NegotiatingStage n = IsNegotiationAtRest m n
+IsAtRestAt m Header n = (n.codec.output ≡ []) × (length n.codec.input < 8)
+IsAtRestAt m Exchanged n = ⊥
+IsAtRestAt m Ended n = ⊥
+
+-- it waits for input that is not there whole
+abbrev pub IsAtRest : {L X : Type 0} → Mechanism X → Opened L X → Type 0
+IsAtRest m o = IsAtRestAt m o.stage o.negotiation
+
+-- it waits for such input, or the link takes no output
+abbrev pub IsAtRestOrFull : {L X : Type 0} → Mechanism X → List LinkEvent → Opened L X → Type 0
+IsAtRestOrFull m events o = IsAtRest m o ⊎ Includes events (NotWritten Full)
+
 -- what a run comes to: it waits, both AMQP headers are there, or it has ended by an error; after want of memory nothing
 -- is said
 abbrev pub ComesTo : {L X E : Type 0} → Mechanism X → Opened L X → List LinkEvent → Result OpeningPoll E → Opened L X → ℕ → Type 0
-ComesTo m old events (Ok poll.Pending) new left = IsUnderWay new.stage × IsHeldUp events left × Keeps m old events new
+ComesTo m old events (Ok poll.Pending) new left = IsUnderWay new.stage × IsHeldUp events left × Keeps m old events new × IsAtRestOrFull m events new
 ComesTo m old events (Ok poll.Exchanged) new left = (new.stage ≡ Exchanged) × Keeps m old events new
 ComesTo m old events (Ok (poll.Failed e)) new left = (new.stage ≡ Ended) × Ends m old events e new
 ComesTo m old events (Err e) new left = ⊤

@@ -206,7 +206,8 @@ impl<L: Link, X: Exchange> Opening<L, X> {
     }
 
     fn await_header(&mut self, reads_left: &mut u64) -> Result<OpeningPoll, AllocError>
-        requires { self.old.stage ≡ Stage.Header }
+        requires stage { self.old.stage ≡ Stage.Header }
+        requires flushed { self.old.negotiation.codec.output ≡ [] }
         ensures { Ran L.Link X.Exchange self.old reads_left.old result self.new reads_left.new }
     {
         match read_header(self.negotiation.codec_mut(), reads_left) {
@@ -260,8 +261,9 @@ impl<L: Link, X: Exchange> Opening<L, X> {
     }
 
     /// Goes on until both AMQP headers are there, or no more can be done now, with at most
-    /// `reads_left` reads of the link that give bytes, which are counted down. The one `Err` is want
-    /// of memory, after which the end can go no further.
+    /// `reads_left` reads of the link that give bytes, which are counted down. Where it is pending,
+    /// all is written and it waits for input that is not there whole, or the link took no output.
+    /// The one `Err` is want of memory, after which the end can go no further.
     pub fn run(&mut self, reads_left: &mut u64) -> Result<OpeningPoll, AllocError>
         requires { IsUnderWay self.old.stage }
         ensures { Ran L.Link X.Exchange self.old reads_left.old result self.new reads_left.new }

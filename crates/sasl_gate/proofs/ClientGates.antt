@@ -1,5 +1,5 @@
 -- The client's gate: what it wrote, and what it passes on.
-use Rattle.std.proofs.Common.{◌≡◌, ◌≢◌, ◌<◌, arith, ℕ, List, [], ◌∷◌, ◌++◌, Option, Some, None, Result, Ok, Err, refl, sym, ap, ◌∙◌, subst}
+use Rattle.std.proofs.Common.{◌≡◌, ◌≢◌, ◌<◌, ◌≤◌, arith, ℕ, List, [], ◌∷◌, ◌++◌, length, Option, Some, None, Result, Ok, Err, refl, sym, ap, ◌∙◌, subst}
 use Rattle.std.proofs.lemmas.List.{append-nil}
 use Rattle.std.specs.Prelude.{⊤}
 use Rattle.std.specs.declared.alloc.AllocError.{AllocError}
@@ -29,7 +29,7 @@ use Rattle.sasl_gate.specs.declared.scram.client.ClientPhase.TheVariants.{Unansw
 use Rattle.sasl_gate.specs.declared.scram.error.ScramErrorKind.{ScramErrorKind}
 use Rattle.sasl_gate.specs.declared.scram.error.ScramErrorKind.TheVariants.{Signature}
 use Rattle.sasl_gate.specs.Check.{ClientAnswers, ClientCheck}
-use Rattle.sasl_gate.specs.ClientGate.{ClientEnd, turn_in, left_in, client_init, client_causes, holds_in, IsTextAnswer, HasMechanisms, HasAnswer, HasPassed, ClientSame, IsScramCause, by_challenge, by_outcome, by_no_signature, client_mechanism, client_start, ClientPassed, HasClientPassed, ClientPolled}
+use Rattle.sasl_gate.specs.ClientGate.{ClientEnd, turn_in, left_in, client_init, client_causes, holds_in, client_holds, IsTextAnswer, HasMechanisms, HasAnswer, HasPassed, ClientSame, IsScramCause, by_challenge, by_outcome, by_no_signature, client_mechanism, client_start, ClientPassed, HasClientPassed, ClientPolled}
 use Rattle.sasl_gate.specs.Frames.{Heard, said}
 use Rattle.sasl_gate.specs.Negotiation.{Negotiating, HasFrames, HasIn, Has, IsPassed, IsPollAnswer, Polled}
 use Rattle.sasl_gate.specs.Refusals.{IsServerFirstRefusal, IsServerFinalRefusal}
@@ -37,6 +37,32 @@ use Rattle.sasl_gate.specs.ScramBodies.{IsOnlySasl, outcome_body, response_body,
 use Rattle.sasl_gate.specs.States.{ForAnswered, client_verified}
 use Rattle.sasl_gate.specs.Texts.{client_first_of}
 use Rattle.sasl_gate.proofs.Gates.{only_sasl}
+
+-- ---- how many bodies a client sends
+
+few_answered : (p : ClientPhase) (x : ClientEnd) (text : List ℕ) (given sent : List SaslBody)
+    → ForAnswered p (λ a. (a.client_final ≡ text) × HasAnswer x a given sent (client_init x ∷ [])) → length sent ≤ 2
+few_answered Unanswered x text given sent h = absurd h
+few_answered (Answered a) x text given sent h = let e = ap (λ (u : List SaslBody). length u) h.1.sent_is in omega (arith, e)
+few_answered Verified x text given sent h = absurd h
+
+few_sent : (p : ClientPhase) (x : ClientEnd) (given sent : List SaslBody)
+    → ForAnswered p (λ a. HasAnswer x a given sent (client_init x ∷ response_body a.client_final ∷ [])) → length sent ≤ 2
+few_sent Unanswered x given sent h = absurd h
+few_sent (Answered a) x given sent h = let e = ap (λ (u : List SaslBody). length u) h.sent_is in omega (arith, e)
+few_sent Verified x given sent h = absurd h
+
+few_in : (stage : ClientStage) (x : ClientEnd) (given sent : List SaslBody) → holds_in stage x given sent → length sent ≤ 2
+few_in AwaitsMechanisms x given sent h = let e = ap (λ (u : List SaslBody). length u) h.1 in omega (arith, e)
+few_in OwesInit x given sent h = let e = ap (λ (u : List SaslBody). length u) h.sent_is in omega (arith, e)
+few_in AwaitsChallenge x given sent h = let e = ap (λ (u : List SaslBody). length u) h.sent_is in omega (arith, e)
+few_in (OwesResponse text) x given sent h = few_answered x.client.phase x text given sent h
+few_in AwaitsOutcome x given sent h = few_sent x.client.phase x given sent h
+few_in Passed x given sent h = let e = ap (λ (u : List SaslBody). length u) h.sent_is in omega (arith, e)
+
+-- a client sends two bodies at most
+pub client_few : (x : ClientEnd) (given sent : List SaslBody) → client_holds x given sent → length sent ≤ 2
+client_few x given sent h = few_in x.stage x given sent h
 
 -- ---- bodies that a client reads
 

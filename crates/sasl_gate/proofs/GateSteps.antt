@@ -1,5 +1,5 @@
 -- The steps of a negotiation.
-use Rattle.std.proofs.Common.{◌≡◌, ◌≤◌, inl, inr, ℕ, List, [], ◌∷◌, ◌++◌, length, take, drop, Some, None, Result, Ok, Err, refl, sym, subst}
+use Rattle.std.proofs.Common.{◌≡◌, ◌<◌, ◌≤◌, inl, inr, ℕ, List, [], ◌∷◌, ◌++◌, length, take, drop, Some, None, Result, Ok, Err, refl, sym, ◌∙◌, subst}
 use Rattle.amqp_composites.specs.declared.sasl_body.SaslBody.{SaslBody}
 use Rattle.amqp_composites.specs.declared.sasl_code.SaslCode.{SaslCode}
 use Rattle.amqp_frames.specs.Sasl.{SpellsSasl}
@@ -13,7 +13,7 @@ use Rattle.amqp_wire.specs.declared.frame.Front.TheVariants.{Partial, Refused as
 use Rattle.amqp_wire.specs.declared.reading.Wait.{Wait}
 use Rattle.amqp_wire.specs.declared.reading.Wait.TheVariants.{Over, Stopped, Spent}
 use Rattle.amqp_wire.specs.Codec.{Codec, Flushed}
-use Rattle.amqp_wire.specs.Frame.{HasBody}
+use Rattle.amqp_wire.specs.Frame.{HasBody, IsFront}
 use Rattle.std.proofs.lemmas.List.{take-append-drop}
 use Rattle.amqp_wire.specs.Events.{LinkEvent, NotRead, read_of}
 use Rattle.amqp_wire.specs.Reading.{ReadOn, IsKnown}
@@ -22,6 +22,7 @@ use Rattle.sasl_gate.specs.declared.gate.error.NegotiationError.{NegotiationErro
 use Rattle.sasl_gate.specs.declared.gate.error.NegotiationError.TheVariants.{Memory, ProtocolHeaderMismatch, Io, FramingError}
 use Rattle.sasl_gate.specs.declared.gate.exchange.Exchange.{Ghosts as Mechanism}
 use Rattle.std.specs.declared.alloc.AllocError.{AllocError}
+use Rattle.sasl_gate.specs.declared.gate.exchange.Turn.TheVariants.{Receive}
 use Rattle.sasl_gate.specs.declared.gate.negotiation.GatePoll.{GatePoll}
 use Rattle.sasl_gate.specs.declared.gate.negotiation.GatePoll.TheVariants.{Pending, Passed}
 use Rattle.sasl_gate.specs.declared.gate.negotiation.Phase.{Phase}
@@ -30,7 +31,7 @@ use Rattle.sasl_gate.specs.declared.gate.negotiation.Step.{Step}
 use Rattle.sasl_gate.specs.declared.gate.negotiation.Step.TheVariants.{Goes, Waits, Ends}
 use Rattle.sasl_gate.specs.Exchange.{refused_with}
 use Rattle.sasl_gate.specs.Frames.{sasl_header, Heard, sasl_frame}
-use Rattle.sasl_gate.specs.Negotiation.{Negotiating, IsCaused, at_link, at_header, at_frame, by_body, too_long, HeaderCause, FrameCause, IsOverlong, HasHeader, HasFrames, HasIn, IsPollAnswer, Polled}
+use Rattle.sasl_gate.specs.Negotiation.{Negotiating, IsCaused, at_link, at_header, at_frame, by_body, too_long, HeaderCause, FrameCause, IsOverlong, HasHeader, HasFrames, HasIn, IsAtRestIn, IsAtRest, IsPollAnswer, Polled}
 use Rattle.sasl_gate.specs.Steps.{IsStepEnd, Stepped, IsAlive, IsStopAnswer, IsWaitAnswer, IsEndAnswer, ArrivesIn}
 use Rattle.sasl_gate.proofs.Negotiations.{goes_none, stepped_then, goes_flushed, flush_events, goes_read, goes_failed, goes_header, goes_taken, goes_sent, heard_push, frame_cut}
 
@@ -40,8 +41,16 @@ alive_header p e = subst IsAlive (sym e) tt
 pub alive_frames : (p : Phase) → p ≡ Frames → IsAlive p
 alive_frames p e = subst IsAlive (sym e) tt
 
+-- it waits for the header
+pub rests_header : {L X : Type 0} (m : Mechanism X) (c : Codec L) (p : Phase) (x : X) → p ≡ Header → c.output ≡ [] → length c.input < 8 → IsAtRest m (record { codec = c; phase = p; exchange = x })
+rests_header {L} {X} m c p x phase out few = subst (λ (q : Phase). IsAtRestIn m q (record { codec = c; phase = p; exchange = x })) (sym phase) (out, few)
+
+-- it waits for a frame
+pub rests_frames : {L X : Type 0} (m : Mechanism X) (c : Codec L) (p : Phase) (x : X) → p ≡ Frames → c.output ≡ [] → m.turn_of x ≡ Receive → IsFront 1 512 c.input Partial → IsAtRest m (record { codec = c; phase = p; exchange = x })
+rests_frames {L} {X} m c p x phase out turn front = subst (λ (q : Phase). IsAtRestIn m q (record { codec = c; phase = p; exchange = x })) (sym phase) (out, turn, front)
+
 -- nothing happened
-pub step_none : {L X : Type 0} (link : Ghosts L) (m : Mechanism X) (a : Negotiating L X) (left : ℕ) (s : Step) → m.same a.exchange a.exchange → IsStepEnd s [] left → Stepped link m a left s a left
+pub step_none : {L X : Type 0} (link : Ghosts L) (m : Mechanism X) (a : Negotiating L X) (left : ℕ) (s : Step) → m.same a.exchange a.exchange → IsStepEnd m s [] a left → Stepped link m a left s a left
 step_none link m a left s same e = record { events = []; goes = goes_none link m a left same; end = e }
 
 pub header_taken : {L X : Type 0} (link : Ghosts L) (m : Mechanism X) (a : Negotiating L X) (left : ℕ) → a.phase ≡ Header → m.same a.exchange a.exchange → take 8 a.codec.input ≡ sasl_header
@@ -107,22 +116,22 @@ read_then link m a c b w left k n s alive same same' r st = stepped_then link m 
 pub read_more : {L X : Type 0} (link : Ghosts L) (m : Mechanism X) (a : Negotiating L X) (c : Codec L) (w : Wait) (left k : ℕ) → IsAlive a.phase → m.same a.exchange a.exchange → ReadOn link a.codec left w c k → Stepped link m a left Goes (record a { codec = c }) k
 read_more link m a c w left k alive same r = record { events = r.events; goes = goes_read link m a c w left k alive same r; end = tt }
 
-pub read_spent : {L X : Type 0} (link : Ghosts L) (m : Mechanism X) (a : Negotiating L X) (c : Codec L) (left k : ℕ) → IsAlive a.phase → m.same a.exchange a.exchange → ReadOn link a.codec left Spent c k → Stepped link m a left Waits (record a { codec = c }) k
-read_spent link m a c left k alive same r = record { events = r.events; goes = goes_read link m a c Spent left k alive same r; end = inr (inr r.end) }
+pub read_spent : {L X : Type 0} (link : Ghosts L) (m : Mechanism X) (a : Negotiating L X) (c : Codec L) (left k : ℕ) → IsAlive a.phase → m.same a.exchange a.exchange → IsAtRest m (record a { codec = c }) → ReadOn link a.codec left Spent c k → Stepped link m a left Waits (record a { codec = c }) k
+read_spent link m a c left k alive same rests r = record { events = r.events; goes = goes_read link m a c Spent left k alive same r; end = (inr (inr r.end), inl rests) }
 
-stopped_in : {L X : Type 0} (link : Ghosts L) (m : Mechanism X) (a : Negotiating L X) (c : Codec L) (stop : Stop) (left k : ℕ) (s : Step) (new : Negotiating L X) → IsAlive a.phase → m.same a.exchange a.exchange
+stopped_in : {L X : Type 0} (link : Ghosts L) (m : Mechanism X) (a : Negotiating L X) (c : Codec L) (stop : Stop) (left k : ℕ) (s : Step) (new : Negotiating L X) → IsAlive a.phase → m.same a.exchange a.exchange → IsAtRest m (record a { codec = c })
     → (r : ReadOn link a.codec left (Stopped stop) c k) → IsStopAnswer stop (record a { codec = c }) s new → Stepped link m a left s new k
-stopped_in {L} {X} link m a c Empty left k s new alive same r e =
+stopped_in {L} {X} link m a c Empty left k s new alive same rests r e =
     subst (λ (t : Step). Stepped link m a left t new k) (sym e.0) (subst (λ (b : Negotiating L X). Stepped link m a left Waits b k) (sym e.1)
-    (record { events = r.events; goes = goes_read link m a c (Stopped Empty) left k alive same r; end = inl r.end }))
-stopped_in {L} {X} link m a c End left k s new alive same r e =
+    (record { events = r.events; goes = goes_read link m a c (Stopped Empty) left k alive same r; end = (inl r.end, inl rests) }))
+stopped_in {L} {X} link m a c End left k s new alive same rests r e =
     subst (λ (t : Step). Stepped link m a left t new k) (sym e.0) (subst (λ (b : Negotiating L X). Stepped link m a left Ends b k) (sym e.1)
     (record {
       events = r.events;
       goes = goes_failed link m a (record a { codec = c }) left k r.events (Io InputEnd) alive (λ before n. at_link (includes_left r.events before (NotRead End) r.end)) (goes_read link m a c (Stopped End) left k alive same r);
       end = tt;
     }))
-stopped_in {L} {X} link m a c FailedRead left k s new alive same r e =
+stopped_in {L} {X} link m a c FailedRead left k s new alive same rests r e =
     subst (λ (t : Step). Stepped link m a left t new k) (sym e.0) (subst (λ (b : Negotiating L X). Stepped link m a left Ends b k) (sym e.1)
     (record {
       events = r.events;
@@ -131,17 +140,17 @@ stopped_in {L} {X} link m a c FailedRead left k s new alive same r e =
     }))
 
 -- reads, the last of which gave nothing
-pub read_stopped : {L X : Type 0} (link : Ghosts L) (m : Mechanism X) (a : Negotiating L X) (c : Codec L) (stop : Stop) (left k : ℕ) (s : Step) (new : Negotiating L X) → IsAlive a.phase → m.same a.exchange a.exchange
+pub read_stopped : {L X : Type 0} (link : Ghosts L) (m : Mechanism X) (a : Negotiating L X) (c : Codec L) (stop : Stop) (left k : ℕ) (s : Step) (new : Negotiating L X) → IsAlive a.phase → m.same a.exchange a.exchange → IsAtRest m (record a { codec = c })
     → (r : ReadOn link a.codec left (Stopped stop) c k) → IsStopAnswer stop (record a { codec = c }) s new → Stepped link m a left s new k
 read_stopped = stopped_in
 
 -- reads that did not bring what was waited for
-pub read_waited : {L X : Type 0} (link : Ghosts L) (m : Mechanism X) (a : Negotiating L X) (c : Codec L) (w : Wait) (left k : ℕ) (s : Step) (new : Negotiating L X) → (w ≡ Over → ⊥) → IsAlive a.phase → m.same a.exchange a.exchange
+pub read_waited : {L X : Type 0} (link : Ghosts L) (m : Mechanism X) (a : Negotiating L X) (c : Codec L) (w : Wait) (left k : ℕ) (s : Step) (new : Negotiating L X) → (w ≡ Over → ⊥) → IsAlive a.phase → m.same a.exchange a.exchange → IsAtRest m (record a { codec = c })
     → (r : ReadOn link a.codec left w c k) → IsWaitAnswer w (record a { codec = c }) s new → Stepped link m a left s new k
-read_waited {L} {X} link m a c Over left k s new over alive same r e = absurd (over refl)
-read_waited {L} {X} link m a c Spent left k s new over alive same r e =
-    subst (λ (t : Step). Stepped link m a left t new k) (sym e.0) (subst (λ (b : Negotiating L X). Stepped link m a left Waits b k) (sym e.1) (read_spent link m a c left k alive same r))
-read_waited {L} {X} link m a c (Stopped stop) left k s new over alive same r e = stopped_in link m a c stop left k s new alive same r e
+read_waited {L} {X} link m a c Over left k s new over alive same rests r e = absurd (over refl)
+read_waited {L} {X} link m a c Spent left k s new over alive same rests r e =
+    subst (λ (t : Step). Stepped link m a left t new k) (sym e.0) (subst (λ (b : Negotiating L X). Stepped link m a left Waits b k) (sym e.1) (read_spent link m a c left k alive same rests r))
+read_waited {L} {X} link m a c (Stopped stop) left k s new over alive same rests r e = stopped_in link m a c stop left k s new alive same rests r e
 
 -- a body was taken
 pub body_taken : {L X : Type 0} (link : Ghosts L) (m : Mechanism X) (a : Negotiating L X) (x : X) (left size start channel : ℕ) (body : SaslBody) → a.phase ≡ Frames → m.same a.exchange x
@@ -163,7 +172,7 @@ pub flushed_then : {L X : Type 0} (link : Ghosts L) (m : Mechanism X) (a : Negot
 flushed_then link m a c b left n s alive same same' f st = stepped_then link m a (record a { codec = c }) b left left n (flush_events f.bytes None) s same' (goes_flushed link m a c None left alive same f) st
 
 pub flushed_full : {L X : Type 0} (link : Ghosts L) (m : Mechanism X) (a : Negotiating L X) (c : Codec L) (left : ℕ) → IsAlive a.phase → m.same a.exchange a.exchange → Flushed link a.codec (Some Full) c → Stepped link m a left Waits (record a { codec = c }) left
-flushed_full link m a c left alive same f = record { events = flush_events f.bytes (Some Full); goes = goes_flushed link m a c (Some Full) left alive same f; end = inr (inl (inl refl)) }
+flushed_full link m a c left alive same f = record { events = flush_events f.bytes (Some Full); goes = goes_flushed link m a c (Some Full) left alive same f; end = (inr (inl (inl refl)), inr (inl refl)) }
 
 pub flushed_memory : {L X : Type 0} (link : Ghosts L) (m : Mechanism X) (a : Negotiating L X) (c : Codec L) (left : ℕ) → IsAlive a.phase → m.same a.exchange a.exchange → Flushed link a.codec (Some HeldMemory) c → Stepped link m a left Goes (record a { codec = c }) left
 flushed_memory link m a c left alive same f = record { events = flush_events f.bytes (Some HeldMemory); goes = goes_flushed link m a c (Some HeldMemory) left alive same f; end = tt }
@@ -201,11 +210,15 @@ polled_memory link m a b c l k n error same p q =
     record { events = s.events; goes = s.goes; answer = tt }
 
 -- reads, and what came of the front of the input
-pub arrived : {L X : Type 0} (link : Ghosts L) (m : Mechanism X) (a : Negotiating L X) (c : Codec L) (front : Front) (w : Wait) (left k : ℕ) (s : Step) (new : Negotiating L X) → IsAlive a.phase → m.same a.exchange a.exchange
-    → ReadOn link a.codec left w c k → IsKnown front w → ArrivesIn link m front w (record a { codec = c }) k s new k → Stepped link m a left s new k
-arrived link m a c Partial Over left k s new alive same r known st = absurd known
-arrived link m a c Partial Spent left k s new alive same r known st = read_waited link m a c Spent left k s new (λ e. cc) alive same r st
-arrived link m a c Partial (Stopped stop) left k s new alive same r known st = read_stopped link m a c stop left k s new alive same r st
-arrived link m a c RefusedFront w left k s new alive same r known st = read_then link m a c new w left k k s alive same st.goes.kept r st
-arrived link m a c ForeignFront w left k s new alive same r known st = read_then link m a c new w left k k s alive same st.goes.kept r st
-arrived link m a c (Whole size start channel) w left k s new alive same r known st = read_then link m a c new w left k k s alive same st.goes.kept r st
+pub arrived : {L X : Type 0} (link : Ghosts L) (m : Mechanism X) (a : Negotiating L X) (c : Codec L) (front : Front) (w : Wait) (left k : ℕ) (s : Step) (new : Negotiating L X) → a.phase ≡ Frames → a.codec.output ≡ []
+    → m.turn_of a.exchange ≡ Receive → m.same a.exchange a.exchange → ReadOn link a.codec left w c k → IsFront 1 512 c.input front → IsKnown front w → ArrivesIn link m front w (record a { codec = c }) k s new k → Stepped link m a left s new k
+arrived link m a c Partial w left k s new phase out turn same r front known st =
+    read_waited link m a c w left k s new (not_over w known) (alive_frames a.phase phase) same (rests_frames m c a.phase a.exchange phase (r.output ∙ out) turn front) r st
+  where
+    not_over : (w : Wait) → IsKnown Partial w → w ≡ Over → ⊥
+    not_over Over known e = known
+    not_over Spent known e = cc
+    not_over (Stopped stop) known e = cc
+arrived link m a c RefusedFront w left k s new phase out turn same r front known st = read_then link m a c new w left k k s (alive_frames a.phase phase) same st.goes.kept r st
+arrived link m a c ForeignFront w left k s new phase out turn same r front known st = read_then link m a c new w left k k s (alive_frames a.phase phase) same st.goes.kept r st
+arrived link m a c (Whole size start channel) w left k s new phase out turn same r front known st = read_then link m a c new w left k k s (alive_frames a.phase phase) same st.goes.kept r st

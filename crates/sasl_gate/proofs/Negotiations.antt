@@ -22,7 +22,7 @@ use Rattle.sasl_gate.specs.declared.gate.negotiation.Phase.TheVariants.{Header, 
 use Rattle.sasl_gate.specs.declared.gate.negotiation.Step.{Step}
 use Rattle.sasl_gate.specs.declared.gate.negotiation.Step.TheVariants.{Goes, Waits, Ends}
 use Rattle.sasl_gate.specs.Frames.{sasl_header, IsSaslFrame, Carries, Heard, sasl_frame, said}
-use Rattle.sasl_gate.specs.Negotiation.{Negotiating, IsCaused, HasHeader, HasFrames, HasFailure, HasIn, Has, GoesOn}
+use Rattle.sasl_gate.specs.Negotiation.{Negotiating, IsCaused, HasHeader, HasFrames, HasFailure, HasIn, Has, IsHeldUp, IsAtRestOrFull, GoesOn}
 use Rattle.sasl_gate.specs.Steps.{IsStepEnd, Stepped, IsAlive}
 
 -- nothing happened
@@ -39,17 +39,25 @@ goes_then {L} {X} link m a b c l k n es fs s p q =
       grows = λ before h. subst (λ (u : List LinkEvent). Has m c u) (sym (append_assoc fs es before)) (q.grows (es ++ before) (p.grows before h));
     }
 
-end_later : (s : Step) (es fs : List LinkEvent) (left : ℕ) → IsStepEnd s fs left → IsStepEnd s (fs ++ es) left
-end_later Goes es fs left p = tt
-end_later Waits es fs left (inl p) = inl (includes_left fs es _ p)
-end_later Waits es fs left (inr (inl p)) = inr (inl (includes_left fs es _ p))
-end_later Waits es fs left (inr (inr p)) = inr (inr p)
-end_later Ends es fs left p = tt
+-- what is true of the later events is true of all
+pub held_later : (es fs : List LinkEvent) (left : ℕ) → IsHeldUp fs left → IsHeldUp (fs ++ es) left
+held_later es fs left (inl p) = inl (includes_left fs es _ p)
+held_later es fs left (inr (inl p)) = inr (inl (includes_left fs es _ p))
+held_later es fs left (inr (inr p)) = inr (inr p)
+
+rests_later : {L X : Type 0} (m : Mechanism X) (es fs : List LinkEvent) (n : Negotiating L X) → IsAtRestOrFull m fs n → IsAtRestOrFull m (fs ++ es) n
+rests_later m es fs n (inl p) = inl p
+rests_later m es fs n (inr p) = inr (includes_left fs es _ p)
+
+end_later : {L X : Type 0} (m : Mechanism X) (s : Step) (es fs : List LinkEvent) (n : Negotiating L X) (left : ℕ) → IsStepEnd m s fs n left → IsStepEnd m s (fs ++ es) n left
+end_later m Goes es fs n left p = tt
+end_later m Waits es fs n left p = (held_later es fs left p.0, rests_later m es fs n p.1)
+end_later m Ends es fs n left p = tt
 
 -- a step after that
 pub stepped_then : {L X : Type 0} (link : Ghosts L) (m : Mechanism X) (a b c : Negotiating L X) (l k n : ℕ) (es : List LinkEvent) (s : Step) → m.same a.exchange c.exchange → GoesOn link m a l es b k → Stepped link m b k s c n → Stepped link m a l s c n
 stepped_then link m a b c l k n es s same p q =
-    record { events = q.events ++ es; goes = goes_then link m a b c l k n es q.events same p q.goes; end = end_later s es q.events n q.end }
+    record { events = q.events ++ es; goes = goes_then link m a b c l k n es q.events same p q.goes; end = end_later m s es q.events c n q.end }
 
 -- more bytes behind what was heard
 pub carries_more : (bytes more rest : List ℕ) (xs : List SaslBody) → Carries bytes xs rest → Carries (bytes ++ more) xs (rest ++ more)

@@ -1,6 +1,6 @@
 -- The listener's gate: what it wrote, and what it passes on.
-use Rattle.std.proofs.Common.{◌≡◌, ◌≢◌, ◌<◌, ◌⊎◌, inl, inr, arith, ℕ, false, List, [], ◌∷◌, ◌++◌, Option, Some, None, Result, Ok, Err, refl, sym, ap, ◌∙◌, subst}
-use Rattle.std.proofs.lemmas.List.{append-nil}
+use Rattle.std.proofs.Common.{◌≡◌, ◌≢◌, ◌<◌, ◌≤◌, ◌⊎◌, inl, inr, arith, ℕ, false, List, [], ◌∷◌, ◌++◌, length, Option, Some, None, Result, Ok, Err, refl, sym, ap, ◌∙◌, subst}
+use Rattle.std.proofs.lemmas.List.{append-nil, length-append}
 use Rattle.std.specs.Prelude.{⊤}
 use Rattle.std.specs.declared.alloc.AllocError.{AllocError}
 use Rattle.amqp_composites.specs.declared.sasl_body.SaslBody.{SaslBody}
@@ -31,7 +31,7 @@ use Rattle.sasl_gate.specs.Frames.{Heard, said, sasl_header}
 use Rattle.sasl_gate.specs.Negotiation.{Negotiating, HasFrames, HasIn, Has, IsPassed, IsPollAnswer, Polled}
 use Rattle.sasl_gate.specs.Refusals.{IsMemory, IsClientFirstRefusal, IsClientFinalRefusal}
 use Rattle.sasl_gate.specs.ScramBodies.{IsOnlySasl, own_mechanism, init_body, challenge_body, outcome_body, Received}
-use Rattle.sasl_gate.specs.ServerGate.{ServerEnd, turn_in, server_turn, left_in, own_mechanisms, holds_in, server_holds, owes_in, server_owes, is_of_client, HasChallenge, HasProof, HasRefused, is_next, IsRefusalCause, by_client_first, by_client_final, by_mechanism, by_no_response, by_order, by_other_body, IsTextAnswer, ServerSame, server_mechanism, server_start, ServerPassed, HasServerPassed, ServerPolled}
+use Rattle.sasl_gate.specs.ServerGate.{ServerEnd, turn_in, server_turn, left_in, own_mechanisms, holds_in, server_holds, owes_in, server_owes, is_of_client, HasChallenge, HasProof, HasToRefuse, HasRefused, is_next, IsRefusalCause, by_client_first, by_client_final, by_mechanism, by_no_response, by_order, by_other_body, IsTextAnswer, ServerSame, server_mechanism, server_start, ServerPassed, HasServerPassed, ServerPolled}
 use Rattle.sasl_gate.specs.States.{ServerState, ForChallenged}
 use Rattle.sasl_gate.proofs.Gates.{only_sasl}
 
@@ -57,13 +57,54 @@ less_in Passed h = absurd h
 less_in (OwesRefusal code) h = absurd h
 less_in (Refused code) h = absurd h
 
+-- ---- how many bodies a listener sends
+
+few_waits : (stored : List ℕ → Option StoredPassword) (own : List ℕ) (p : ServerPhase) (given sent : List SaslBody)
+    → ForChallenged p (λ c. HasChallenge stored own c given sent (own_mechanisms ∷ challenge_body c.server_first ∷ [])) → length sent ≤ 2
+few_waits stored own Unasked given sent h = absurd h
+few_waits stored own (Challenged c) given sent h = let e = ap (λ (u : List SaslBody). length u) h.sent_is in omega (arith, e)
+few_waits stored own Proved given sent h = absurd h
+
+few_owes : (stored : List ℕ → Option StoredPassword) (own text : List ℕ) (p : ServerPhase) (given sent : List SaslBody)
+    → ForChallenged p (λ c. (c.server_first ≡ text) × HasChallenge stored own c given sent (own_mechanisms ∷ [])) → length sent ≤ 3
+few_owes stored own text Unasked given sent h = absurd h
+few_owes stored own text (Challenged c) given sent h = let e = ap (λ (u : List SaslBody). length u) h.1.sent_is in omega (arith, e)
+few_owes stored own text Proved given sent h = absurd h
+
+module _ {P : Type 0} (stored : P → List ℕ → Option StoredPassword) where
+  -- two at most, while it waits for a body
+  few_in : (stage : ServerStage) (s : ServerState P) (given sent : List SaslBody) → Receives (turn_in stage) → holds_in stored stage s given sent → length sent ≤ 2
+  few_in OwesMechanisms s given sent t h = absurd t
+  few_in AwaitsInit s given sent t h = let e = ap (λ (u : List SaslBody). length u) h.1 in omega (arith, e)
+  few_in (OwesChallenge text) s given sent t h = absurd t
+  few_in AwaitsResponse s given sent t h = few_waits (stored s.provider) s.nonce s.phase given sent h
+  few_in (OwesOutcome text) s given sent t h = absurd t
+  few_in Passed s given sent t h = absurd t
+  few_in (OwesRefusal code) s given sent t h = absurd t
+  few_in (Refused code) s given sent t h = absurd t
+
+  server_few_in : (stage : ServerStage) (s : ServerState P) (given sent : List SaslBody) → holds_in stored stage s given sent → length sent ≤ 3
+  server_few_in OwesMechanisms s given sent h = let e = ap (λ (u : List SaslBody). length u) h.1 in omega (arith, e)
+  server_few_in AwaitsInit s given sent h = let e = ap (λ (u : List SaslBody). length u) h.1 in omega (arith, e)
+  server_few_in (OwesChallenge text) s given sent h = few_owes (stored s.provider) s.nonce text s.phase given sent h
+  server_few_in AwaitsResponse s given sent h = let few = few_waits (stored s.provider) s.nonce s.phase given sent h in omega (arith, few)
+  server_few_in (OwesOutcome text) s given sent h = let e = ap (λ (u : List SaslBody). length u) h.sent_is in omega (arith, e)
+  server_few_in Passed s given sent h = let e = ap (λ (u : List SaslBody). length u) h.1.sent_is in omega (arith, e)
+  server_few_in (OwesRefusal code) s given sent h = omega (arith, h.few)
+  server_few_in (Refused code) s given sent h =
+      let e = ap (λ (u : List SaslBody). length u) h.told ∙ length-append h.before (outcome_body code None ∷ []) in omega (arith, e, h.few)
+
+  -- a listener sends three bodies at most
+  pub server_few : (x : ServerEnd P) (given sent : List SaslBody) → server_holds stored x given sent → length sent ≤ 3
+  server_few x given sent h = server_few_in x.stage x.server given sent h
+
 module _ {P : Type 0} (stored : P → List ℕ → Option StoredPassword) (x : ServerEnd P) where
   -- a body is not taken
   pub received_refused : (body : SaslBody) (code : SaslCode) → server_turn x ≡ Receive
       → ((given sent : List SaslBody) → server_holds stored x given sent → IsRefusalCause (stored x.server.provider) x.server.nonce code (given ++ body ∷ []))
       → Received (server_mechanism stored) x body (Ok Taken) (record x { stage = OwesRefusal code })
   received_refused body code turn cause = record {
-    taken = cause;
+    taken = λ given sent h. record { few = few_in stored x.stage x.server given sent (receives x.stage turn) h; cause = cause given sent h };
     less = less_in x.stage (receives x.stage turn);
     same = record { provider = refl; nonce = refl };
     refused = tt;
@@ -163,11 +204,14 @@ module _ {P : Type 0} (stored : P → List ℕ → Option StoredPassword) (x : S
   -- an outcome that refuses was sent
   pub sent_refusal : (code : SaslCode) → x.stage ≡ OwesRefusal code → (body : SaslBody) (given sent : List SaslBody) → server_owes x body → server_holds stored x given sent
       → HasRefused (stored x.server.provider) x.server.nonce code given (sent ++ body ∷ [])
-  sent_refusal code stage body given sent owed held = record {
-    before = sent;
-    told = ap (λ (b : SaslBody). sent ++ b ∷ []) (subst (λ (s : ServerStage). owes_in s body) stage owed);
-    cause = subst (λ (s : ServerStage). holds_in stored s x.server given sent) stage held;
-  }
+  sent_refusal code stage body given sent owed held =
+      let h : HasToRefuse (stored x.server.provider) x.server.nonce code given sent = subst (λ (s : ServerStage). holds_in stored s x.server given sent) stage held in
+      record {
+        before = sent;
+        few = h.few;
+        told = ap (λ (b : SaslBody). sent ++ b ∷ []) (subst (λ (s : ServerStage). owes_in s body) stage owed);
+        cause = h.cause;
+      }
 
 -- ---- the gate
 

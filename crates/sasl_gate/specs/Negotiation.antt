@@ -6,14 +6,14 @@ use Rattle.amqp_wire.specs.declared.link.Link.{Ghosts}
 use Rattle.amqp_wire.specs.declared.link.Stop.TheVariants.{Empty, End}
 use Rattle.amqp_wire.specs.declared.link.Held.TheVariants.{Full}
 use Rattle.amqp_wire.specs.declared.link.IoKind.TheVariants.{Fault, End as InputEnd}
-use Rattle.amqp_wire.specs.declared.frame.Front.TheVariants.{Refused, Foreign}
+use Rattle.amqp_wire.specs.declared.frame.Front.TheVariants.{Partial, Refused, Foreign}
 use Rattle.amqp_wire.specs.Codec.{Codec}
 use Rattle.amqp_wire.specs.Events.{LinkEvent, NotRead, NotWritten, Went, read_of, wrote_of, reads_in, Includes, HasFailed}
 use Rattle.amqp_wire.specs.Frame.{IsFront, HasBody}
 use Rattle.sasl_gate.specs.declared.gate.error.NegotiationError.{NegotiationError}
 use Rattle.sasl_gate.specs.declared.gate.exchange.Exchange.{Ghosts as Mechanism}
 use Rattle.sasl_gate.specs.declared.gate.error.NegotiationError.TheVariants.{Memory, ProtocolHeaderMismatch, NotImplemented, SaslError, ScramError, Io, DecodeError, IllegalState, FramingError}
-use Rattle.sasl_gate.specs.declared.gate.exchange.Turn.TheVariants.{Pass}
+use Rattle.sasl_gate.specs.declared.gate.exchange.Turn.TheVariants.{Receive, Pass}
 use Rattle.sasl_gate.specs.declared.gate.negotiation.Phase.{Phase}
 use Rattle.sasl_gate.specs.declared.gate.negotiation.Phase.TheVariants.{Header, Frames, Failed}
 use Rattle.sasl_gate.specs.declared.gate.negotiation.GatePoll.{GatePoll}
@@ -128,6 +128,21 @@ Has mechanism n events = HasIn mechanism n.phase n events
 abbrev pub IsHeldUp : List LinkEvent → ℕ → Type 0
 IsHeldUp events left = Includes events (NotRead Empty) ⊎ Includes events (NotWritten Full) ⊎ (left ≡ 0)
 
+-- all is written, and what is read next is not there whole: the eight bytes of the SASL header, or a frame, for whose body
+-- the mechanism waits. A frame that is refused is not waited for
+abbrev pub IsAtRestIn : {L X : Type 0} → Mechanism X → Phase → Negotiating L X → Type 0
+IsAtRestIn mechanism Header n = (n.codec.output ≡ []) × (length n.codec.input < 8)
+IsAtRestIn mechanism Frames n = (n.codec.output ≡ []) × (mechanism.turn_of n.exchange ≡ Receive) × IsFront 1 512 n.codec.input Partial
+IsAtRestIn mechanism (Failed e) n = ⊥
+
+-- it waits for input that is not there whole
+abbrev pub IsAtRest : {L X : Type 0} → Mechanism X → Negotiating L X → Type 0
+IsAtRest mechanism n = IsAtRestIn mechanism n.phase n
+
+-- it waits for such input, or the link takes no output
+abbrev pub IsAtRestOrFull : {L X : Type 0} → Mechanism X → List LinkEvent → Negotiating L X → Type 0
+IsAtRestOrFull mechanism events n = IsAtRest mechanism n ⊎ Includes events (NotWritten Full)
+
 -- A negotiation went on: what passed at its link is added to its history, and the reads that gave bytes are gone from
 -- those that were left.
 pub record GoesOn {L X : Type 0} (link : Ghosts L) (mechanism : Mechanism X) (old : Negotiating L X) (left : ℕ) (events : List LinkEvent) (new : Negotiating L X) (left' : ℕ) : Type 0 where
@@ -144,7 +159,7 @@ pub record IsPassed {L X : Type 0} (mechanism : Mechanism X) (n : Negotiating L 
 
 -- what a poll answered: a failure is kept
 abbrev pub IsPollAnswer : {L X : Type 0} → Mechanism X → List LinkEvent → Negotiating L X → ℕ → Result GatePoll NegotiationError → Type 0
-IsPollAnswer mechanism events new left (Ok Pending) = IsHeldUp events left
+IsPollAnswer mechanism events new left (Ok Pending) = IsHeldUp events left × IsAtRestOrFull mechanism events new
 IsPollAnswer mechanism events new left (Ok Passed) = IsPassed mechanism new
 IsPollAnswer mechanism events new left (Err e) = IsMemoryOr e (new.phase ≡ Failed e)
 

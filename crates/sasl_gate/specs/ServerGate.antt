@@ -1,5 +1,5 @@
 -- The listener's end of a SASL negotiation with SCRAM-SHA-256.
-use Rattle.std.specs.Prelude.{◌≡◌, ◌≢◌, ◌++◌, ◌⊎◌, ℕ, Bool, true, false, List, [], ◌∷◌, Option, Some, None, Result, Ok, Err}
+use Rattle.std.specs.Prelude.{◌≡◌, ◌≢◌, ◌≤◌, ◌++◌, ◌⊎◌, ℕ, Bool, true, false, List, [], ◌∷◌, length, Option, Some, None, Result, Ok, Err}
 use Rattle.std.specs.declared.alloc.AllocError.{AllocError}
 use Rattle.std.proofs.Common.{refl, sym, subst, ◌∙◌}
 use Rattle.amqp_composites.specs.declared.sasl_body.SaslBody.{SaslBody}
@@ -147,9 +147,15 @@ pub data IsRefusalCause (stored : List ℕ → Option StoredPassword) (own : Lis
   by_other_body : (before : List SaslBody) (body : SaslBody) → given ≡ before ++ body ∷ [] → is_of_client body ≡ false
       → code ≡ sasl.Sys → IsRefusalCause stored own code given
 
--- an end that told the other this outcome
+-- an end that owes the other an outcome with a code, and sent two bodies at most
+pub record HasToRefuse (stored : List ℕ → Option StoredPassword) (own : List ℕ) (code : SaslCode) (given sent : List SaslBody) : Type 0 where
+  pub few : length sent ≤ 2
+  pub cause : IsRefusalCause stored own code given
+
+-- an end that told the other this outcome, after two bodies at most
 pub record HasRefused (stored : List ℕ → Option StoredPassword) (own : List ℕ) (code : SaslCode) (given sent : List SaslBody) : Type 0 where
   pub before : List SaslBody
+  pub few : length before ≤ 2
   pub told : sent ≡ before ++ outcome_body code None ∷ []
   pub cause : IsRefusalCause stored own code given
 
@@ -162,7 +168,7 @@ holds_in stored AwaitsResponse s given sent =
     ForChallenged s.phase (λ c. HasChallenge (stored s.provider) s.nonce c given sent (own_mechanisms ∷ challenge_body c.server_first ∷ []))
 holds_in stored (OwesOutcome text) s given sent = HasProof (stored s.provider) s.nonce text given sent []
 holds_in stored Passed s given sent = (text : List ℕ) × HasProof (stored s.provider) s.nonce text given sent (outcome_body sasl.Ok (Some text) ∷ [])
-holds_in stored (OwesRefusal code) s given sent = IsRefusalCause (stored s.provider) s.nonce code given
+holds_in stored (OwesRefusal code) s given sent = HasToRefuse (stored s.provider) s.nonce code given sent
 holds_in stored (Refused code) s given sent = HasRefused (stored s.provider) s.nonce code given sent
 
 -- the bodies that an end was given and those that it sent

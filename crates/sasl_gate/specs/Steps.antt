@@ -22,23 +22,23 @@ use Rattle.sasl_gate.specs.declared.gate.error.NegotiationError.{NegotiationErro
 use Rattle.sasl_gate.specs.declared.gate.error.NegotiationError.TheVariants.{Io}
 use Rattle.sasl_gate.specs.declared.gate.negotiation.GatePoll.{GatePoll}
 use Rattle.sasl_gate.specs.declared.gate.negotiation.GatePoll.TheVariants.{Pending, Passed}
-use Rattle.sasl_gate.specs.Negotiation.{Negotiating, GoesOn, IsHeldUp, IsPassed, IsMemoryOr, IsOverlong}
+use Rattle.sasl_gate.specs.Negotiation.{Negotiating, GoesOn, IsHeldUp, IsAtRestOrFull, IsPassed, IsMemoryOr, IsOverlong}
 
 -- what a step came to; want of memory comes to nothing
 abbrev pub step_in : {E : Type 0} → Result Step E → Step
 step_in (Ok s) = s
 step_in (Err e) = Goes
 
-abbrev pub IsStepEnd : Step → List LinkEvent → ℕ → Type 0
-IsStepEnd Goes events left = ⊤
-IsStepEnd Waits events left = IsHeldUp events left
-IsStepEnd Ends events left = ⊤
+abbrev pub IsStepEnd : {L X : Type 0} → Mechanism X → Step → List LinkEvent → Negotiating L X → ℕ → Type 0
+IsStepEnd mechanism Goes events new left = ⊤
+IsStepEnd mechanism Waits events new left = IsHeldUp events left × IsAtRestOrFull mechanism events new
+IsStepEnd mechanism Ends events new left = ⊤
 
 -- a negotiation made a step
 pub record Stepped {L X : Type 0} (link : Ghosts L) (mechanism : Mechanism X) (old : Negotiating L X) (left : ℕ) (step : Step) (new : Negotiating L X) (left' : ℕ) : Type 0 where
   pub events : List LinkEvent
   pub goes : GoesOn link mechanism old left events new left'
-  pub end : IsStepEnd step events left'
+  pub end : IsStepEnd mechanism step events new left'
 
 abbrev pub rank_of : Phase → ℕ
 rank_of Header = 1

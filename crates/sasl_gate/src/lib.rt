@@ -12,4 +12,5 @@ pub use scram::server::{Challenge, ScramServer, ServerPhase};
 pub use scram::stored::StoredPassword;
 
 pub mod gate;
+pub mod laws;
 pub mod scram;

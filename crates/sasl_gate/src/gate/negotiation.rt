@@ -220,6 +220,7 @@ impl<L: Link, X: Exchange> Negotiation<L, X> {
 
     fn await_header(&mut self, reads_left: &mut u64) -> Result<Step, AllocError>
         requires phase { self.old.phase ≡ Header }
+        requires flushed { self.old.codec.output ≡ [] }
         ensures stepped { Stepped L.Link X.Exchange self.old reads_left.old (step_in result) self.new reads_left.new }
         ensures less { result ≡ Ok Step.Goes → measure_of X.Exchange self.new < measure_of X.Exchange self.old }
         ensures ended { result ≡ Ok Step.Ends → HasEnded X.Exchange self.new }
@@ -283,6 +284,7 @@ impl<L: Link, X: Exchange> Negotiation<L, X> {
     fn await_body(&mut self, reads_left: &mut u64) -> Result<Step, AllocError>
         requires phase { self.old.phase ≡ Frames }
         requires turn { X.turn_of self.old.exchange ≡ Receive }
+        requires flushed { self.old.codec.output ≡ [] }
         ensures stepped { Stepped L.Link X.Exchange self.old reads_left.old (step_in result) self.new reads_left.new }
         ensures less { result ≡ Ok Step.Goes → measure_of X.Exchange self.new < measure_of X.Exchange self.old }
         ensures ended { result ≡ Ok Step.Ends → HasEnded X.Exchange self.new }
@@ -429,8 +431,9 @@ impl<L: Link, X: Exchange> Negotiation<L, X> {
     }
 
     /// Goes on until it has passed or failed, or can do no more now: with at most `reads_left`
-    /// reads of the link that give bytes, which are counted down. A failure is answered again at
-    /// each later call, and then nothing is read or written.
+    /// reads of the link that give bytes, which are counted down. Where it can do no more, all is
+    /// written and it waits for input that is not there whole, or the link took no output. A failure
+    /// is answered again at each later call, and then nothing is read or written.
     pub fn poll_within(&mut self, reads_left: &mut u64) -> Result<GatePoll, NegotiationError>
         ensures { Polled L.Link X.Exchange self.old reads_left.old result self.new reads_left.new }
     {
