@@ -1,0 +1,168 @@
+-- Why a client refuses the next body of the listener to which it is joined.
+use Rattle.std.proofs.Common.{◌≡◌, ◌≢◌, ℕ, true, false, List, [], ◌∷◌, ◌++◌, Option, Some, None, refl, ap, sym, ◌∙◌, subst, Contains}
+use Rattle.std.proofs.lemmas.List.Elements.{Contains-push}
+use Rattle.amqp_composites.specs.declared.sasl_body.SaslBody.{SaslBody}
+use Rattle.amqp_composites.specs.declared.sasl_code.SaslCode.{SaslCode}
+use Rattle.amqp_composites.specs.declared.sasl_code.SaslCode.TheVariants as sasl
+use Rattle.amqp_opening.specs.Authentication.{stored_for}
+use Rattle.base64.specs.GeneralPurpose.{IsBytes}
+use Rattle.sha2.specs.Sha256.{sha256}
+use Rattle.sasl_gate.specs.declared.gate.error.NegotiationError.{NegotiationError}
+use Rattle.sasl_gate.specs.declared.gate.error.NegotiationError.TheVariants.{Memory, ProtocolHeaderMismatch, NotImplemented, SaslError, ScramError, Io, DecodeError, IllegalState, FramingError}
+use Rattle.sasl_gate.specs.declared.gate.exchange.Turn.TheVariants.{Refuse}
+use Rattle.sasl_gate.specs.declared.scram.error.ScramErrorKind.{ScramErrorKind}
+use Rattle.sasl_gate.specs.declared.scram.error.ScramErrorKind.TheVariants as scram
+use Rattle.sasl_gate.specs.declared.scram.stored.StoredPassword.{StoredPassword}
+use Rattle.sasl_gate.specs.Check.{ClientAnswers}
+use Rattle.sasl_gate.specs.ClientGate.{ClientEnd, IsDisorder, IsScramCause, by_challenge, by_outcome, by_no_signature, client_causes, client_init, is_next}
+use Rattle.sasl_gate.specs.Refusals.{IsMemory, IsServerFirstRefusal, IsServerFinalRefusal}
+use Rattle.sasl_gate.specs.ScramBodies.{own_mechanism, challenge_body, init_body, mechanisms_body, outcome_body, response_body}
+use Rattle.sasl_gate.specs.ServerGate.{ServerEnd, IsRefusalCause, server_turn}
+use Rattle.sasl_gate.specs.States.{Account}
+use Rattle.amqp_pairs.specs.Errors.{IsByteCause, IsByteScramCause, IsCollided, IsTold, MayRefuse}
+use Rattle.amqp_pairs.specs.Joined.{AreJoined}
+use Rattle.amqp_pairs.proofs.Answers.{client_answer, other_signature, signature_told}
+use Rattle.amqp_pairs.proofs.Asked.{asked, told_check, IsChecked}
+use Rattle.amqp_pairs.proofs.Bodies.{challenge_not_outcome, code_in, last_once, list_not_challenge, list_not_outcome, names_in, payload_in, text_in, told_not_none}
+use Rattle.amqp_pairs.proofs.Causes.{answer_of, refusal_cause, text_given}
+use Rattle.amqp_pairs.proofs.ListenerViews.{ListenerView, listener_view}
+use Rattle.amqp_pairs.proofs.Places.{IsSentChallenge, Place, at_challenge, at_list, at_outcome, at_refusal, challenged, place}
+use Rattle.amqp_pairs.proofs.Refusals.{server_first_taken}
+
+-- the whole of a list of one, two or three bodies, by its last
+pub last_of_one : (before : List SaslBody) (body a : SaslBody) → before ++ body ∷ [] ≡ a ∷ [] → (before ≡ []) × (body ≡ a)
+last_of_one before body a e = last_once before [] body a e
+
+last_of_two : (before : List SaslBody) (body a b : SaslBody) → before ++ body ∷ [] ≡ a ∷ b ∷ [] → (before ≡ a ∷ []) × (body ≡ b)
+last_of_two before body a b e = last_once before (a ∷ []) body b e
+
+last_of_three : (before : List SaslBody) (body a b c : SaslBody) → before ++ body ∷ [] ≡ a ∷ b ∷ c ∷ [] → (before ≡ a ∷ b ∷ []) × (body ≡ c)
+last_of_three before body a b c e = last_once before (a ∷ b ∷ []) body c e
+
+own_listed : (names : List (List ℕ)) → names ≡ own_mechanism ∷ [] → Contains names own_mechanism
+own_listed names e = subst (λ (u : List (List ℕ)). Contains u own_mechanism) (sym e) (Contains-push [] own_mechanism)
+
+module _ (x : ClientEnd) (y : ServerEnd Account) (salt : List ℕ) (count : ℕ) (gc sc gl sl fc fl : List SaslBody) (j : AreJoined x y salt count gc sc gl sl fc fl) where
+  abbrev stored : List ℕ → Option StoredPassword
+  stored = stored_for y.server.provider
+
+  pub seen : ListenerView y.stage stored y.server.nonce gl sl
+  seen = listener_view y gl sl j.ends.listener j.ends.waited
+
+  -- what the listener told, if it refuses
+  pub told : (body : SaslBody) (code : SaslCode) → body ≡ outcome_body code None → server_turn y ≡ Refuse code → IsRefusalCause stored y.server.nonce code gl → IsTold x y body
+  told body code is turn cause =
+      let why = refusal_cause x y salt count gc sc gl sl fc fl j code gl fl j.reads_client (asked stored y.server.nonce y.stage gl sl seen) cause in
+      record {
+        body_is = is ∙ ap (λ (c : SaslCode). outcome_body c None) why.0;
+        refuses = turn ∙ ap Refuse why.0;
+        other = why.1;
+      }
+
+  -- a body that the listener sent, with those before it and those behind it
+  module _ (front : List SaslBody) (body : SaslBody) (more : List SaslBody) (sent : front ++ body ∷ more ≡ sl) where
+    here : Place y.stage stored y.server.nonce gl front body more
+    here = place y.stage stored y.server.nonce gl sl front more body seen sent
+
+    -- a list of mechanisms has the own one
+    listed : (names : List (List ℕ)) → body ≡ mechanisms_body names → Place y.stage stored y.server.nonce gl front body more → Contains names own_mechanism
+    listed names is (at_list b e) = own_listed names (ap names_in (sym is ∙ e))
+    listed names is (at_challenge a first b e) = absurd (list_not_challenge names first (sym is ∙ e))
+    listed names is (at_outcome a b final c e) = absurd (list_not_outcome names sasl.Ok (Some final) (sym is ∙ e))
+    listed names is (at_refusal code e t c m) = absurd (list_not_outcome names code None (sym is ∙ e))
+
+    -- an outcome other than `Ok` is that of a listener that refuses
+    refusing : (code : SaslCode) (payload : Option (List ℕ)) → body ≡ outcome_body code payload → code ≢ sasl.Ok → Place y.stage stored y.server.nonce gl front body more
+        → (code ≡ sasl.Auth) × (payload ≡ None) × IsTold x y body
+    refusing code payload is ne (at_list b e) = absurd (list_not_outcome (own_mechanism ∷ []) code payload (sym e ∙ is))
+    refusing code payload is ne (at_challenge a first b e) = absurd (challenge_not_outcome first code payload (sym e ∙ is))
+    refusing code payload is ne (at_outcome a b final c e) = absurd (ne (ap code_in (sym is ∙ e)))
+    refusing code payload is ne (at_refusal other e t c m) =
+        let w = told body other e t c in
+        (ap code_in (sym is ∙ w.body_is), ap payload_in (sym is ∙ w.body_is), w)
+
+    -- a body out of order is an outcome that refuses
+    misplaced : is_next front body ≡ false → Place y.stage stored y.server.nonce gl front body more → IsTold x y body
+    misplaced not (at_list b e) =
+        let at : is_next front body ≡ true = subst (λ (u : List SaslBody). is_next u body ≡ true) (sym b) (subst (λ (u : SaslBody). is_next [] u ≡ true) (sym e) refl) in
+        let both : true ≡ false = sym at ∙ not in
+        cc
+    misplaced not (at_challenge a first b e) =
+        let at : is_next front body ≡ true = subst (λ (u : List SaslBody). is_next u body ≡ true) (sym b) (subst (λ (u : SaslBody). is_next (a ∷ []) u ≡ true) (sym e) refl) in
+        let both : true ≡ false = sym at ∙ not in
+        cc
+    misplaced not (at_outcome a c final b e) =
+        let at : is_next front body ≡ true = subst (λ (u : List SaslBody). is_next u body ≡ true) (sym b) (subst (λ (u : SaslBody). is_next (a ∷ c ∷ []) u ≡ true) (sym e) refl) in
+        let both : true ≡ false = sym at ∙ not in
+        cc
+    misplaced not (at_refusal code e t c m) = told body code e t c
+
+    -- an outcome `Ok` has a signature
+    signed_outcome : body ≡ outcome_body sasl.Ok None → Place y.stage stored y.server.nonce gl front body more → ⊥
+    signed_outcome is (at_list b e) = list_not_outcome (own_mechanism ∷ []) sasl.Ok None (sym e ∙ is)
+    signed_outcome is (at_challenge a first b e) = challenge_not_outcome first sasl.Ok None (sym e ∙ is)
+    signed_outcome is (at_outcome a c final b e) = told_not_none sasl.Ok sasl.Ok final (sym e ∙ is)
+    signed_outcome is (at_refusal code e t c m) =
+        let w = told body code e t c in
+        let codes : sasl.Ok ≡ sasl.Auth = ap code_in (sym is ∙ w.body_is) in
+        cc
+
+    stream : (before : List SaslBody) (b : SaslBody) → front ≡ before → body ≡ b → before ++ b ∷ more ≡ sl
+    stream before b g e = ap (λ (u : List SaslBody). u ++ b ∷ more) (sym g) ∙ ap (λ (u : SaslBody). front ++ u ∷ more) (sym e) ∙ sent
+
+    -- the challenge
+    taken : (list : SaslBody) (text : List ℕ) (kind : ScramErrorKind) → front ++ body ∷ [] ≡ list ∷ challenge_body text ∷ [] → ¬ IsMemory kind
+        → IsServerFirstRefusal x.client.nonce text kind → ⊥
+    taken list text kind e m r =
+        let at = last_of_two front body list (challenge_body text) e in
+        let c : IsSentChallenge y.stage stored y.server.nonce gl text = challenged y.stage stored y.server.nonce gl sl list text more seen (stream (list ∷ []) (challenge_body text) at.0 at.1) in
+        let is = text_given x y salt count gc sc gl sl fc fl j c.client_first c.hostname (c.rest ++ fl) (sym (ap (λ (u : List SaslBody). u ++ fl) c.given_is) ∙ j.reads_client) in
+        let a = answer_of x y salt count gc sc gl sl fc fl j c.client_first c.challenge.user c.challenge.whole text c.challenge.keys is c.challenge.answers in
+        server_first_taken x.client.nonce y.server.nonce salt count kind j.ends.nonce_is j.ends.own_is j.ends.salt_is j.ends.count_is m
+        (subst (λ (t : List ℕ). IsServerFirstRefusal x.client.nonce t kind) a.first_is r)
+
+    -- the outcome
+    collided : (list : SaslBody) (first final signature text : List ℕ) (kind : ScramErrorKind) → front ++ body ∷ [] ≡ list ∷ challenge_body first ∷ outcome_body sasl.Ok (Some text) ∷ []
+        → sc ≡ client_init x ∷ response_body final ∷ [] → (a : ClientAnswers sha256 64 32 x.client.user x.client.password x.client.nonce first final signature) → IsBytes a.salt
+        → IsServerFinalRefusal 32 signature text kind → (kind ≡ scram.Signature) × IsCollided x y
+    collided list first final signature text kind e s a narrow r =
+        let at = last_of_three front body list (challenge_body first) (outcome_body sasl.Ok (Some text)) e in
+        let c : IsChecked stored y.server.nonce y.stage gl first text = told_check stored y.server.nonce y.stage gl sl list first text more seen
+        (stream (list ∷ challenge_body first ∷ []) (outcome_body sasl.Ok (Some text)) at.0 at.1) in
+        let whole : init_body own_mechanism (Some c.client_first) c.hostname ∷ response_body c.final ∷ fl ≡ sc = sym (ap (λ (u : List SaslBody). u ++ fl) c.given_is) ∙ j.reads_client in
+        let is = text_given x y salt count gc sc gl sl fc fl j c.client_first c.hostname (response_body c.final ∷ fl) whole in
+        let both : init_body own_mechanism (Some c.client_first) c.hostname ∷ response_body c.final ∷ fl ≡ client_init x ∷ response_body final ∷ [] = whole ∙ s in
+        let seconds : response_body c.final ≡ response_body final = cc in
+        let finals : c.final ≡ final = ap text_in seconds in
+        let mine = answer_of x y salt count gc sc gl sl fc fl j c.client_first c.user c.check.whole_nonce first c.check.keys is c.check.answers in
+        let b = client_answer x.client.user x.client.password x.client.nonce y.server.nonce salt count first final signature j.ends.nonce_is j.ends.own_is j.ends.salt_is j.ends.count_is mine.first_is a narrow in
+        let check = subst (λ (t : List ℕ). Rattle.sasl_gate.specs.Check.ServerCheck sha256 64 32 stored y.server.nonce c.user c.client_first first t text) finals c.check in
+        let signature_is = signature_told y.server.provider x.client.user x.client.password x.client.nonce y.server.nonce salt count c.client_first c.user first final text first signature
+        j.ends.stored_is j.ends.nonce_is j.ends.own_is is check refl b in
+        let why = other_signature y.server.provider x.client.user x.client.password x.client.nonce y.server.nonce salt count first final text first signature kind signature_is refl b r in
+        (why.0, record { passes = c.passes; user = sym mine.user_is; password = why.1 })
+
+    scram_cause : (kind : ScramErrorKind) (c : IsScramCause x kind (front ++ body ∷ []) sc) → IsByteScramCause x kind (front ++ body ∷ []) sc c → (kind ≡ scram.Signature) × IsCollided x y
+    scram_cause kind (by_challenge names text e m r) b = absurd (taken (mechanisms_body names) text kind e m r)
+    scram_cause kind (by_outcome names first final signature text e s a r) b = collided (mechanisms_body names) first final signature text kind e s a b r
+    scram_cause kind (by_no_signature names first e k) b =
+        absurd (signed_outcome (last_of_three front body (mechanisms_body names) (challenge_body first) (outcome_body sasl.Ok None) e).1 here)
+
+    disorder : IsDisorder (front ++ body ∷ []) → IsTold x y body
+    disorder d =
+        let at = last_once front d.before body d.body d.given_is in
+        let not : is_next front body ≡ false =
+        subst (λ (u : List SaslBody). is_next u body ≡ false) (sym at.0) (subst (λ (u : SaslBody). is_next d.before u ≡ false) (sym at.1) d.not_next) in
+        misplaced not here
+
+    -- the client refuses only what a listener tells that refuses another account, or the signature of another password
+    pub client_cause : (e : NegotiationError) (c : client_causes x e (front ++ body ∷ []) sc) → IsByteCause x e (front ++ body ∷ []) sc c → MayRefuse x y body e
+    client_cause (Memory a) c b = c
+    client_cause (ProtocolHeaderMismatch h) c b = c
+    client_cause NotImplemented (names, is, not) b = not (listed names (last_of_one front body (mechanisms_body names) is).1 here)
+    client_cause (SaslError code payload) (before, is, ne) b = refusing code payload (last_once front before body (outcome_body code payload) is).1 ne here
+    client_cause (ScramError kind) c b = scram_cause kind c b
+    client_cause (Io kind) c b = c
+    client_cause DecodeError c b = c
+    client_cause IllegalState c b = disorder c
+    client_cause FramingError c b = c

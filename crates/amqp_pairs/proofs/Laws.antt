@@ -1,0 +1,166 @@
+-- The laws of two joined ends.
+use Rattle.std.proofs.Common.{◌≡◌, ◌≢◌, ◌≤◌, inl, inr, ℕ, List, [], ◌∷◌, ◌++◌, length, Option, None, refl, ap, sym, ◌∙◌, subst, append_assoc, append-nil}
+use Rattle.amqp_composites.specs.declared.sasl_body.SaslBody.{SaslBody}
+use Rattle.amqp_composites.specs.declared.sasl_code.SaslCode.{SaslCode}
+use Rattle.amqp_composites.specs.declared.sasl_code.SaslCode.TheVariants as sasl
+use Rattle.amqp_opening.specs.Authentication.{stored_for}
+use Rattle.sasl_gate.specs.declared.gate.error.NegotiationError.{NegotiationError}
+use Rattle.sasl_gate.specs.declared.gate.error.NegotiationError.TheVariants.{Memory, ProtocolHeaderMismatch, NotImplemented, SaslError, ScramError, Io, DecodeError, IllegalState, FramingError}
+use Rattle.sasl_gate.specs.declared.gate.exchange.Turn.TheVariants.{Send, Receive, Refuse, Pass}
+use Rattle.sasl_gate.specs.declared.gate.server.ServerStage.{ServerStage}
+use Rattle.sasl_gate.specs.declared.gate.server.ServerStage.TheVariants.{OwesMechanisms, AwaitsInit, OwesChallenge, AwaitsResponse, OwesOutcome, Passed, OwesRefusal, Refused}
+use Rattle.sasl_gate.specs.declared.scram.stored.StoredPassword.{StoredPassword}
+use Rattle.sasl_gate.specs.ClientGate.{ClientEnd, client_causes, client_turn}
+use Rattle.sasl_gate.specs.Exchange.{refused_with}
+use Rattle.sasl_gate.specs.ScramBodies.{outcome_body}
+use Rattle.sasl_gate.specs.ServerGate.{ServerEnd, IsRefusalCause, holds_in, server_turn}
+use Rattle.sasl_gate.specs.States.{Account, ServerState}
+use Rattle.amqp_pairs.specs.Errors.{IsByteCause, MayRefuse}
+use Rattle.amqp_pairs.specs.Joined.{AreJoined, IsOtherAccount, IsRefusing, IsSameAccount, Waited}
+use Rattle.amqp_pairs.proofs.Asked.{asked, asking_asked}
+use Rattle.amqp_pairs.proofs.Causes.{refusal_cause}
+use Rattle.amqp_pairs.proofs.ClientCauses.{client_cause, last_of_one, seen}
+use Rattle.amqp_pairs.proofs.ClientViews.{ClientView, client_view}
+use Rattle.amqp_pairs.proofs.ListenerViews.{ListenerView, owes_mechanisms, awaits_init, owes_challenge, awaits_response, owes_outcome, passed, owes_refusal, refused, asking}
+use Rattle.amqp_pairs.proofs.Rest.{both_pass, took_no_refusal}
+
+-- no account is the same and another
+apart : (x : ClientEnd) (account : Account) → IsSameAccount x account → IsOtherAccount x account → ⊥
+apart x account same (inl user) = user same.0
+apart x account same (inr password) = password same.1
+
+cause_in : (stage : ServerStage) (s : ServerState Account) (given sent : List SaslBody) → IsRefusing stage → holds_in stored_for stage s given sent
+    → (code : SaslCode) × IsRefusalCause (stored_for s.provider) s.nonce code given
+cause_in OwesMechanisms s given sent r h = absurd r
+cause_in AwaitsInit s given sent r h = absurd r
+cause_in (OwesChallenge text) s given sent r h = absurd r
+cause_in AwaitsResponse s given sent r h = absurd r
+cause_in (OwesOutcome text) s given sent r h = absurd r
+cause_in Passed s given sent r h = absurd r
+cause_in (OwesRefusal code) s given sent r h = (code, h.cause)
+cause_in (Refused code) s given sent r h = (code, h.cause)
+
+-- the last body in flight, where it was not taken
+last_in_flight : (given flight before : List SaslBody) (o : SaslBody) → ((front more : List SaslBody) → front ++ o ∷ more ≡ given → ⊥) → given ++ flight ≡ before ++ o ∷ []
+    → (front : List SaslBody) × (flight ≡ front ++ o ∷ [])
+last_in_flight [] flight before o none e = (before, e)
+last_in_flight (g ∷ gs) flight [] o none e =
+    let head : o ≡ g = cc in
+    absurd (none [] gs (ap (λ (u : SaslBody). u ∷ gs) head))
+last_in_flight (g ∷ gs) flight (b ∷ bs) o none e =
+    let tail : gs ++ flight ≡ bs ++ o ∷ [] = cc in
+    last_in_flight gs flight bs o (λ front more f. none (g ∷ front) more (ap (λ (u : List SaslBody). g ∷ u) f)) tail
+
+module _ (x : ClientEnd) (y : ServerEnd Account) (salt : List ℕ) (count : ℕ) (gc sc gl sl fc fl : List SaslBody) (j : AreJoined x y salt count gc sc gl sl fc fl) where
+  abbrev stored : List ℕ → Option StoredPassword
+  stored = stored_for y.server.provider
+
+  abbrev far : ClientView x.stage x gc sc
+  far = client_view x.stage x gc sc j.ends.client j.ends.client_salt
+
+  abbrev seen_now : ListenerView y.stage stored y.server.nonce gl sl
+  seen_now = seen x y salt count gc sc gl sl fc fl j
+
+  -- ---- another account
+
+  pub refused_now : (code : SaslCode) → IsRefusalCause stored y.server.nonce code gl → (code ≡ sasl.Auth) × IsOtherAccount x y.server.provider
+  refused_now code cause = refusal_cause x y salt count gc sc gl sl fc fl j code gl fl j.reads_client (asked stored y.server.nonce y.stage gl sl seen_now) cause
+
+  pub refused_next : (code : SaslCode) (body : SaslBody) (more : List SaslBody) → server_turn y ≡ Receive → fl ≡ body ∷ more → IsRefusalCause stored y.server.nonce code (gl ++ body ∷ [])
+      → (code ≡ sasl.Auth) × IsOtherAccount x y.server.provider
+  refused_next code body more turn next cause =
+      let w : Waited y (gl ++ body ∷ []) sl = record { old = y; before = gl; body = body; same = record { provider = refl; nonce = refl }; waits = turn; held = j.ends.listener; given_is = refl } in
+      let a = asking_asked stored y.server.nonce (gl ++ body ∷ []) sl [] (asking y (gl ++ body ∷ []) sl w) in
+      refusal_cause x y salt count gc sc gl sl fc fl j code (gl ++ body ∷ []) more
+      (append_assoc gl (body ∷ []) more ∙ ap (λ (u : List SaslBody). gl ++ u) (sym next) ∙ j.reads_client)
+      (subst (λ (u : List SaslBody). Rattle.amqp_pairs.proofs.Asked.Asked stored y.server.nonce (gl ++ body ∷ []) u) (append-nil sl) a) cause
+
+  pub client_next : (e : NegotiationError) (body : SaslBody) (more : List SaslBody) → fc ≡ body ∷ more → (c : client_causes x e (gc ++ body ∷ []) sc)
+      → IsByteCause x e (gc ++ body ∷ []) sc c → MayRefuse x y body e
+  client_next e body more next c b =
+      client_cause x y salt count gc sc gl sl fc fl j gc body more (ap (λ (u : List SaslBody). gc ++ u) (sym next) ∙ j.reads_listener) e c b
+
+  -- ---- the same account
+
+  module _ (same : IsSameAccount x y.server.provider) where
+    pub no_cause : (code : SaslCode) → IsRefusalCause stored y.server.nonce code gl → ⊥
+    no_cause code cause = apart x y.server.provider same (refused_now code cause).1
+
+    pub no_refusal : IsRefusing y.stage → ⊥
+    no_refusal r = let c = cause_in y.stage y.server gl sl r j.ends.listener in no_cause c.0 c.1
+
+    pub no_next : (code : SaslCode) (body : SaslBody) (more : List SaslBody) → server_turn y ≡ Receive → fl ≡ body ∷ more → IsRefusalCause stored y.server.nonce code (gl ++ body ∷ []) → ⊥
+    no_next code body more turn next cause = apart x y.server.provider same (refused_next code body more turn next cause).1
+
+    impossible : (e : NegotiationError) (body : SaslBody) → MayRefuse x y body e → ⊥
+    impossible (Memory a) body m = m
+    impossible (ProtocolHeaderMismatch h) body m = m
+    impossible NotImplemented body m = m
+    impossible (SaslError code payload) body m = apart x y.server.provider same m.2.other
+    impossible (ScramError kind) body m = m.1.password same.1
+    impossible (Io kind) body m = m
+    impossible DecodeError body m = m
+    impossible IllegalState body m = apart x y.server.provider same m.other
+    impossible FramingError body m = m
+
+    pub no_client_cause : (e : NegotiationError) (body : SaslBody) (more : List SaslBody) → fc ≡ body ∷ more → (c : client_causes x e (gc ++ body ∷ []) sc)
+        → IsByteCause x e (gc ++ body ∷ []) sc c → ⊥
+    no_client_cause e body more next c b = impossible e body (client_next e body more next c b)
+
+  -- ---- a listener that refused
+
+  abbrev Turned : SaslCode → Type 0
+  Turned code = (code ≡ sasl.Auth) × IsOtherAccount x y.server.provider × (front : List SaslBody) × (fc ≡ front ++ outcome_body sasl.Auth None ∷ [])
+
+  other_turn : (code other : SaslCode) → Refuse other ≡ Refuse code → other ≡ code
+  other_turn code other e = cc
+
+  send_not : (code : SaslCode) → Send ≡ Refuse code → ⊥
+  send_not code e = cc
+
+  receive_not : (code : SaslCode) → Receive ≡ Refuse code → ⊥
+  receive_not code e = cc
+
+  pass_not : (code : SaslCode) → Pass ≡ Refuse code → ⊥
+  pass_not code e = cc
+
+  turned_by : (code other : SaslCode) (front : List SaslBody) → other ≡ code → IsRefusalCause stored y.server.nonce other gl → sl ≡ front ++ outcome_body other None ∷ [] → Turned code
+  turned_by code other front same cause is =
+      let why = refused_now other cause in
+      let told : gc ++ fc ≡ front ++ outcome_body sasl.Auth None ∷ [] = j.reads_listener ∙ is ∙ ap (λ (c : SaslCode). front ++ outcome_body c None ∷ []) why.0 in
+      let last = last_in_flight gc fc front (outcome_body sasl.Auth None) (λ before more e. took_no_refusal x.stage x gc sc before more sasl.Auth far e) told in
+      (sym same ∙ why.0, why.1, last.0, last.1)
+
+  turned : (code : SaslCode) → server_turn y ≡ Refuse code → ListenerView y.stage stored y.server.nonce gl sl → Turned code
+  turned code turn (owes_mechanisms t g s) = absurd (send_not code (sym t ∙ turn))
+  turned code turn (awaits_init t g s) = absurd (receive_not code (sym t ∙ turn))
+  turned code turn (owes_challenge cf first h t g s c) = absurd (send_not code (sym t ∙ turn))
+  turned code turn (awaits_response cf first h t g s c) = absurd (receive_not code (sym t ∙ turn))
+  turned code turn (owes_outcome u cf first final told h t g s c) = absurd (send_not code (sym t ∙ turn))
+  turned code turn (passed u cf first final told h t g s c) = absurd (pass_not code (sym t ∙ turn))
+  turned code turn (owes_refusal other t c a) = absurd (send_not code (sym t ∙ turn))
+  turned code turn (refused other front t c is a) = turned_by code other front (other_turn code other (sym t ∙ turn)) c is
+
+  pub in_flight : (code : SaslCode) → server_turn y ≡ Refuse code → Turned code
+  in_flight code turn = turned code turn seen_now
+
+  auth_not_ok : sasl.Auth ≢ sasl.Ok
+  auth_not_ok e = cc
+
+  pub told_client : (code : SaslCode) (body : SaslBody) → fc ≡ body ∷ [] → server_turn y ≡ Refuse code → client_causes x (refused_with sasl.Auth) (gc ++ body ∷ []) sc
+  told_client code body next turn =
+      let t = in_flight code turn in
+      let same = last_of_one t.2 (outcome_body sasl.Auth None) body (sym t.3 ∙ next) in
+      (gc, ap (λ (u : SaslBody). gc ++ u ∷ []) (sym same.1), auth_not_ok)
+
+-- nothing is in flight, and neither end sends
+pub at_rest : (x : ClientEnd) (y : ServerEnd Account) (salt : List ℕ) (count : ℕ) (gc sc gl sl fc fl : List SaslBody) → AreJoined x y salt count gc sc gl sl fc fl
+    → fc ≡ [] → fl ≡ [] → client_turn x ≢ Send → server_turn y ≢ Send → (client_turn x ≡ Pass) × (server_turn y ≡ Pass)
+at_rest x y salt count gc sc gl sl fc fl j p q idle ready =
+    let heard : gc ≡ sl = sym (append-nil gc) ∙ ap (λ (u : List SaslBody). gc ++ u) (sym p) ∙ j.reads_listener in
+    let said : gl ≡ sc = sym (append-nil gl) ∙ ap (λ (u : List SaslBody). gl ++ u) (sym q) ∙ j.reads_client in
+    let v : ClientView x.stage x gc sc = client_view x.stage x gc sc j.ends.client j.ends.client_salt in
+    let w : ListenerView y.stage (stored_for y.server.provider) y.server.nonce sc gc =
+    subst (λ (u : List SaslBody). ListenerView y.stage (stored_for y.server.provider) y.server.nonce sc u) (sym heard)
+    (subst (λ (u : List SaslBody). ListenerView y.stage (stored_for y.server.provider) y.server.nonce u sl) said (seen x y salt count gc sc gl sl fc fl j)) in
+    both_pass x.stage x gc sc idle y.stage (stored_for y.server.provider) y.server.nonce v w ready

@@ -1,0 +1,8 @@
+//! Laws over the two ends of a SASL exchange with SCRAM-SHA-256, one file a topic.
+//!
+//! Each function is empty: its contract is the law.
+#![tactic(auto)]
+
+pub mod exchange_laws;
+pub mod joining_laws;
+pub mod stream_laws;
