@@ -6,6 +6,7 @@ use Rattle.amqp_wire.specs.declared.link.Link.{Ghosts}
 use Rattle.amqp_wire.specs.declared.link.Stop.TheVariants.{Empty}
 use Rattle.amqp_wire.specs.Events.{LinkEvent, NotRead, NotWritten, Includes, Went, reads_in}
 use Rattle.amqp_wire.proofs.Events.{includes_left, went_then, reads_in-append}
+use Rattle.amqp_transport.specs.Stream.{IsPart}
 use Rattle.amqp_engine.specs.declared.engine.EngineStep.TheVariants as step
 use Rattle.amqp_engine.specs.declared.error.Error.{Error as ConnectionFault}
 use Rattle.amqp_engine.specs.declared.error.Error.TheVariants as connection
@@ -20,11 +21,11 @@ use Rattle.amqp_words.specs.declared.call.Call.TheVariants.{Close}
 use Rattle.amqp_words.specs.declared.reply.Reply.{Reply}
 use Rattle.amqp_words.specs.declared.reply.NamedReply.{NamedReply}
 use Rattle.amqp_peer.specs.declared.held.Held.{Held}
-use Rattle.amqp_peer.specs.declared.held.Held.TheVariants.{Late}
+use Rattle.amqp_peer.specs.declared.held.Held.TheVariants.{Early, Late, Unopened, Moving}
 use Rattle.amqp_peer.specs.declared.peer.Progress.{Progress}
 use Rattle.amqp_peer.specs.declared.peer.Progress.TheVariants as progress
 use Rattle.amqp_peer.specs.Causes.{BeginsWithOpen, HasCause}
-use Rattle.amqp_peer.specs.Held.{IsBusy, IsActive, link_at, is_made, is_made_state, reason_of}
+use Rattle.amqp_peer.specs.Held.{IsLate, IsExchanged, IsBusy, IsActive, link_at, is_made, is_made_state, reason_of}
 use Rattle.amqp_peer.specs.History.{Local, Replied, made_in, link_in, given_in, sent_in, replied_in, moment_in, IsInside}
 use Rattle.amqp_peer.specs.Peering.{Peering, Has, HasIn, HasCalled, IsUnmade, IsUnmadeAt, IsMadeIn, IsFaultIn, IsWaiting, IsOpen, IsClosing, HasFailedOpen, HasClosed, link_of}
 use Rattle.amqp_peer.specs.Replies.{pending, connection as made_reply, answered, IsCloseEnd}
@@ -75,15 +76,16 @@ worked_frames r w = omega (arith, w, ap length (passed r).heard, ap length (pass
 
 -- ---- nothing is there
 
-pub pending_rests : {L : Type 0} (link : Ghosts L) (at : ℕ) (old : Peering L) (s s' : State L) → old.held ≡ Late s → EngineStepped link at s (Ok step.Pending) s' → Rested link at 1 old (record old { held = Late s' })
-pending_rests link at old s s' e st =
+pub pending_rests : {L : Type 0} (link : Ghosts L) (at : ℕ) (old : Peering L) (s s' : State L) → old.held ≡ Late s → IsPart s'.wire.codec.input → EngineStepped link at s (Ok step.Pending) s' → Rested link at 1 old (record old { held = Late s' })
+pending_rests link at old s s' e part st =
     let r = st.run in
     record {
       run = advanced link at 1 old (record old { held = Late s' }) (moved r) [] (moves link 1 old (record old { held = Late s' }) s s' r st.few e refl) (sym (append-nil old.replies)) refl
           (λ h t x. moves_in link at old.progress old s s' old.fault h r st.moment t e
           (λ call k prep u. unmade_same link call old.fault s s' h r k st.told.phase u)
           (λ call k prep o f. fault_same old.fault s s' h r st.told.phase f) x);
-      settled = λ a. inl (subst (λ (es : List LinkEvent). Includes es (NotRead Empty)) (sym (passed r).link) st.told.found);
+      settled = λ a. inl (subst (λ (es : List LinkEvent). Includes es (NotRead Empty)) (sym (passed r).link) st.told.found, part);
+      begun = λ x. x;
     }
 
 -- ---- it failed
@@ -286,6 +288,7 @@ stopped_quiet link at old s s' e st =
       run = advanced link at 1 old (record old { held = Late s' }) (moved st.run) [] (moves link 1 old (record old { held = Late s' }) s s' st.run st.few e refl) (sym (append-nil old.replies)) refl
           (λ h t x. stopped_has link at old.progress old s s' h st t e x);
       settled = λ a. absurd (not_active s' st.told.stopped a);
+      begun = λ x. x;
     }
 
 stopped_answered : {L : Type 0} (link : Ghosts L) (at : ℕ) (old : Peering L) (s s' : State L) (answer : Reply) → old.held ≡ Late s → (st : EngineStepped link at s (Ok step.Stopped) s')
@@ -296,6 +299,7 @@ stopped_answered link at old s s' answer e st g =
     record {
       run = advanced link at 1 old new (Replied (answered old.name answer) ∷ moved st.run) (answered old.name answer ∷ []) (moves_answer link 1 old new (moved st.run) (answered old.name answer) (moves link 1 old new s s' st.run st.few e refl)) refl refl g;
       settled = λ a. absurd (not_active s' st.told.stopped a);
+      begun = λ x. x;
     }
 
 stopped_in : {L : Type 0} (link : Ghosts L) (at : ℕ) (q : Progress) (old : Peering L) (s s' : State L) → old.progress ≡ q → old.held ≡ Late s → EngineStepped link at s (Ok step.Stopped) s' → Rested link at 1 old (concluded_in q (record old { held = Late s' }))
@@ -361,22 +365,28 @@ worked_then link at m n a b c x y =
       stays = λ z. x.stays (y.stays z);
     }
 
-pub settled_left : (es fs : List Local) → IsSettled es → IsSettled (es ++ fs)
-settled_left es fs (inl a) = inl (subst (λ (u : List LinkEvent). Includes u (NotRead Empty)) (sym (link_in-append es fs)) (includes_left (link_in es) (link_in fs) (NotRead Empty) a))
-settled_left es fs (inr (inl a)) = inr (inl (subst (λ (u : List LinkEvent). Includes u (NotWritten Full)) (sym (link_in-append es fs)) (includes_left (link_in es) (link_in fs) (NotWritten Full) a)))
-settled_left es fs (inr (inr (inl a))) =
+pub settled_left : {L : Type 0} (held : Held L) (es fs : List Local) → IsSettled held es → IsSettled held (es ++ fs)
+settled_left held es fs (inl a) = inl (subst (λ (u : List LinkEvent). Includes u (NotRead Empty)) (sym (link_in-append es fs)) (includes_left (link_in es) (link_in fs) (NotRead Empty) a.0), a.1)
+settled_left held es fs (inr (inl a)) = inr (inl (subst (λ (u : List LinkEvent). Includes u (NotWritten Full)) (sym (link_in-append es fs)) (includes_left (link_in es) (link_in fs) (NotWritten Full) a)))
+settled_left held es fs (inr (inr (inl a))) =
     let z = ap reads_in (link_in-append es fs) ∙ reads_in-append (link_in es) (link_in fs) in inr (inr (inl (omega (arith, z, a))))
-settled_left es fs (inr (inr (inr a))) =
+settled_left held es fs (inr (inr (inr a))) =
     let g = ap length (given_in-append es fs) ∙ length-append (given_in fs) (given_in es) in
     let s = ap length (sent_in-append es fs) ∙ length-append (sent_in fs) (sent_in es) in
     inr (inr (inr (omega (arith, g, s, a))))
 
 pub rested_then : {L : Type 0} (link : Ghosts L) (at m n : ℕ) (P : List Local → Type 0) (a b c : Peering L) → AdvancedFrom link at m P a b → Rested link at n b c → RestedFrom link at (m + n) P a c
-rested_then link at m n P a b c x y = record { run = advanced_then link at m n P a b c x y.run; settled = λ z. settled_left y.run.events x.events (y.settled z) }
+rested_then link at m n P a b c x y = record { run = advanced_then link at m n P a b c x y.run; settled = λ z. settled_left c.held y.run.events x.events (y.settled z); begun = y.begun }
 
 pub rested_more : {L : Type 0} (link : Ghosts L) (at m n : ℕ) (P : List Local → Type 0) (a b : Peering L) → m ≤ n → RestedFrom link at m P a b → RestedFrom link at n P a b
-rested_more link at m n P a b l x = record { run = advanced_more link at m n P a b l x.run; settled = x.settled }
+rested_more link at m n P a b l x = record { run = advanced_more link at m n P a b l x.run; settled = x.settled; begun = x.begun }
 
 -- all steps were made
-pub rested_spent : {L : Type 0} (link : Ghosts L) (at n : ℕ) (a b : Peering L) → 2 ^ 62 ≤ n → Worked link at n a b → Rested link at n a b
-rested_spent link at n a b l x = record { run = x.run; settled = λ z. let i = x.frames z in inr (inr (inr (omega (arith, l, i)))) }
+late_exchanged_not : {L : Type 0} (held : Held L) → IsLate held → IsExchanged held → ⊥
+late_exchanged_not (Early o p) l e = l
+late_exchanged_not (Late s) l e = e
+late_exchanged_not (Unopened c) l e = l
+late_exchanged_not Moving l e = l
+
+pub rested_spent : {L : Type 0} (link : Ghosts L) (at n : ℕ) (a b : Peering L) → 2 ^ 62 ≤ n → IsLate b.held → Worked link at n a b → Rested link at n a b
+rested_spent link at n a b l late x = record { run = x.run; settled = λ z. let i = x.frames z in inr (inr (inr (omega (arith, l, i)))); begun = late_exchanged_not b.held late }

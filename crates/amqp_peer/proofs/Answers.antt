@@ -31,7 +31,7 @@ stopped_reason : {L : Type 0} (s : State L) → is_stopped s.phase ≡ true → 
 stopped_reason s e = ap (λ (t : Bool). if t then Some s.reason else None) e
 
 -- without a fault it has heard all
-over_in : (q : Phase) (reason : ConnectionStopReason) (xs : List Frame) → is_stopped q ≡ true → has_failed q ≡ false → IsHeard q reason xs → IsOver reason xs
+pub over_in : (q : Phase) (reason : ConnectionStopReason) (xs : List Frame) → is_stopped q ≡ true → has_failed q ≡ false → IsHeard q reason xs → IsOver reason xs
 over_in p.OpenSent reason xs s f h = absurd (cc s)
 over_in p.Opened reason xs s f h = absurd (cc s)
 over_in p.CloseReceived reason xs s f h = absurd (cc s)
@@ -125,13 +125,13 @@ close_over h reason g c out (inr (inr o)) =
     (answered_cause h o.own o.last.error l (record { error = o.last.error; heard = l; said = c; out = out }))
 
 close_fault : {L : Type 0} (e : ConnectionFault) (s : State L) (h : List Local) → IsFaultIn (Some e) s h → HasCause h (close_reply (Some e))
-close_fault (connection.Memory a) s h u = absurd u.held
-close_fault (connection.TransportError t) s h u = record { later = u.later; earlier = u.earlier; split = u.split; held = u.held }
-close_fault connection.IllegalState s h u = record { later = u.later; earlier = u.earlier; split = u.split; held = u.held }
-close_fault connection.NotImplemented s h u = record { later = u.later; earlier = u.earlier; split = u.split; held = u.held }
-close_fault connection.NotFound s h u = record { later = u.later; earlier = u.earlier; split = u.split; held = u.held }
-close_fault connection.RemoteClosed s h u = absurd u.held
-close_fault (connection.RemoteClosedWithError x) s h u = absurd u.held
+close_fault (connection.Memory a) s h u = absurd u.0.held
+close_fault (connection.TransportError t) s h u = record { later = u.0.later; earlier = u.0.earlier; split = u.0.split; held = u.0.held }
+close_fault connection.IllegalState s h u = record { later = u.0.later; earlier = u.0.earlier; split = u.0.split; held = u.0.held }
+close_fault connection.NotImplemented s h u = record { later = u.0.later; earlier = u.0.earlier; split = u.0.split; held = u.0.held }
+close_fault connection.NotFound s h u = record { later = u.0.later; earlier = u.0.earlier; split = u.0.split; held = u.0.held }
+close_fault connection.RemoteClosed s h u = absurd u.0.held
+close_fault (connection.RemoteClosedWithError x) s h u = absurd u.0.held
 
 -- why a close is answered so whose connection has stopped
 pub close_cause : {L : Type 0} (call : Call) (fault : Option ConnectionFault) (s : State L) (h : List Local) → IsRunning call s h → is_stopped s.phase ≡ true → (has_failed s.phase ≡ true) ⊎ (Includes (link_in h) (NotWritten Full) ⊎ (s.wire.codec.output ≡ []))

@@ -1,5 +1,5 @@
 -- Why the transport of a connection failed, in words of its history.
-use Rattle.std.proofs.Common.{◌≡◌, inl, inr, ℕ, List, [], ◌++◌, Some, None, refl, sym, ap, ◌∙◌, subst, append_assoc, arith}
+use Rattle.std.proofs.Common.{◌≡◌, inl, inr, ℕ, List, [], ◌++◌, refl, sym, ap, ◌∙◌, subst, append_assoc, arith}
 use Rattle.amqp_wire.specs.declared.link.Link.{Ghosts}
 use Rattle.amqp_wire.specs.declared.link.Held.TheVariants.{Failed as FailedWrite}
 use Rattle.amqp_wire.specs.declared.link.Stop.TheVariants.{End as EndStop, Failed}
@@ -10,13 +10,12 @@ use Rattle.amqp_transport.specs.declared.frames.Frame.{Frame}
 use Rattle.amqp_transport.specs.declared.transport.Error.{Error as TransportFault}
 use Rattle.amqp_transport.specs.declared.transport.Error.TheVariants as fault
 use Rattle.amqp_transport.specs.Clocks.{HasElapsed}
-use Rattle.amqp_engine.specs.declared.phase.Phase.{Phase}
-use Rattle.amqp_engine.specs.declared.phase.Phase.TheVariants as p
-use Rattle.amqp_engine.specs.Faults.{IsFault, IsOwed}
+use Rattle.amqp_engine.proofs.Owed.{owes_little}
+use Rattle.amqp_engine.specs.Faults.{IsFault}
 use Rattle.amqp_engine.specs.Sentence.{Ran}
-use Rattle.amqp_engine.specs.State.{State, error_for}
+use Rattle.amqp_engine.specs.State.{State}
 use Rattle.amqp_words.specs.declared.call.Call.{Call}
-use Rattle.amqp_peer.specs.Causes.{prepared_in, idle_with, HasIdled, IsOwn, closing, beating, TransportCause}
+use Rattle.amqp_peer.specs.Causes.{prepared_in, idle_with, HasIdled, TransportCause}
 use Rattle.amqp_peer.specs.History.{Local, made_in, link_in, moment_in, at_link, got, put, Once}
 use Rattle.amqp_peer.specs.Peering.{IsRunning}
 use Rattle.amqp_peer.specs.Prepared.{prepared_of}
@@ -27,22 +26,10 @@ failed_more : (es fs : List LinkEvent) → HasFailed es → HasFailed (es ++ fs)
 failed_more es fs (inl a) = inl (includes_left es fs (NotRead Failed) a)
 failed_more es fs (inr a) = inr (includes_left es fs (NotWritten FailedWrite) a)
 
--- the frame that a phase owes is an own one
-owed_own : (q : Phase) (x : Frame) (calls : List (ℕ × Call)) → IsOwed q x → IsOwn calls x
-owed_own p.OpenSent x calls o = absurd o
-owed_own p.Opened x calls o = subst (λ (y : Frame). IsOwn calls y) (sym o) beating
-owed_own p.CloseReceived x calls o = subst (λ (y : Frame). IsOwn calls y) (sym o) (closing None)
-owed_own p.Refused x calls o = subst (λ (y : Frame). IsOwn calls y) (sym o) (closing None)
-owed_own (p.Rejected why) x calls o = subst (λ (y : Frame). IsOwn calls y) (sym o) (closing (Some (error_for why)))
-owed_own p.CloseSent x calls o = absurd o
-owed_own p.Discarding x calls o = absurd o
-owed_own p.Ended x calls o = absurd o
-owed_own p.Failed x calls o = absurd o
-
 idled : {L : Type 0} (at : ℕ) (call : Call) (s : State L) (h : List Local) → IsRunning call s h → prepared_in (made_in h) ≡ prepared_of call → moment_in h ≡ at → HasElapsed s.wire.clock at → HasIdled h
 idled at call s h k prep m e =
     let i : idle_with (prepared_in (made_in h)) ≡ s.wire.clock.idle = ap idle_with (prep ∙ k.prepared) ∙ sym k.idle in
-    record { runs = omega (arith, i, e.runs); passed = omega (arith, i, e.passed, k.start, m) }
+    record { began = k.began; opens = k.opens; runs = omega (arith, i, e.runs); passed = omega (arith, i, e.passed, k.start, m) }
 
 -- where the frames are left out that the step read or queued
 before_frames : (events : List LinkEvent) (given queued : List Frame) (h : List Local) → (put queued ++ (got given ++ at_link events)) ++ h ≡ (put queued ++ got given) ++ (at_link events ++ h)
@@ -78,10 +65,4 @@ transport_once link at call s s' h r P fault.FramingError f k prep m (inl c) =
       split = before_frames r.events r.given r.queued h;
       held = f (at_link r.events ++ h) (inl (record { limit = s.wire.codec.decoder; rest = s.wire.codec.input ++ read_of r.events; least = k.runs.limited.reads; read = read_running call s h r.events k; refused = c }));
     }
-transport_once link at call s s' h r P fault.FramingError f k prep m (inr c) =
-    record {
-      later = moved r;
-      earlier = h;
-      split = refl;
-      held = f h (inr (record { limit = s.wire.codec.encoder; x = c.0; least = k.runs.limited.least; own = owed_own s.phase c.0 (made_in h) c.1; large = c.2 }));
-    }
+transport_once link at call s s' h r P fault.FramingError f k prep m (inr c) = absurd (owes_little s k.runs.limited c)

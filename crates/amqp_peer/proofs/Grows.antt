@@ -17,10 +17,10 @@ use Rattle.amqp_peer.specs.declared.held.Held.{Held}
 use Rattle.amqp_peer.specs.declared.held.Held.TheVariants.{Late}
 use Rattle.amqp_peer.specs.declared.peer.Progress.{Progress}
 use Rattle.amqp_peer.specs.declared.peer.Progress.TheVariants as progress
-use Rattle.amqp_peer.specs.Causes.{BeginsWithOpen, IsOther, prepared_in}
+use Rattle.amqp_peer.specs.Causes.{BeginsWithOpen, IsOther, TransportCause, IsBroken, prepared_in}
 use Rattle.amqp_peer.specs.Held.{is_made_state}
 use Rattle.amqp_peer.specs.History.{Local, made_in, given_in, moment_in, Once}
-use Rattle.amqp_peer.specs.Peering.{Peering, IsHeld, IsRunning, HasCalled, IsFaultless, IsUnheard, IsUnmadeAt, IsUnmade, IsFaultIn, IsMadeIn, EarlyFault, LateFault, IsWaiting, IsOpen, IsClosing, HasFailedOpen, HasClosed, HasIn}
+use Rattle.amqp_peer.specs.Peering.{Peering, IsHeld, IsRunning, HasCalled, IsFaultless, IsUnheard, IsBrokenIn, IsUnmadeAt, IsUnmade, IsFaultIn, IsMadeIn, EarlyFault, LateFault, IsWaiting, IsOpen, IsClosing, HasFailedOpen, HasClosed, HasIn}
 use Rattle.amqp_peer.specs.Prepared.{prepared_of}
 use Rattle.amqp_peer.specs.Runs.{first_fault}
 use Rattle.amqp_peer.proofs.Faulty.{transport_once}
@@ -148,16 +148,26 @@ still_kept link call s s' h r k f e u o = elim (still_in link call s s' h r k f 
 
 -- ---- an open or accept that waits, and a connection that is made
 
+-- where the transport had failed before
+broken_more : (es h : List Local) → IsBroken h → IsBroken (es ++ h)
+broken_more es h b = record { fault = b.fault; cause = once_more (TransportCause b.fault) es h b.cause }
+
+broken_same : {L : Type 0} {link : Ghosts L} (s s' : State L) (h : List Local) (r : Ran link s s') → s'.phase ≡ s.phase → IsBrokenIn s h → IsBrokenIn s' (moved r ++ h)
+broken_same s s' h r e b z = broken_more (moved r) h (b (sym (ap has_failed e) ∙ z))
+
+pub broken_sound : {L : Type 0} (s : State L) (h : List Local) → has_failed s.phase ≡ false → IsBrokenIn s h
+broken_sound s h e z = absurd (cc (e, z))
+
 -- where the phase stays
 pub unmade_same : {L : Type 0} (link : Ghosts L) (call : Call) (fault : Option ConnectionFault) (s s' : State L) (h : List Local) (r : Ran link s s') → IsRunning call s h → s'.phase ≡ s.phase → IsUnmadeAt fault s h → IsUnmadeAt fault s' (moved r ++ h)
 unmade_same link call None s s' h r k e u =
     record { unheard = still_unheard link call s s' h r k u.sound e u.unheard; kept = still_kept link call s s' h r k u.sound e u.kept; sound = ap has_failed e ∙ u.sound }
 unmade_same link call (Some f) s s' h r k e u =
-    (once_more (EarlyFault f) (moved r) h u.0, λ z. let y = sym (ap has_failed e) ∙ z in still_unheard link call s s' h r k y e (u.1 y))
+    (once_more (EarlyFault f) (moved r) h u.0, (λ z. let y = sym (ap has_failed e) ∙ z in still_unheard link call s s' h r k y e (u.1.0 y), broken_same s s' h r e u.1.1))
 
 pub fault_same : {L : Type 0} {link : Ghosts L} (fault : Option ConnectionFault) (s s' : State L) (h : List Local) (r : Ran link s s') → s'.phase ≡ s.phase → IsFaultIn fault s h → IsFaultIn fault s' (moved r ++ h)
 fault_same None s s' h r e f = ap has_failed e ∙ f
-fault_same (Some x) s s' h r e f = once_more (LateFault x) (moved r) h f
+fault_same (Some x) s s' h r e f = (once_more (LateFault x) (moved r) h f.0, broken_same s s' h r e f.1)
 
 -- where a step worked
 pub unmade_worked : {L : Type 0} (link : Ghosts L) (at : ℕ) (call : Call) (fault : Option ConnectionFault) (s s' : State L) (h : List Local) (r : Ran link s s') → IsMoment at s r.given s' → IsRunning call s h → IsOnward s.phase s'.phase → is_made_state (state_of s'.phase) ≡ false → IsUnmadeAt fault s h → IsUnmadeAt fault s' (moved r ++ h)
@@ -165,11 +175,11 @@ unmade_worked link at call None s s' h r m k o n u =
     let b = behind_in link at call s.phase s s' h r m k refl o n in
     record { unheard = behind_unheard h r b u.unheard; kept = behind_kept h r b u.kept; sound = onward_sound s.phase s'.phase o }
 unmade_worked link at call (Some f) s s' h r m k o n u =
-    (once_more (EarlyFault f) (moved r) h u.0, λ z. behind_unheard h r (behind_in link at call s.phase s s' h r m k refl o n) (u.1 (onward_from s.phase s'.phase o)))
+    (once_more (EarlyFault f) (moved r) h u.0, (λ z. behind_unheard h r (behind_in link at call s.phase s s' h r m k refl o n) (u.1.0 (onward_from s.phase s'.phase o)), broken_sound s' (moved r ++ h) (onward_sound s.phase s'.phase o)))
 
 pub fault_worked : {L : Type 0} {link : Ghosts L} (fault : Option ConnectionFault) (s s' : State L) (h : List Local) (r : Ran link s s') → IsOnward s.phase s'.phase → IsFaultIn fault s h → IsFaultIn fault s' (moved r ++ h)
 fault_worked None s s' h r o f = onward_sound s.phase s'.phase o
-fault_worked (Some x) s s' h r o f = once_more (LateFault x) (moved r) h f
+fault_worked (Some x) s s' h r o f = (once_more (LateFault x) (moved r) h f.0, broken_sound s' (moved r ++ h) (onward_sound s.phase s'.phase o))
 
 -- where the connection is made by it: a fault from before is one of a made connection
 late_of_early : (e : ConnectionFault) (h : List Local) → BeginsWithOpen (given_in h) → Once (EarlyFault e) h → Once (LateFault e) h
@@ -186,12 +196,12 @@ pub made_worked : {L : Type 0} (link : Ghosts L) (call : Call) (fault : Option C
 made_worked link call None s s' h r k o e u = (made_begins s'.phase s'.reason (given_in (moved r ++ h)) e (heard_after link call s s' h r k), onward_sound s.phase s'.phase o)
 made_worked link call (Some f) s s' h r k o e u =
     let b = made_begins s'.phase s'.reason (given_in (moved r ++ h)) e (heard_after link call s s' h r k) in
-    (b, late_of_early f (moved r ++ h) b (once_more (EarlyFault f) (moved r) h u.0))
+    (b, (late_of_early f (moved r ++ h) b (once_more (EarlyFault f) (moved r) h u.0), broken_sound s' (moved r ++ h) (onward_sound s.phase s'.phase o)))
 
 -- the frame that made it came in this step
 unheard_of : {L : Type 0} (fault : Option ConnectionFault) (s : State L) (h : List Local) → IsUnmadeAt fault s h → has_failed s.phase ≡ false → BeginsWithOpen (given_in h) → ⊥
 unheard_of None s h u e = u.unheard
-unheard_of (Some f) s h u e = u.1 e
+unheard_of (Some f) s h u e = u.1.0 e
 
 came_now : (xs ys : List Frame) → (BeginsWithOpen xs → ⊥) → BeginsWithOpen (xs ++ ys) → 1 ≤ length ys
 came_now xs [] u o = absurd (u (subst BeginsWithOpen (append-nil xs) o))
@@ -252,10 +262,31 @@ refused_unheard link at call connection.NotFound s s' h st a k f z o = refusal_u
 refused_unheard link at call connection.RemoteClosed s s' h st a k f z o = absurd st.told
 refused_unheard link at call (connection.RemoteClosedWithError x) s s' h st a k f z o = absurd st.told
 
+-- where the transport fails in a step
+refusal_sound : (e : ConnectionFault) (q r : Phase) → IsRefusal q e r → has_failed r ≡ false
+refusal_sound e p.OpenSent r c = ap has_failed c.1
+refusal_sound e p.Opened r c = ap has_failed c.2
+refusal_sound e p.CloseReceived r c = absurd c
+refusal_sound e p.Refused r c = absurd c
+refusal_sound e (p.Rejected why) r c = absurd c
+refusal_sound e p.CloseSent r c = absurd c
+refusal_sound e p.Discarding r c = absurd c
+refusal_sound e p.Ended r c = absurd c
+refusal_sound e p.Failed r c = absurd c
+
+breaks : {L : Type 0} (link : Ghosts L) (at : ℕ) (call : Call) (e : ConnectionFault) (s s' : State L) (h : List Local) (st : Stepped link at s (Err e) s') → IsRunning call s h → prepared_in (made_in h) ≡ prepared_of call → moment_in h ≡ at → (a : (x : _) → e ≡ connection.Memory x → ⊥) → IsBrokenIn s' (moved st.run ++ h)
+breaks link at call (connection.Memory x) s s' h st k prep m a = absurd (a x refl)
+breaks link at call (connection.TransportError t) s s' h st k prep m a = λ z. record { fault = t; cause = transport_once link at call s s' h st.run (TransportCause t) t (λ g c. c) k prep m (st.told.1 k.calm) }
+breaks link at call connection.IllegalState s s' h st k prep m a = broken_sound s' (moved st.run ++ h) (refusal_sound connection.IllegalState s.phase s'.phase st.told.1)
+breaks link at call connection.NotImplemented s s' h st k prep m a = broken_sound s' (moved st.run ++ h) (refusal_sound connection.NotImplemented s.phase s'.phase st.told.1)
+breaks link at call connection.NotFound s s' h st k prep m a = broken_sound s' (moved st.run ++ h) (refusal_sound connection.NotFound s.phase s'.phase st.told.1)
+breaks link at call connection.RemoteClosed s s' h st k prep m a = absurd st.told
+breaks link at call (connection.RemoteClosedWithError x) s s' h st k prep m a = absurd st.told
+
 pub unmade_failed : {L : Type 0} (link : Ghosts L) (at : ℕ) (call : Call) (fault : Option ConnectionFault) (e : ConnectionFault) (s s' : State L) (h : List Local) (st : Stepped link at s (Err e) s') → IsRunning call s h → prepared_in (made_in h) ≡ prepared_of call → moment_in h ≡ at → (a : (x : _) → e ≡ connection.Memory x → ⊥)
     → IsUnmadeAt fault s h → IsUnmadeAt (first_fault fault e) s' (moved st.run ++ h)
-unmade_failed link at call None e s s' h st k prep m a u = (early_cause link at call e s s' h st k u prep m a, refused_unheard link at call e s s' h st a k (λ z. u.unheard))
-unmade_failed link at call (Some f) e s s' h st k prep m a u = (once_more (EarlyFault f) (moved st.run) h u.0, refused_unheard link at call e s s' h st a k u.1)
+unmade_failed link at call None e s s' h st k prep m a u = (early_cause link at call e s s' h st k u prep m a, (refused_unheard link at call e s s' h st a k (λ z. u.unheard), breaks link at call e s s' h st k prep m a))
+unmade_failed link at call (Some f) e s s' h st k prep m a u = (once_more (EarlyFault f) (moved st.run) h u.0, (refused_unheard link at call e s s' h st a k u.1.0, breaks link at call e s s' h st k prep m a))
 
 late_cause : {L : Type 0} (link : Ghosts L) (at : ℕ) (call : Call) (e : ConnectionFault) (s s' : State L) (h : List Local) (st : Stepped link at s (Err e) s') → IsRunning call s h → BeginsWithOpen (given_in h) → prepared_in (made_in h) ≡ prepared_of call → moment_in h ≡ at → (a : (x : _) → e ≡ connection.Memory x → ⊥) → Once (LateFault e) (moved st.run ++ h)
 late_cause link at call (connection.Memory x) s s' h st k o prep m a = absurd (a x refl)
@@ -268,8 +299,8 @@ late_cause link at call (connection.RemoteClosedWithError x) s s' h st k o prep 
 
 pub fault_failed : {L : Type 0} (link : Ghosts L) (at : ℕ) (call : Call) (fault : Option ConnectionFault) (e : ConnectionFault) (s s' : State L) (h : List Local) (st : Stepped link at s (Err e) s') → IsRunning call s h → BeginsWithOpen (given_in h) → prepared_in (made_in h) ≡ prepared_of call → moment_in h ≡ at → (a : (x : _) → e ≡ connection.Memory x → ⊥)
     → IsFaultIn fault s h → IsFaultIn (first_fault fault e) s' (moved st.run ++ h)
-fault_failed link at call None e s s' h st k o prep m a u = late_cause link at call e s s' h st k o prep m a
-fault_failed link at call (Some f) e s s' h st k o prep m a u = once_more (LateFault f) (moved st.run) h u
+fault_failed link at call None e s s' h st k o prep m a u = (late_cause link at call e s s' h st k o prep m a, breaks link at call e s s' h st k prep m a)
+fault_failed link at call (Some f) e s s' h st k o prep m a u = (once_more (LateFault f) (moved st.run) h u.0, breaks link at call e s s' h st k prep m a)
 
 -- ---- an end whose connection went on
 

@@ -1,7 +1,12 @@
 -- Laws of one end: what it says of its history, whatever the other end does.
-use Rattle.std.proofs.Common.{◌≡◌, ◌↔◌, inl, inr, ℕ, List, [], ◌∷◌, ◌++◌, Option, Some, None, refl, sym, ap, subst}
+use Rattle.std.proofs.Common.{◌≡◌, ◌↔◌, ◌⊎◌, inl, inr, ℕ, List, [], ◌∷◌, ◌++◌, Bool, true, false, Option, Some, None, refl, sym, ap, subst}
+use Rattle.std.proofs.lemmas.List.{append-nil}
 use Rattle.amqp_wire.specs.Events.{wrote_of}
 use Rattle.amqp_engine.specs.declared.error.Error.{Error as ConnectionFault}
+use Rattle.amqp_frames.specs.declared.shared.ConnectionStopReason.{ConnectionStopReason}
+use Rattle.amqp_transport.specs.Stream.{IsPart}
+use Rattle.amqp_engine.specs.Heard.{IsOver}
+use Rattle.amqp_engine.specs.Phases.{is_stopped, has_failed}
 use Rattle.amqp_engine.specs.Sentence.{Has as EngineHas}
 use Rattle.amqp_engine.specs.State.{State}
 use Rattle.amqp_opening.specs.declared.authentication.Authentication.{Authentication}
@@ -9,11 +14,12 @@ use Rattle.amqp_opening.specs.declared.authentication.SaslCall.{SaslCall}
 use Rattle.amqp_opening.specs.declared.opening.Stage.{Stage}
 use Rattle.amqp_opening.specs.declared.opening.Stage.TheVariants as stage
 use Rattle.amqp_opening.specs.Authentication.{peer_mechanism}
-use Rattle.amqp_opening.specs.Opening.{Opened}
+use Rattle.amqp_opening.specs.Opening.{Opened, IsUnderWay}
 use Rattle.amqp_opening.proofs.Exchanges.{gated_later}
 use Rattle.amqp_opening.proofs.Openings.{has_with_link as opening_with_link}
 use Rattle.amqp_words.specs.declared.call.Call.{Call}
 use Rattle.amqp_words.specs.declared.call.Call.TheVariants.{Close}
+use Rattle.amqp_words.specs.declared.reply.Reply.{Reply}
 use Rattle.amqp_words.specs.declared.reply.Reply.TheVariants as reply
 use Rattle.amqp_words.specs.declared.reply.NamedReply.{NamedReply}
 use Rattle.amqp_peer.specs.declared.held.Held.{Held}
@@ -23,15 +29,18 @@ use Rattle.amqp_peer.specs.declared.peer.Progress.{Progress}
 use Rattle.amqp_peer.specs.declared.peer.Progress.TheVariants as progress
 use Rattle.amqp_peer.specs.declared.prepared.Prepared.{Prepared}
 use Rattle.amqp_peer.specs.Calls.{IsFirstCall, IsClose, IsValidCall}
-use Rattle.amqp_peer.specs.Causes.{AllCaused}
+use Rattle.amqp_peer.specs.Causes.{AllCaused, IsTakenUp, IsTied, IsLast, IsSpent, uncalled, answered, left, mistaken, broken}
 use Rattle.amqp_peer.specs.Gated.{IsTalk, IsGatedIn, IsGated}
-use Rattle.amqp_peer.specs.Held.{IsBusyWith, IsBusy, link_at, with_link}
+use Rattle.amqp_peer.specs.Held.{IsMidway, IsReadyWith, IsExchangedWith, IsExchanged, IsBusyWith, IsBusy, IsActive, IsSorted, link_at, with_link}
 use Rattle.amqp_peer.specs.History.{Local, made_in, link_in, given_in, sent_in, replied_in, read_in, wrote_in}
-use Rattle.amqp_peer.specs.Peering.{Peering, fresh, link_of, with_link_of, Has, HasIn, HasCalled, IsHeld, IsHeldAt, IsExchanging, IsRunning, IsUnmadeAt, IsUnmade, IsFaultIn, IsMadeIn, HasWritten, MayCall, MayCallIn}
+use Rattle.amqp_peer.specs.Peering.{Peering, fresh, link_of, with_link_of, Has, HasIn, HasCalled, IsHeld, IsHeldAt, IsKnown, IsExchanging, IsRunning, IsBrokenIn, IsUnmadeAt, IsUnmade, IsFaultIn, IsMadeIn, HasWritten, MayCall, MayCallIn}
 use Rattle.amqp_peer.specs.Prepared.{sasl_of}
-use Rattle.amqp_peer.specs.Replies.{pending, AreReplies, IsConnected}
+use Rattle.amqp_peer.specs.Replies.{pending, connection as made_reply, open_failed, answered as answered_by, IsCloseEnd, AreReplies, IsConnected}
 use Rattle.amqp_peer.proofs.Histories.{made_in-append as made_append, link_in-append as link_append, replied_in-append as replied_append}
-use Rattle.amqp_peer.proofs.Written.{written_exchanging, written_running}
+use Rattle.amqp_peer.proofs.Answers.{over_in}
+use Rattle.amqp_peer.proofs.Grows.{broken_sound}
+use Rattle.amqp_peer.proofs.Hears.{mistaken_other}
+use Rattle.amqp_peer.proofs.Written.{written_exchanging, written_running, queued_running, read_running}
 
 -- histories, one after another
 pub made_in-append : (es h : List Local) → made_in (es ++ h) ≡ made_in es ++ made_in h
@@ -80,7 +89,7 @@ pub link_of-with_link : {L : Type 0} (d : L) (p : Peering L) (w : L) → link_of
 link_of-with_link d p w = link_at-with d p.held w
 
 exchanging_with : {L : Type 0} (call : Call) (o : Opened L Authentication) (p : Option Prepared) (w : L) (h : List Local) → IsExchanging call o p h → IsExchanging call (record o { negotiation = record o.negotiation { codec = record o.negotiation.codec { link = w } } }) p h
-exchanging_with call o p w h k = record { made = k.made; prepared = k.prepared; opening = opening_with_link peer_mechanism o w (link_in h) k.opening; given = k.given; sent = k.sent }
+exchanging_with call o p w h k = record { made = k.made; prepared = k.prepared; known = k.known; opening = opening_with_link peer_mechanism o w (link_in h) k.opening; given = k.given; sent = k.sent }
 
 early_with : {L : Type 0} (s : Stage) (call : Call) (o : Opened L Authentication) (p : Option Prepared) (w : L) (h : List Local) → IsHeldAt s call o p h → IsHeldAt s call (record o { negotiation = record o.negotiation { codec = record o.negotiation.codec { link = w } } }) p h
 early_with stage.Idle call o p w h k = absurd k
@@ -108,6 +117,7 @@ running_with call s w h k =
       unwritten = k.unwritten;
       intro = k.intro;
       runs = engine_with k.unwritten k.arrived s w (record { events = k.since; given = given_in h; sent = sent_in h }) k.runs;
+      began = k.began;
       opens = k.opens;
       idle = k.idle;
       start = k.start;
@@ -183,6 +193,24 @@ has_with_link p w h x = with_in p.progress p w h x
 pub may_with_link : {L : Type 0} (p : Peering L) (w : L) (name : ℕ) (call : Call) → MayCall p name call → MayCall (with_link_of p w) name call
 may_with_link p w name call m = m
 
+-- ---- nor does the link tell whether the headers are exchanged
+
+exchanged_early : {L : Type 0} (o : Opened L Authentication) (p : Option Prepared) (w : L) → IsExchangedWith (record o { negotiation = record o.negotiation { codec = record o.negotiation.codec { link = w } } }) p → IsExchangedWith o p
+exchanged_early o None w e = e
+exchanged_early o (Some p) w e = e
+
+exchanged_with : {L : Type 0} (held : Held L) (w : L) → IsExchanged (with_link held w) → IsExchanged held
+exchanged_with (Early o p) w e = exchanged_early o p w e
+exchanged_with (Late s) w e = e
+exchanged_with (Unopened c) w e = e
+exchanged_with Moving w e = e
+
+pub exchanged_with_link : {L : Type 0} (p : Peering L) (w : L) → (IsExchanged p.held → ⊥) → IsExchanged (with_link_of p w).held → ⊥
+exchanged_with_link p w n e = n (exchanged_with p.held w e)
+
+pub fresh_not_exchanged : {L : Type 0} (link : L) (kind : PeerKind) → IsExchanged (fresh link kind).held → ⊥
+fresh_not_exchanged link kind e = e
+
 -- ---- a call may be made exactly where it is valid
 
 not_connected : (n : ℕ) → IsConnected (pending n ∷ []) → ⊥
@@ -239,12 +267,12 @@ written_early stage.Idle call o p h k = absurd k
 written_early stage.Negotiating call o p h k = written_exchanging call o p h k
 written_early stage.Header call o p h k = written_exchanging call o p h k
 written_early stage.Exchanged call o p h k = written_exchanging call o p h k
-written_early stage.Ended call o p h k = k
+written_early stage.Ended call o p h k = k.written
 
 written_held : {L : Type 0} (call : Call) (held : Held L) (h : List Local) → IsHeld call held h → HasWritten call h
 written_held call (Early o p) h k = written_early o.stage call o p h k
 written_held call (Late s) h k = written_running call s h k
-written_held call (Unopened c) h k = k
+written_held call (Unopened c) h k = k.written
 written_held call Moving h k = absurd k
 
 gated_one : (n : ℕ) (call : Call) (h : List Local) → made_in h ≡ (n, call) ∷ [] → HasWritten call h → IsGated (made_in h) (wrote_in h) (read_in h)
@@ -286,3 +314,134 @@ caused_in progress.Over p h (inr x) = x.called.caused
 
 pub causes_law : {L : Type 0} (p : Peering L) (h : List Local) → Has p h → AllCaused h
 causes_law p h x = caused_in p.progress p h x
+
+-- ---- the frames are those of the bytes
+
+tied_none : (h : List Local) → given_in h ≡ [] → sent_in h ≡ [] → IsTied h
+tied_none h g s = record { heard = inl g; said = inl s }
+
+tied_running : {L : Type 0} (call : Call) (s : State L) (h : List Local) → IsRunning call s h → IsTied h
+tied_running call s h k = record { heard = inr (s.wire.codec.input ++ [], read_running call s h [] k); said = inr (queued_running call s h k) }
+
+sent_early : {L : Type 0} (s : Stage) (call : Call) (o : Opened L Authentication) (p : Option Prepared) (h : List Local) → IsHeldAt s call o p h → sent_in h ≡ []
+sent_early stage.Idle call o p h k = absurd k
+sent_early stage.Negotiating call o p h k = k.sent
+sent_early stage.Header call o p h k = k.sent
+sent_early stage.Exchanged call o p h k = k.sent
+sent_early stage.Ended call o p h k = k.sent
+
+tied_early : {L : Type 0} (s : Stage) (call : Call) (o : Opened L Authentication) (p : Option Prepared) (h : List Local) → IsHeldAt s call o p h → IsTied h
+tied_early stage.Idle call o p h k = absurd k
+tied_early stage.Negotiating call o p h k = tied_none h k.given k.sent
+tied_early stage.Header call o p h k = tied_none h k.given k.sent
+tied_early stage.Exchanged call o p h k = tied_none h k.given k.sent
+tied_early stage.Ended call o p h k = tied_none h k.given k.sent
+
+tied_held : {L : Type 0} (call : Call) (held : Held L) (h : List Local) → IsHeld call held h → IsTied h
+tied_held call (Early o p) h k = tied_early o.stage call o p h k
+tied_held call (Late s) h k = tied_running call s h k
+tied_held call (Unopened c) h k = tied_none h k.given k.sent
+tied_held call Moving h k = absurd k
+
+tied_in : {L : Type 0} (q : Progress) (p : Peering L) (h : List Local) → HasIn q p h → IsTied h
+tied_in progress.Idle p h x = tied_none h x.given x.sent
+tied_in progress.Opening p h x = tied_held x.call p.held h x.called.holds
+tied_in progress.Open p h x = tied_held x.call p.held h x.called.holds
+tied_in progress.Closing p h x = tied_held x.call p.held h x.called.holds
+tied_in progress.Over p h (inl x) = tied_held x.call p.held h x.called.holds
+tied_in progress.Over p h (inr x) = tied_held x.call p.held h x.called.holds
+
+pub tied_law : {L : Type 0} (p : Peering L) (h : List Local) → Has p h → IsTied h
+tied_law p h x = tied_in p.progress p h x
+
+-- and each whole frame was taken, where it has sorted all that it read
+taken_up_held : {L : Type 0} (call : Call) (held : Held L) (h : List Local) → IsHeld call held h → IsActive held → IsSorted held → IsTakenUp h
+taken_up_held call (Early o p) h k a s = inl (sent_early o.stage call o p h k)
+taken_up_held call (Late s) h k a part = inr (s.wire.codec.input ++ [], read_running call s h [] k, subst IsPart (sym (append-nil s.wire.codec.input)) part)
+taken_up_held call (Unopened c) h k a s = inl k.sent
+taken_up_held call Moving h k a s = absurd k
+
+taken_up_in : {L : Type 0} (q : Progress) (p : Peering L) (h : List Local) → HasIn q p h → IsActive p.held → IsSorted p.held → IsTakenUp h
+taken_up_in progress.Idle p h x a s = inl x.sent
+taken_up_in progress.Opening p h x a s = taken_up_held x.call p.held h x.called.holds a s
+taken_up_in progress.Open p h x a s = taken_up_held x.call p.held h x.called.holds a s
+taken_up_in progress.Closing p h x a s = taken_up_held x.call p.held h x.called.holds a s
+taken_up_in progress.Over p h (inl x) a s = taken_up_held x.call p.held h x.called.holds a s
+taken_up_in progress.Over p h (inr x) a s = taken_up_held x.call p.held h x.called.holds a s
+
+pub taken_up_law : {L : Type 0} (p : Peering L) (h : List Local) → Has p h → IsActive p.held → IsSorted p.held → IsTakenUp h
+taken_up_law p h x a s = taken_up_in p.progress p h x a s
+
+-- ---- an end goes on, or says why it does not
+
+spent_over : (reason : ConnectionStopReason) (h : List Local) → IsOver reason (given_in h) → IsSpent h
+spent_over reason h (inl o) = left (record { front = o.front; channel = o.channel; last = o.last; is = o.is })
+spent_over reason h (inr (inl o)) = mistaken (mistaken_other reason (given_in h) o)
+spent_over reason h (inr (inr o)) = left (record { front = o.front; channel = o.channel; last = o.last; is = o.is })
+
+running_spent_at : {L : Type 0} (stopped failed : Bool) (call : Call) (s : State L) (h : List Local) → is_stopped s.phase ≡ stopped → has_failed s.phase ≡ failed → IsRunning call s h → IsBrokenIn s h → (is_stopped s.phase ≡ false) ⊎ IsSpent h
+running_spent_at false failed call s h e f k b = inl e
+running_spent_at true false call s h e f k b = inr (spent_over s.reason h (over_in s.phase s.reason (given_in h) e f k.runs.heard))
+running_spent_at true true call s h e f k b = inr (broken (b f))
+
+running_spent : {L : Type 0} (call : Call) (s : State L) (h : List Local) → IsRunning call s h → IsBrokenIn s h → (is_stopped s.phase ≡ false) ⊎ IsSpent h
+running_spent call s h k b = running_spent_at (is_stopped s.phase) (has_failed s.phase) call s h refl refl k b
+
+broken_unmade : {L : Type 0} (fault : Option ConnectionFault) (s : State L) (h : List Local) → IsUnmadeAt fault s h → IsBrokenIn s h
+broken_unmade None s h u = broken_sound s h u.sound
+broken_unmade (Some e) s h u = u.1.1
+
+broken_made : {L : Type 0} (fault : Option ConnectionFault) (s : State L) (h : List Local) → IsFaultIn fault s h → IsBrokenIn s h
+broken_made None s h f = broken_sound s h f
+broken_made (Some e) s h f = f.1
+
+known_at : {L : Type 0} (s : Stage) (call : Call) (o : Opened L Authentication) (p : Option Prepared) (h : List Local) → IsMidway s → IsHeldAt s call o p h → IsKnown p
+known_at stage.Idle call o p h m k = absurd m
+known_at stage.Negotiating call o p h m k = k.known
+known_at stage.Header call o p h m k = k.known
+known_at stage.Exchanged call o p h m k = k.known
+known_at stage.Ended call o p h m k = absurd m
+
+way_at : {L : Type 0} (s : Stage) (o : Opened L Authentication) → o.stage ≡ s → IsMidway s → (o.stage ≡ stage.Exchanged → ⊥) → IsUnderWay o.stage
+way_at stage.Idle o e m n = absurd m
+way_at stage.Negotiating o e m n = subst IsUnderWay (sym e) tt
+way_at stage.Header o e m n = subst IsUnderWay (sym e) tt
+way_at stage.Exchanged o e m n = absurd (n e)
+way_at stage.Ended o e m n = absurd m
+
+ready_at : {L : Type 0} (o : Opened L Authentication) (p : Option Prepared) → IsMidway o.stage → IsKnown p → (IsExchangedWith o p → ⊥) → IsReadyWith o p
+ready_at o None m k n = k
+ready_at o (Some p) m k n = way_at o.stage o refl m n
+
+waiting_spent : {L : Type 0} (call : Call) (fault : Option ConnectionFault) (held : Held L) (h : List Local) → IsHeld call held h → IsUnmade fault held h → (IsExchanged held → ⊥) → IsActive held ⊎ IsSpent h
+waiting_spent call fault (Early o p) h k u n = inl (ready_at o p u.1 (known_at o.stage call o p h u.1 k) n)
+waiting_spent call fault (Late s) h k u n = running_spent call s h k (broken_unmade fault s h u)
+waiting_spent call fault (Unopened c) h k u n = absurd u
+waiting_spent call fault Moving h k u n = absurd u
+
+made_spent : {L : Type 0} (call : Call) (fault : Option ConnectionFault) (held : Held L) (h : List Local) → IsHeld call held h → IsMadeIn fault held h → IsActive held ⊎ IsSpent h
+made_spent call fault (Early o p) h k u = absurd u
+made_spent call fault (Late s) h k u = running_spent call s h k (broken_made fault s h u.1)
+made_spent call fault (Unopened c) h k u = absurd u
+made_spent call fault Moving h k u = absurd u
+
+close_last : (r : Reply) → IsCloseEnd r → IsLast r
+close_last reply.Pending e = e
+close_last reply.Connection e = e
+close_last reply.Closed e = tt
+close_last (reply.OpenError x) e = tt
+close_last (reply.ConnectionError x) e = tt
+
+spent_in : {L : Type 0} (q : Progress) (p : Peering L) (h : List Local) → HasIn q p h → (IsExchanged p.held → ⊥) → IsActive p.held ⊎ IsSpent h
+spent_in progress.Idle p h x n = inr (uncalled x.made)
+spent_in progress.Opening p h x n = waiting_spent x.call p.fault p.held h x.called.holds x.unmade n
+spent_in progress.Open p h x n = made_spent x.call p.fault p.held h x.called.holds x.is_made
+spent_in progress.Closing p h x n = made_spent x.call p.fault p.held h x.called.holds x.is_made
+spent_in progress.Over p h (inl x) n = inr (answered (pending x.name ∷ []) (open_failed x.name x.error) x.replied tt)
+spent_in progress.Over p h (inr x) n = elim x.replied [
+  | inl e ↦ inr (answered (pending x.name ∷ made_reply x.name ∷ pending x.closing ∷ []) (answered_by x.closing x.reply) e (close_last x.reply x.end))
+  | inr e ↦ inr (answered (pending x.name ∷ made_reply x.name ∷ []) (answered_by x.closing x.reply) e (close_last x.reply x.end))
+]
+
+pub spent_law : {L : Type 0} (p : Peering L) (h : List Local) → Has p h → (IsExchanged p.held → ⊥) → IsActive p.held ⊎ IsSpent h
+spent_law p h x n = spent_in p.progress p h x n

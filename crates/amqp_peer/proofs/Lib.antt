@@ -1,6 +1,7 @@
 pub mod Histories
 pub mod Moved
 pub mod Written
+pub mod Parts
 pub mod Hears
 pub mod Faulty
 pub mod Grows

@@ -11,10 +11,10 @@ use Rattle.amqp_engine.specs.State.{State}
 use Rattle.amqp_engine.proofs.Says.{goes_on}
 use Rattle.amqp_words.specs.declared.call.Call.{Call}
 use Rattle.amqp_words.specs.declared.reply.NamedReply.{NamedReply}
-use Rattle.amqp_peer.specs.Causes.{AllCaused, BeginsWithOpen}
+use Rattle.amqp_peer.specs.Causes.{AllCaused, BeginsWithOpen, EndsExchange}
 use Rattle.amqp_peer.specs.History.{Local, made_in, link_in, given_in, sent_in, replied_in, moment_in, since_in, at_link, got, put, IsInside}
 use Rattle.amqp_peer.specs.Peering.{IsRunning}
-use Rattle.amqp_peer.proofs.Histories.{link_in-append, given_in-append, sent_in-append, replied_in-append, inside-append, moment_in-inside, made_in-keeps, given_in-at, sent_in-at, replied_in-at, link_in-at, inside-at, since_in-at, caused-at, given_in-got, sent_in-got, link_in-got, replied_in-got, inside-got, caused-got, sent_in-put, given_in-put, link_in-put, replied_in-put, inside-put, caused-put, since_in-put}
+use Rattle.amqp_peer.proofs.Histories.{link_in-append, given_in-append, sent_in-append, replied_in-append, inside-append, moment_in-inside, made_in-keeps, given_in-at, sent_in-at, replied_in-at, link_in-at, inside-at, since_in-at, caused-at, given_in-got, sent_in-got, link_in-got, replied_in-got, inside-got, caused-got, sent_in-put, given_in-put, link_in-put, replied_in-put, inside-put, caused-put, since_in-put, once_more}
 
 -- what passed at the link, then the frames that were read, then those that were queued
 abbrev pub moved : {L : Type 0} {link : Ghosts L} {old new : State L} → Ran link old new → List Local
@@ -104,6 +104,7 @@ running_grows {L} link at call old new h r moment m k =
       runs = subst (λ (xs : List Frame). EngineHas k.unwritten k.arrived new (record { events = r.events ++ k.since; given = given_in (moved r ++ h); sent = xs })) (sym (sent_after h p))
           (subst (λ (xs : List Frame). EngineHas k.unwritten k.arrived new (record { events = r.events ++ k.since; given = xs; sent = sent_in h ++ r.queued })) (sym (given_after h p))
           (goes_on link k.unwritten k.arrived old new (record { events = k.since; given = given_in h; sent = sent_in h }) r k.runs));
+      began = once_more EndsExchange (moved r) h k.began;
       opens = subst BeginsWithOpen (sym (sent_after h p)) (begins_more (sent_in h) r.queued k.opens);
       idle = r.idle ∙ k.idle;
       start = since_after at r h m moment k.start;

@@ -25,7 +25,7 @@ use Rattle.amqp_opening.specs.declared.opening.OpeningPoll.TheVariants as poll
 use Rattle.amqp_opening.specs.declared.opening.Stage.{Stage}
 use Rattle.amqp_opening.specs.declared.opening.Stage.TheVariants as stage
 use Rattle.amqp_opening.specs.Authentication.{peer_mechanism, same_by}
-use Rattle.amqp_opening.specs.Opening.{Opened, IsUnderWay, HasAt, HasOpening, IsGuarded, Moves as OpeningMoves, Keeps, Ran as OpeningRan}
+use Rattle.amqp_opening.specs.Opening.{amqp_header, Opened, IsUnderWay, IsAtRestOrFull, HasAt, HasOpening, IsGuarded, Moves as OpeningMoves, Keeps, Ran as OpeningRan}
 use Rattle.amqp_opening.proofs.Exchanges.{same_made}
 use Rattle.amqp_words.specs.declared.call.Call.{Call}
 use Rattle.amqp_words.specs.declared.open_error.OpenError.TheVariants as failed
@@ -45,7 +45,7 @@ use Rattle.amqp_peer.specs.Replies.{open_failed}
 use Rattle.amqp_peer.specs.Runs.{IsSettled, Advanced, Rested, told, open_error_of}
 use Rattle.amqp_peer.proofs.Histories.{given_in-at, sent_in-at, replied_in-at, link_in-at, inside-at, caused-at, once_now}
 use Rattle.amqp_peer.proofs.Moved.{Passed, made_after, link_after, given_after, sent_after, replied_after}
-use Rattle.amqp_peer.proofs.Written.{written_guarded, written_exchanging}
+use Rattle.amqp_peer.proofs.Written.{intro_read, written_guarded, written_exchanging}
 
 -- ---- what passed at the link alone
 
@@ -63,6 +63,7 @@ exchanging_grows link call o o' left left' p es h m k x =
     record {
       made = made_same (sasl_of call) o.has_sasl o'.has_sasl o.negotiation.exchange o'.negotiation.exchange m.layer m.kept x.made;
       prepared = x.prepared;
+      known = x.known;
       opening = subst (λ (u : List LinkEvent). HasOpening peer_mechanism o' u) (sym (link_after h q)) (k (link_in h) x.opening);
       given = given_after h q ∙ append-nil (given_in h) ∙ x.given;
       sent = sent_after h q ∙ append-nil (sent_in h) ∙ x.sent;
@@ -134,25 +135,38 @@ went_early {L} link held held' o o' p p' es e e' w d =
 few_in : (es : List LinkEvent) (left total : ℕ) → left + reads_in es ≡ total → reads_in (link_in (at_link es)) ≤ total
 few_in es left total n = let z = ap reads_in (link_in-at es) in omega (arith, n, z)
 
-settled_in : (es : List LinkEvent) (left : ℕ) → left + reads_in es ≡ 2 ^ 62 → IsHeldUp es left → IsSettled (at_link es)
-settled_in es left n (inl a) = inl (subst (λ (u : List LinkEvent). Includes u (NotRead Empty)) (sym (link_in-at es)) a)
-settled_in es left n (inr (inl a)) = inr (inl (subst (λ (u : List LinkEvent). Includes u (NotWritten Full)) (sym (link_in-at es)) a))
-settled_in es left n (inr (inr a)) = let z = ap reads_in (link_in-at es) in inr (inr (inl (omega (arith, n, z, a))))
+settled_in : {L : Type 0} (o : Opened L Authentication) (p : Option Prepared) (es : List LinkEvent) (left : ℕ) → left + reads_in es ≡ 2 ^ 62 → IsHeldUp es left → IsAtRestOrFull peer_mechanism es o → IsSettled (Early o p) (at_link es)
+settled_in o p es left n (inl a) (inl r) = inl (subst (λ (u : List LinkEvent). Includes u (NotRead Empty)) (sym (link_in-at es)) a, r)
+settled_in o p es left n (inl a) (inr f) = inr (inl (subst (λ (u : List LinkEvent). Includes u (NotWritten Full)) (sym (link_in-at es)) f))
+settled_in o p es left n (inr (inl a)) r = inr (inl (subst (λ (u : List LinkEvent). Includes u (NotWritten Full)) (sym (link_in-at es)) a))
+settled_in o p es left n (inr (inr a)) r = let z = ap reads_in (link_in-at es) in inr (inr (inl (omega (arith, n, z, a))))
 
 -- what an end that waits holds
 held_early : {L : Type 0} (call : Call) (held : Held L) (o : Opened L Authentication) (p : Option Prepared) (h : List Local) → held ≡ Early o p → IsReadyWith o p → HasCalled call held h → IsExchanging call o p h
 held_early {L} call held o p h e r c = exchanging_of o.stage call o p h (ready_way o p r) (subst (λ (x : Held L). IsHeld call x h) e c.holds)
 
-waiting_grows : {L : Type 0} (old : Peering L) (o o' : Opened L Authentication) (p : Option Prepared) (es : List LinkEvent) (h : List Local) → old.held ≡ Early o p → (w : IsWaiting old h) → IsHeldAt o'.stage w.call o' p (at_link es ++ h) → IsWaiting (record old { held = Early o' p }) (at_link es ++ h)
-waiting_grows {L} old o o' p es h e w k =
+waiting_grows : {L : Type 0} (old : Peering L) (o o' : Opened L Authentication) (p : Option Prepared) (es : List LinkEvent) (h : List Local) → old.held ≡ Early o p → (w : IsWaiting old h) → IsMidway o'.stage → IsHeldAt o'.stage w.call o' p (at_link es ++ h) → IsWaiting (record old { held = Early o' p }) (at_link es ++ h)
+waiting_grows {L} old o o' p es h e w m k =
     let q = at_passed es in
     record {
       call = w.call;
       made = made_after h q ∙ w.made;
       replied = replied_after h q ∙ w.replied;
       called = record { holds = k; caused = q.caused h w.called.caused };
-      unmade = subst (λ (x : Held L). IsUnmade old.fault x h) e w.unmade;
+      unmade = ((subst (λ (x : Held L). IsUnmade old.fault x h) e w.unmade).0, m);
     }
+
+-- headers that are being exchanged are not exchanged, nor are those of an exchange that ended
+way_not_exchanged : (s : Stage) → IsUnderWay s → s ≡ stage.Exchanged → ⊥
+way_not_exchanged s u e = subst IsUnderWay e u
+
+way_exchanged_not : {L : Type 0} (o : Opened L Authentication) (p : Option Prepared) → IsUnderWay o.stage → IsExchangedWith o p → ⊥
+way_exchanged_not o None u e = e
+way_exchanged_not o (Some p) u e = way_not_exchanged o.stage u e
+
+ended_exchanged_not : {L : Type 0} (o : Opened L Authentication) (p : Option Prepared) → o.stage ≡ stage.Ended → IsExchangedWith o p → ⊥
+ended_exchanged_not o None s e = e
+ended_exchanged_not o (Some p) s e = absurd (cc (s, e))
 
 -- it waits
 pub early_rests : {L : Type 0} (link : Ghosts L) (at : ℕ) (old : Peering L) (o o' : Opened L Authentication) (p : Option Prepared) (left : ℕ) → old.held ≡ Early o p → IsReadyWith o p → OpeningRan {E = AllocError} link peer_mechanism o (2 ^ 62) (Ok poll.Pending) o' left
@@ -169,10 +183,11 @@ early_rests {L} link at old o o' p left e r n =
         grows = λ h t x.
             let w = waiting_early old.progress old o p h e r x in
             subst (λ (q : Progress). HasIn q (record old { held = Early o' p }) (at_link n.events ++ h)) (sym w.0)
-            (waiting_grows old o o' p n.events h e w.1
+            (waiting_grows old o o' p n.events h e w.1 (way_midway o'.stage n.comes.0)
             (of_exchanging o'.stage w.1.call o' p (at_link n.events ++ h) n.comes.0 (exchanging_grows link w.1.call o o' (2 ^ 62) left p n.events h n.moves n.comes.2 (held_early w.1.call old.held o p h e r w.1.called))));
       };
-      settled = λ a. settled_in n.events left n.moves.counted n.comes.1;
+      settled = λ a. settled_in o' p n.events left n.moves.counted n.comes.1 n.comes.3;
+      begun = λ x. way_exchanged_not o' p n.comes.0 x;
     }
 
 ended_not : {L : Type 0} (o : Opened L Authentication) (p : Option Prepared) → o.stage ≡ stage.Ended → IsReadyWith o p → ⊥
@@ -204,7 +219,8 @@ fails_open {L} link old o o' p left e h l r n w =
       made = calls;
       replied = ap (λ (u : List NamedReply). u ++ open_failed old.name (failed.Negotiation e) ∷ []) (replied_after h q ∙ w.replied);
       called = record {
-        holds = subst (λ (s : Stage). IsHeldAt s w.call o' p (Replied (open_failed old.name (failed.Negotiation e)) ∷ at_link n.events ++ h)) (sym n.comes.0) wrote;
+        holds = subst (λ (s : Stage). IsHeldAt s w.call o' p (Replied (open_failed old.name (failed.Negotiation e)) ∷ at_link n.events ++ h)) (sym n.comes.0)
+            (record { written = wrote; given = given_after h q ∙ append-nil (given_in h) ∙ k.given; sent = sent_after h q ∙ append-nil (sent_in h) ∙ k.sent });
         caused = (cause, q.caused h w.called.caused);
       };
       done = λ z. ended_done o' p n.comes.0 z;
@@ -225,6 +241,7 @@ early_fails {L} link at old o o' p left e l r n =
         grows = λ h t x. let w = waiting_early old.progress old o p h l r x in inl (fails_open link old o o' p left e h l r n w.1);
       };
       settled = λ a. absurd (ended_not o' p n.comes.0 a);
+      begun = λ x. ended_exchanged_not o' p n.comes.0 x;
     }
 
 -- both headers are there
@@ -241,7 +258,7 @@ early_exchanged {L} link at old o o' p left e r n =
       grows = λ h t x.
           let w = waiting_early old.progress old o p h e r x in
           subst (λ (q : Progress). HasIn q (record old { held = Early o' p }) (at_link n.events ++ h)) (sym w.0)
-          (waiting_grows old o o' p n.events h e w.1
+          (waiting_grows old o o' p n.events h e w.1 (subst IsMidway (sym n.comes.0) tt)
           (subst (λ (s : Stage). IsHeldAt s w.1.call o' p (at_link n.events ++ h)) (sym n.comes.0) (exchanging_grows link w.1.call o o' (2 ^ 62) left p n.events h n.moves n.comes.1 (held_early w.1.call old.held o p h e r w.1.called))));
     }
 
@@ -289,6 +306,7 @@ begins_running {L} at call o p s h r c t k =
       runs = subst (λ (xs : List Frame). EngineHas o.negotiation.codec.output o.negotiation.codec.input s (record { events = []; given = xs; sent = sent_in h ++ open_frame p.end ∷ [] })) (sym k.given)
           (subst (λ (xs : List Frame). EngineHas o.negotiation.codec.output o.negotiation.codec.input s (record { events = []; given = []; sent = xs ++ open_frame p.end ∷ [] })) (sym k.sent)
           (starts o.negotiation.codec.output o.negotiation.codec.input w p.end s c refl refl));
+      began = record { later = Put (open_frame p.end) ∷ []; earlier = Exchanged ∷ h; split = refl; held = let i = intro_read o.has_sasl o.negotiation.exchange (amqp_header ++ o.negotiation.codec.input) o.negotiation.codec.output (link_in h) opening in (i.0, o.negotiation.codec.input, i.1) };
       opens = subst (λ (xs : List Frame). BeginsWithOpen (xs ++ open_frame p.end ∷ [])) (sym k.sent) (record { channel = 0; first = open_of p.end; more = []; is = refl });
       idle = ap (λ (z : State L). z.wire.clock.idle) c.1;
       start = ap (λ (z : State L). z.wire.clock.since) c.1 ∙ sym t;
@@ -315,7 +333,7 @@ connected {L} link at old o p s e r c =
       grows = λ h t x.
           let w = waiting_exchanged old.progress old o p h e r x in
           let k = held_exchanged w.1.call old.held o (Some p) h e r w.1.called in
-          let none : old.fault ≡ None = subst (λ (y : Held L). IsUnmade old.fault y h) e w.1.unmade in
+          let none : old.fault ≡ None = (subst (λ (y : Held L). IsUnmade old.fault y h) e w.1.unmade).0 in
           subst (λ (q : Progress). HasIn q (record old { held = Late s }) (Put (open_frame p.end) ∷ Exchanged ∷ h)) (sym w.0)
           (record {
             call = w.1.call;
@@ -350,13 +368,14 @@ connect_fails {L} link at old o p (connection.TransportError transport.FramingEr
               made = w.1.made;
               replied = ap (λ (u : List NamedReply). u ++ answer ∷ []) w.1.replied;
               called = record {
-                holds = written_exchanging w.1.call o (Some p) h k;
+                holds = record { written = written_exchanging w.1.call o (Some p) h k; given = k.given; sent = k.sent };
                 caused = (once_now (TransportCause transport.FramingError) h (inr (record { limit = 512; x = open_frame p.end; least = omega arith; own = own_opening p (ap prepared_in w.1.made ∙ k.prepared); large = c.0 })), w.1.called.caused);
               };
               done = λ z. z;
             });
       };
       settled = λ a. absurd a;
+      begun = λ x. x;
     }
 connect_fails {L} link at old o p (connection.TransportError (transport.Memory x)) back l r c n = absurd c
 connect_fails {L} link at old o p (connection.TransportError (transport.Io x)) back l r c n = absurd c

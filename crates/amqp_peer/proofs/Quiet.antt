@@ -17,10 +17,10 @@ use Rattle.amqp_peer.specs.declared.held.Held.TheVariants.{Early, Late, Unopened
 use Rattle.amqp_peer.specs.declared.peer.Progress.{Progress}
 use Rattle.amqp_peer.specs.declared.peer.Progress.TheVariants as progress
 use Rattle.amqp_peer.specs.declared.prepared.Prepared.{Prepared}
-use Rattle.amqp_peer.specs.Causes.{BeginsWithOpen, IsOther, AllCaused}
+use Rattle.amqp_peer.specs.Causes.{BeginsWithOpen, IsOther, TransportCause, AllCaused, EndsExchange}
 use Rattle.amqp_peer.specs.Gated.{IsGatedIn}
 use Rattle.amqp_peer.specs.History.{Local, Made, Polled, Replied, link_in, given_in, sent_in, since_in, Once}
-use Rattle.amqp_peer.specs.Peering.{Peering, Has, HasIn, HasCalled, IsHeld, IsHeldAt, IsExchanging, IsRunning, IsUnmadeAt, IsUnmade, IsFaultIn, IsMadeIn, EarlyFault, LateFault, HasWritten}
+use Rattle.amqp_peer.specs.Peering.{Peering, Has, HasIn, HasCalled, IsHeld, IsHeldAt, IsExchanging, IsRunning, IsUnmadeAt, IsUnmade, IsFaultIn, IsMadeIn, EarlyFault, LateFault, IsBrokenIn, HasNoFrames}
 use Rattle.amqp_peer.specs.Prepared.{sasl_of}
 use Rattle.amqp_peer.proofs.Histories.{once_more}
 
@@ -61,6 +61,7 @@ running_quiet call s h h' q k =
       intro = k.intro;
       runs = subst (λ (xs : List Frame). EngineHas k.unwritten k.arrived s (record { events = k.since; given = given_in h'; sent = xs })) (sym q.said)
           (subst (λ (xs : List Frame). EngineHas k.unwritten k.arrived s (record { events = k.since; given = xs; sent = sent_in h })) (sym q.heard) k.runs);
+      began = once_quiet EndsExchange h h' q k.began;
       opens = subst BeginsWithOpen (sym q.said) k.opens;
       idle = k.idle;
       start = k.start ∙ sym q.since;
@@ -69,10 +70,10 @@ running_quiet call s h h' q k =
 
 exchanging_quiet : {L : Type 0} (call : Call) (o : Opened L Authentication) (p : Option Prepared) (h h' : List Local) → Quiet h h' → IsExchanging call o p h → IsExchanging call o p h'
 exchanging_quiet call o p h h' q k =
-    record { made = k.made; prepared = k.prepared; opening = subst (λ (es : List LinkEvent). HasOpening peer_mechanism o es) (sym q.link) k.opening; given = q.heard ∙ k.given; sent = q.said ∙ k.sent }
+    record { made = k.made; prepared = k.prepared; known = k.known; opening = subst (λ (es : List LinkEvent). HasOpening peer_mechanism o es) (sym q.link) k.opening; given = q.heard ∙ k.given; sent = q.said ∙ k.sent }
 
-written_quiet : (call : Call) (h h' : List Local) → Quiet h h' → HasWritten call h → HasWritten call h'
-written_quiet call h h' q w = subst (λ (es : List LinkEvent). IsGatedIn (sasl_of call) (wrote_of es) (read_of es)) (sym q.link) w
+written_quiet : (call : Call) (h h' : List Local) → Quiet h h' → HasNoFrames call h → HasNoFrames call h'
+written_quiet call h h' q w = record { written = subst (λ (es : List LinkEvent). IsGatedIn (sasl_of call) (wrote_of es) (read_of es)) (sym q.link) w.written; given = q.heard ∙ w.given; sent = q.said ∙ w.sent }
 
 early_quiet : {L : Type 0} (s : Stage) (call : Call) (o : Opened L Authentication) (p : Option Prepared) (h h' : List Local) → Quiet h h' → IsHeldAt s call o p h → IsHeldAt s call o p h'
 early_quiet stage.Idle call o p h h' q k = absurd k
@@ -90,13 +91,16 @@ held_quiet call Moving h h' q k = absurd k
 pub called_quiet : {L : Type 0} (call : Call) (held : Held L) (h h' : List Local) → Quiet h h' → AllCaused h' → HasCalled call held h → HasCalled call held h'
 called_quiet call held h h' q c k = record { holds = held_quiet call held h h' q k.holds; caused = c }
 
+broken_quiet : {L : Type 0} (s : State L) (h h' : List Local) → Quiet h h' → IsBrokenIn s h → IsBrokenIn s h'
+broken_quiet s h h' q f z = let b = f z in record { fault = b.fault; cause = once_quiet (TransportCause b.fault) h h' q b.cause }
+
 pub fault_quiet : {L : Type 0} (fault : Option ConnectionFault) (s : State L) (h h' : List Local) → Quiet h h' → IsFaultIn fault s h → IsFaultIn fault s h'
 fault_quiet None s h h' q f = f
-fault_quiet (Some e) s h h' q f = once_quiet (LateFault e) h h' q f
+fault_quiet (Some e) s h h' q f = (once_quiet (LateFault e) h h' q f.0, broken_quiet s h h' q f.1)
 
 unmade_at_quiet : {L : Type 0} (fault : Option ConnectionFault) (s : State L) (h h' : List Local) → Quiet h h' → IsUnmadeAt fault s h → IsUnmadeAt fault s h'
 unmade_at_quiet None s h h' q f = record { unheard = λ b. f.unheard (subst BeginsWithOpen q.heard b); kept = λ b. f.kept (subst IsOther q.heard b); sound = f.sound }
-unmade_at_quiet (Some e) s h h' q f = (once_quiet (EarlyFault e) h h' q f.0, λ z b. f.1 z (subst BeginsWithOpen q.heard b))
+unmade_at_quiet (Some e) s h h' q f = (once_quiet (EarlyFault e) h h' q f.0, (λ z b. f.1.0 z (subst BeginsWithOpen q.heard b), broken_quiet s h h' q f.1.1))
 
 pub unmade_quiet : {L : Type 0} (fault : Option ConnectionFault) (held : Held L) (h h' : List Local) → Quiet h h' → IsUnmade fault held h → IsUnmade fault held h'
 unmade_quiet fault (Early o p) h h' q u = u

@@ -35,16 +35,16 @@ use Rattle.amqp_peer.specs.declared.held.Held.TheVariants.{Early, Late, Unopened
 use Rattle.amqp_peer.specs.declared.peer.Progress.{Progress}
 use Rattle.amqp_peer.specs.declared.peer.Progress.TheVariants as progress
 use Rattle.amqp_peer.specs.declared.prepared.Prepared.{Prepared}
-use Rattle.amqp_peer.specs.Causes.{closing as own_closing, MadeIn, IsOpenCause, not_allowed, OpenCauseIn, BeginsWithOpen, prepared_in}
+use Rattle.amqp_peer.specs.Causes.{closing as own_closing, TransportCause, MadeIn, IsOpenCause, not_allowed, OpenCauseIn, BeginsWithOpen, prepared_in}
 use Rattle.amqp_peer.specs.Gated.{IsTalk, IsGatedIn}
-use Rattle.amqp_peer.specs.Held.{IsReadyWith, IsBusyWith, IsActive, link_at, EndedEarly}
+use Rattle.amqp_peer.specs.Held.{IsReadyWith, IsMidway, IsBusyWith, IsExchangedWith, IsActive, link_at, EndedEarly}
 use Rattle.amqp_peer.specs.History.{Local, Made, Polled, Replied, made_in, link_in, given_in, replied_in, moment_in, read_in, wrote_in}
-use Rattle.amqp_peer.specs.Peering.{Peering, Has, HasIn, IsHeldAt, IsRunning, IsExchanging, IsUntouched, IsOpen, HasNothing, HasClosed, HasWritten, IsMadeIn, IsFaultIn, LateFault, link_of}
-use Rattle.amqp_peer.specs.Prepared.{prepared_of, sasl_of}
+use Rattle.amqp_peer.specs.Peering.{Peering, Has, HasIn, IsHeldAt, IsRunning, IsExchanging, IsUntouched, IsOpen, HasNothing, HasClosed, HasWritten, IsMadeIn, IsFaultIn, IsBrokenIn, LateFault, link_of}
+use Rattle.amqp_peer.specs.Prepared.{prepared_of, sasl_of, error_for}
 use Rattle.amqp_peer.specs.Replies.{pending, open_failed, answered}
-use Rattle.amqp_peer.specs.Runs.{Advanced, RestedFrom, Rested, Stepped, IsAsked, IsAskedToClose, Refused, told, finished, close_reply, error_in, first_fault}
+use Rattle.amqp_peer.specs.Runs.{AdvancedFrom, IsToClose, RestedFrom, Rested, Stepped, IsAsked, IsAskedToClose, Refused, told, finished, close_reply, error_in, first_fault}
 use Rattle.amqp_peer.proofs.Advances.{called_keeps, settled_left, went_late, finish_close, written_after}
-use Rattle.amqp_peer.proofs.Grows.{closing_moves, fault_same, fault_failed, called_moves, is_running, heard_open_more}
+use Rattle.amqp_peer.proofs.Grows.{closing_moves, broken_sound, fault_same, fault_failed, called_moves, is_running, heard_open_more}
 use Rattle.amqp_peer.proofs.Quiet.{quiet_replied, quiet_made, called_quiet, made_quiet, has_polled}
 use Rattle.amqp_peer.proofs.Histories.{inside-append, link_in-append, replied_in-append, once_more}
 use Rattle.amqp_peer.proofs.Moved.{moved, passed, made_after, replied_after}
@@ -62,11 +62,11 @@ untouched_of : {L : Type 0} (call : Call) (old : Peering L) (o : Opened L Authen
 untouched_of {L} call old o p h e a = subst (λ (x : Opened L Authentication). IsUntouched x) (sym (ap (asked_early o) (sym e ∙ a.holds))) a.untouched
 
 -- an exchange of headers has begun
-begins : {L : Type 0} (call : Call) (old : Peering L) (o : Opened L Authentication) (p : Prepared) (h : List Local) → IsAsked call old h → prepared_of call ≡ Some p → MadeIn (sasl_of call) o.has_sasl o.negotiation.exchange → IsHeldAt o.stage call o (Some p) h
+begins : {L : Type 0} (call : Call) (old : Peering L) (o : Opened L Authentication) (p : Prepared) (h : List Local) → IsAsked call old h → prepared_of call ≡ Some p → MadeIn (sasl_of call) o.has_sasl o.negotiation.exchange → IsMidway o.stage → IsHeldAt o.stage call o (Some p) h
     → HasIn old.progress (record old { held = Early o (Some p) }) h
-begins {L} call old o p h a e m k =
+begins {L} call old o p h a e m mid k =
     subst (λ (q : Progress). HasIn q (record old { held = Early o (Some p) }) h) (sym a.progress)
-    (record { call = call; made = a.made; replied = a.replied; called = record { holds = k; caused = a.caused }; unmade = a.fault })
+    (record { call = call; made = a.made; replied = a.replied; called = record { holds = k; caused = a.caused }; unmade = (a.fault, mid) })
 
 pub begins_with : {L : Type 0} (link : Ghosts L) (at n : ℕ) (call : Call) (old new : Peering L) (o : Opened L Authentication) (p0 : Option Prepared) (p : Prepared) (c : SaslCall) (x : Authentication) → old.held ≡ Early o p0 → prepared_of call ≡ Some p → sasl_of call ≡ Some c → MadeFor c x → holds_by x [] []
     → Rested link at n (record old { held = Early (begun o x) (Some p) }) new → RestedFrom link at n (IsAsked call old) old new
@@ -82,10 +82,11 @@ begins_with {L} link at n call old new o p0 p c x e prep sasl made held r =
         grows = λ h t a.
             let u = untouched_of call old o p0 h e a in
             let m : MadeIn (sasl_of call) true x = subst (λ (z : Option SaslCall). MadeIn z true x) (sym sasl) (refl, made) in
-            let k : IsExchanging call (begun o x) (Some p) h = record { made = m; prepared = prep; opening = has_begun peer_mechanism o x (link_in h) held u.input u.output u.phase a.link; given = a.given; sent = a.sent } in
-            r.run.grows h t (begins call old (begun o x) p h a prep m k);
+            let k : IsExchanging call (begun o x) (Some p) h = record { made = m; prepared = prep; known = tt; opening = has_begun peer_mechanism o x (link_in h) held u.input u.output u.phase a.link; given = a.given; sent = a.sent } in
+            r.run.grows h t (begins call old (begun o x) p h a prep m tt k);
       };
       settled = r.settled;
+      begun = r.begun;
     }
 
 pub begins_plain : {L : Type 0} (link : Ghosts L) (at n : ℕ) (call : Call) (old new : Peering L) (o : Opened L Authentication) (p0 : Option Prepared) (p : Prepared) → old.held ≡ Early o p0 → prepared_of call ≡ Some p → sasl_of call ≡ None
@@ -102,10 +103,11 @@ begins_plain {L} link at n call old new o p0 p e prep sasl r =
         grows = λ h t a.
             let u = untouched_of call old o p0 h e a in
             let m : MadeIn (sasl_of call) false o.negotiation.exchange = subst (λ (z : Option SaslCall). MadeIn z false o.negotiation.exchange) (sym sasl) refl in
-            let k : IsExchanging call (begun_plain o) (Some p) h = record { made = m; prepared = prep; opening = has_begun_plain peer_mechanism o (link_in h) u.input u.output a.link; given = a.given; sent = a.sent } in
-            r.run.grows h t (begins call old (begun_plain o) p h a prep m k);
+            let k : IsExchanging call (begun_plain o) (Some p) h = record { made = m; prepared = prep; known = tt; opening = has_begun_plain peer_mechanism o (link_in h) u.input u.output a.link; given = a.given; sent = a.sent } in
+            r.run.grows h t (begins call old (begun_plain o) p h a prep m tt k);
       };
       settled = r.settled;
+      begun = r.begun;
     }
 
 ended_done_at : {L : Type 0} (o : Opened L Authentication) (p : Option Prepared) → IsBusyWith (record o { stage = stage.Ended }) p → ⊥
@@ -115,6 +117,10 @@ ended_done_at o (Some p) z = z
 ended_not_at : {L : Type 0} (o : Opened L Authentication) (p : Option Prepared) → IsReadyWith (record o { stage = stage.Ended }) p → ⊥
 ended_not_at o None z = z
 ended_not_at o (Some p) z = z
+
+ended_exchanged_not_at : {L : Type 0} (o : Opened L Authentication) (p : Option Prepared) → IsExchangedWith (record o { stage = stage.Ended }) p → ⊥
+ended_exchanged_not_at o None e = e
+ended_exchanged_not_at o (Some p) e = absurd (cc e)
 
 -- an open or accept is refused before anything is written
 nothing_written : (call : Call) (c : SaslCall) (h : List Local) → sasl_of call ≡ Some c → link_in h ≡ [] → HasWritten call h
@@ -152,13 +158,14 @@ begins_refused {L} link at n call old new o p0 c e l sasl r m f =
           made = a.made;
           replied = ap (λ (u : List NamedReply). u ++ answer ∷ []) a.replied;
           called = record {
-            holds = nothing_written call c h sasl a.link;
+            holds = record { written = nothing_written call c h sasl a.link; given = a.given; sent = a.sent };
             caused = (subst (λ (cs : List (ℕ × Call)). OpenCauseIn cs e (link_in h)) (sym a.made) (refusal_cause c call e h sasl r m), a.caused);
           };
           done = λ z. ended_done_at o p0 z;
         });
       };
       settled = λ z. absurd (ended_not_at o p0 z);
+      begun = λ z. ended_exchanged_not_at o p0 z;
     })
 
 -- the call was made, and answered by pending
@@ -194,7 +201,8 @@ started {L} link at name call old new e r =
       answers = r.run.answers ∙ append_assoc old.replies (pending name ∷ []) (replied_in es) ∙ ap (λ (u : List NamedReply). old.replies ++ u) (sym (replied_in-append es one));
       few = let z = ap reads_in links in omega (arith, z, r.run.few);
       kind = r.run.kind;
-      settled = λ a. settled_left es one (r.settled a);
+      settled = λ a. settled_left new.held es one (r.settled a);
+      begun = λ b. r.begun;
       grows = λ h x. subst (λ (u : List Local). Has new u) (sym (append_assoc es one (Made at name call ∷ h)))
           (r.run.grows (Replied (pending name) ∷ Made at name call ∷ h) refl (is_asked old name at call h (subst (λ (q : Progress). HasIn q old h) e x)));
     }
@@ -202,9 +210,9 @@ started {L} link at name call old new e r =
 -- ---- a close
 
 -- a Close was queued, or not, while a close is to be answered
-close_moves : {L : Type 0} (link : Ghosts L) (at : ℕ) (old : Peering L) (s s' : State L) (fault : Option ConnectionFault) (y : Option AmqpError) (result : Result Unit ConnectionFault) → old.progress ≡ progress.Closing → old.held ≡ Late s → (c : EngineClosed link s y result s')
-    → ((h : List Local) (call : Call) → IsRunning call s h → IsFaultIn old.fault s h → IsFaultIn fault s' (moved c.run ++ h)) → Advanced link at 0 old (record old { held = Late s'; fault = fault })
-close_moves {L} link at old s s' fault y result p e c g =
+close_moves : {L : Type 0} (link : Ghosts L) (at : ℕ) (old : Peering L) (s s' : State L) (fault : Option ConnectionFault) (condition : Option (List ℕ)) (result : Result Unit ConnectionFault) → old.progress ≡ progress.Closing → old.held ≡ Late s → (c : EngineClosed link s (error_for condition) result s')
+    → ((h : List Local) (call : Call) → IsToClose condition old h → IsRunning call s h → IsFaultIn old.fault s h → IsFaultIn fault s' (moved c.run ++ h)) → AdvancedFrom link at 0 (IsToClose condition old) old (record old { held = Late s'; fault = fault })
+close_moves {L} link at old s s' fault condition result p e c g =
     let r = c.run in
     record {
       events = moved r;
@@ -215,7 +223,7 @@ close_moves {L} link at old s s' fault y result p e c g =
       kind = refl;
       grows = λ h t x.
           subst (λ (q : Progress). HasIn q (record old { held = Late s'; fault = fault }) (moved r ++ h)) (sym p)
-          (closing_moves link at old s s' fault h r (inl (c.none, r.since c.none)) t e (λ call k prep o f. g h call k f) (subst (λ (q : Progress). HasIn q old h) p x));
+          (closing_moves link at old s s' fault h r (inl (c.none, r.since c.none)) t e (λ call k prep o f. g h call x k f) (subst (λ (q : Progress). HasIn q old h) p x.has));
     }
 
 close_sound : (y : Option AmqpError) → has_failed (close_phase y) ≡ false
@@ -225,54 +233,65 @@ close_sound (Some e) = refl
 -- it is queued
 queued_fault : {L : Type 0} {link : Ghosts L} (fault : Option ConnectionFault) (s s' : State L) (y : Option AmqpError) (h : List Local) (r : Ran link s s') → s' ≡ closing s y → IsFaultIn fault s h → IsFaultIn fault s' (moved r ++ h)
 queued_fault {L} None s s' y h r e f = ap (λ (z : State L). has_failed z.phase) e ∙ close_sound y
-queued_fault (Some x) s s' y h r e f = once_more (LateFault x) (moved r) h f
+queued_fault {L} (Some x) s s' y h r e f = (once_more (LateFault x) (moved r) h f.0, broken_sound s' (moved r ++ h) (ap (λ (z : State L). has_failed z.phase) e ∙ close_sound y))
 
-pub close_queued : {L : Type 0} (link : Ghosts L) (at : ℕ) (old : Peering L) (s s' : State L) (y : Option AmqpError) (u : Unit {0}) → old.progress ≡ progress.Closing → old.held ≡ Late s → EngineClosed link s y (Ok u) s' → Advanced link at 0 old (record old { held = Late s' })
-close_queued link at old s s' y u p e c = close_moves link at old s s' old.fault y (Ok u) p e c (λ h call k f. queued_fault old.fault s s' y h c.run c.told.1 f)
+pub close_queued : {L : Type 0} (link : Ghosts L) (at : ℕ) (old : Peering L) (s s' : State L) (condition : Option (List ℕ)) (u : Unit {0}) → old.progress ≡ progress.Closing → old.held ≡ Late s → EngineClosed link s (error_for condition) (Ok u) s' → AdvancedFrom link at 0 (IsToClose condition old) old (record old { held = Late s' })
+close_queued link at old s s' condition u p e c = close_moves link at old s s' old.fault condition (Ok u) p e c (λ h call a k f. queued_fault old.fault s s' (error_for condition) h c.run c.told.1 f)
 
 -- one is queued or owed already
-pub close_kept : {L : Type 0} (link : Ghosts L) (at : ℕ) (old : Peering L) (s s' : State L) (y : Option AmqpError) → old.progress ≡ progress.Closing → old.held ≡ Late s → EngineClosed link s y (Err connection.IllegalState) s' → Advanced link at 0 old (record old { held = Late s' })
-close_kept {L} link at old s s' y p e c = close_moves link at old s s' old.fault y (Err connection.IllegalState) p e c (λ h call k f. fault_same old.fault s s' h c.run (ap (λ (z : State L). z.phase) c.told.2) f)
+pub close_kept : {L : Type 0} (link : Ghosts L) (at : ℕ) (old : Peering L) (s s' : State L) (condition : Option (List ℕ)) → old.progress ≡ progress.Closing → old.held ≡ Late s → EngineClosed link s (error_for condition) (Err connection.IllegalState) s' → AdvancedFrom link at 0 (IsToClose condition old) old (record old { held = Late s' })
+close_kept {L} link at old s s' condition p e c = close_moves link at old s s' old.fault condition (Err connection.IllegalState) p e c (λ h call a k f. fault_same old.fault s s' h c.run (ap (λ (z : State L). z.phase) c.told.2) f)
 
 -- it is too large
-large_fault : {L : Type 0} {link : Ghosts L} (fault : Option ConnectionFault) (s s' : State L) (y : Option AmqpError) (h : List Local) (call : Call) (r : Ran link s s') → IsRunning call s h → IsTooLarge s.wire.codec.encoder (close_frame y) → IsFaultIn fault s h
-    → IsFaultIn (first_fault fault (connection.TransportError transport.FramingError)) s' (moved r ++ h)
-large_fault None s s' y h call r k l f =
-    record { later = moved r; earlier = h; split = refl; held = inr (record { limit = s.wire.codec.encoder; x = close_frame y; least = k.runs.limited.least; own = own_closing y; large = l }) }
-large_fault (Some x) s s' y h call r k l f = once_more (LateFault x) (moved r) h f
+large_cause : {L : Type 0} (condition : Option (List ℕ)) (s : State L) (old : Peering L) (h : List Local) (call : Call) → IsToClose condition old h → IsRunning call s h → IsTooLarge s.wire.codec.encoder (close_frame (error_for condition)) → TransportCause transport.FramingError h
+large_cause condition s old h call a k l = inr (record { limit = s.wire.codec.encoder; x = close_frame (error_for condition); least = k.runs.limited.least; own = own_closing a.name condition a.earlier a.made; large = l })
 
-pub close_fails : {L : Type 0} (link : Ghosts L) (at : ℕ) (old : Peering L) (s s' : State L) (y : Option AmqpError) (e : ConnectionFault) → old.progress ≡ progress.Closing → old.held ≡ Late s → EngineClosed link s y (Err e) s' → ((x : _) → e ≡ connection.Memory x → ⊥) → (e ≡ connection.IllegalState → ⊥)
-    → Advanced link at 0 old (record old { held = Late s'; fault = first_fault old.fault e })
-close_fails link at old s s' y (connection.Memory x) p l c n i = absurd (n x refl)
-close_fails link at old s s' y (connection.TransportError transport.FramingError) p l c n i =
-    close_moves link at old s s' (first_fault old.fault (connection.TransportError transport.FramingError)) y (Err (connection.TransportError transport.FramingError)) p l c (λ h call k f. large_fault old.fault s s' y h call c.run k c.told.1 f)
-close_fails link at old s s' y (connection.TransportError (transport.Memory x)) p l c n i = absurd c.told
-close_fails link at old s s' y (connection.TransportError (transport.Io x)) p l c n i = absurd c.told
-close_fails link at old s s' y (connection.TransportError transport.IdleTimeoutElapsed) p l c n i = absurd c.told
-close_fails link at old s s' y (connection.TransportError transport.DecodeError) p l c n i = absurd c.told
-close_fails link at old s s' y (connection.TransportError transport.NotImplemented) p l c n i = absurd c.told
-close_fails link at old s s' y connection.IllegalState p l c n i = absurd (i refl)
-close_fails link at old s s' y connection.NotImplemented p l c n i = absurd c.told
-close_fails link at old s s' y connection.NotFound p l c n i = absurd c.told
-close_fails link at old s s' y connection.RemoteClosed p l c n i = absurd c.told
-close_fails link at old s s' y (connection.RemoteClosedWithError x) p l c n i = absurd c.told
+large_breaks : {L : Type 0} {link : Ghosts L} (s s' : State L) (h : List Local) (r : Ran link s s') → TransportCause transport.FramingError h → IsBrokenIn s' (moved r ++ h)
+large_breaks s s' h r c z = record { fault = transport.FramingError; cause = record { later = moved r; earlier = h; split = refl; held = c } }
+
+large_fault : {L : Type 0} {link : Ghosts L} (fault : Option ConnectionFault) (s s' : State L) (h : List Local) (r : Ran link s s') → TransportCause transport.FramingError h → IsFaultIn fault s h
+    → IsFaultIn (first_fault fault (connection.TransportError transport.FramingError)) s' (moved r ++ h)
+large_fault None s s' h r c f = (record { later = moved r; earlier = h; split = refl; held = c }, large_breaks s s' h r c)
+large_fault (Some x) s s' h r c f = (once_more (LateFault x) (moved r) h f.0, large_breaks s s' h r c)
+
+pub close_fails : {L : Type 0} (link : Ghosts L) (at : ℕ) (old : Peering L) (s s' : State L) (condition : Option (List ℕ)) (e : ConnectionFault) → old.progress ≡ progress.Closing → old.held ≡ Late s → EngineClosed link s (error_for condition) (Err e) s' → ((x : _) → e ≡ connection.Memory x → ⊥) → (e ≡ connection.IllegalState → ⊥)
+    → AdvancedFrom link at 0 (IsToClose condition old) old (record old { held = Late s'; fault = first_fault old.fault e })
+close_fails link at old s s' condition (connection.Memory x) p l c n i = absurd (n x refl)
+close_fails link at old s s' condition (connection.TransportError transport.FramingError) p l c n i =
+    close_moves link at old s s' (first_fault old.fault (connection.TransportError transport.FramingError)) condition (Err (connection.TransportError transport.FramingError)) p l c (λ h call a k f. large_fault old.fault s s' h c.run (large_cause condition s old h call a k c.told.1) f)
+close_fails link at old s s' condition (connection.TransportError (transport.Memory x)) p l c n i = absurd c.told
+close_fails link at old s s' condition (connection.TransportError (transport.Io x)) p l c n i = absurd c.told
+close_fails link at old s s' condition (connection.TransportError transport.IdleTimeoutElapsed) p l c n i = absurd c.told
+close_fails link at old s s' condition (connection.TransportError transport.DecodeError) p l c n i = absurd c.told
+close_fails link at old s s' condition (connection.TransportError transport.NotImplemented) p l c n i = absurd c.told
+close_fails link at old s s' condition connection.IllegalState p l c n i = absurd (i refl)
+close_fails link at old s s' condition connection.NotImplemented p l c n i = absurd c.told
+close_fails link at old s s' condition connection.NotFound p l c n i = absurd c.told
+close_fails link at old s s' condition connection.RemoteClosed p l c n i = absurd c.told
+close_fails link at old s s' condition (connection.RemoteClosedWithError x) p l c n i = absurd c.told
 
 -- it was asked, and pending is answered
-waits_to_close : {L : Type 0} (old : Peering L) (h : List Local) → old.progress ≡ progress.Closing → IsAskedToClose old h → Has (record old { replies = old.replies ++ pending old.name ∷ [] }) (Replied (pending old.name) ∷ h)
-waits_to_close {L} old h p w =
-    subst (λ (q : Progress). HasIn q (record old { replies = old.replies ++ pending old.name ∷ [] }) (Replied (pending old.name) ∷ h)) (sym p)
-    (record {
-      call = w.call;
-      name = w.name;
-      error = w.error;
+waits_to_close : {L : Type 0} (condition : Option (List ℕ)) (old : Peering L) (h : List Local) → old.progress ≡ progress.Closing → IsAskedToClose condition old h → IsToClose condition (record old { replies = old.replies ++ pending old.name ∷ [] }) (Replied (pending old.name) ∷ h)
+waits_to_close {L} condition old h p w =
+    record {
+      name = old.name;
+      earlier = (w.name, w.call) ∷ [];
       made = w.made;
-      replied = ap (λ (u : List NamedReply). u ++ pending old.name ∷ []) w.replied;
-      called = called_keeps w.call old.held h (pending old.name) tt w.called;
-      is_made = made_quiet old.fault old.held h (Replied (pending old.name) ∷ h) (quiet_replied (pending old.name) h) w.is_made;
-    })
+      has = subst (λ (q : Progress). HasIn q (record old { replies = old.replies ++ pending old.name ∷ [] }) (Replied (pending old.name) ∷ h)) (sym p)
+          (record {
+            call = w.call;
+            name = w.name;
+            error = condition;
+            made = w.made;
+            replied = ap (λ (u : List NamedReply). u ++ pending old.name ∷ []) w.replied;
+            called = called_keeps w.call old.held h (pending old.name) tt w.called;
+            is_made = made_quiet old.fault old.held h (Replied (pending old.name) ∷ h) (quiet_replied (pending old.name) h) w.is_made;
+          });
+    }
 
-pub asked_waits : {L : Type 0} (link : Ghosts L) (at n : ℕ) (old new : Peering L) → old.progress ≡ progress.Closing → Rested link at n (record old { replies = old.replies ++ pending old.name ∷ [] }) new → RestedFrom link at n (IsAskedToClose old) old new
-asked_waits {L} link at n old new p r =
+pub asked_waits : {L : Type 0} (link : Ghosts L) (at n : ℕ) (condition : Option (List ℕ)) (old new : Peering L) → old.progress ≡ progress.Closing
+    → RestedFrom link at n (IsToClose condition (record old { replies = old.replies ++ pending old.name ∷ [] })) (record old { replies = old.replies ++ pending old.name ∷ [] }) new → RestedFrom link at n (IsAskedToClose condition old) old new
+asked_waits {L} link at n condition old new p r =
     let es = r.run.events in
     let one = Replied (pending old.name) ∷ [] in
     let links : link_in (es ++ one) ≡ link_in es = link_in-append es one ∙ append-nil (link_in es) in
@@ -284,28 +303,29 @@ asked_waits {L} link at n old new p r =
         answers = r.run.answers ∙ append_assoc old.replies (pending old.name ∷ []) (replied_in es) ∙ ap (λ (u : List NamedReply). old.replies ++ u) (sym (replied_in-append es one));
         few = let z = ap reads_in links in omega (arith, z, r.run.few);
         kind = r.run.kind;
-        grows = λ h t a. subst (λ (u : List Local). Has new u) (sym (append_assoc es one h)) (r.run.grows (Replied (pending old.name) ∷ h) t (waits_to_close old h p a));
+        grows = λ h t a. subst (λ (u : List Local). Has new u) (sym (append_assoc es one h)) (r.run.grows (Replied (pending old.name) ∷ h) t (waits_to_close condition old h p a));
       };
-      settled = λ a. settled_left es one (r.settled a);
+      settled = λ a. settled_left new.held es one (r.settled a);
+      begun = r.begun;
     }
 
 -- the connection has stopped before: what was asked is answered in the step of the engine
-asked_ends : {L : Type 0} (link : Ghosts L) (at : ℕ) (old : Peering L) (s s' : State L) (fault : Option ConnectionFault) (h : List Local) (r : Ran link s s') → IsMoment at s r.given s' → moment_in h ≡ at → old.held ≡ Late s → is_stopped s'.phase ≡ true
+asked_ends : {L : Type 0} (link : Ghosts L) (at : ℕ) (condition : Option (List ℕ)) (old : Peering L) (s s' : State L) (fault : Option ConnectionFault) (h : List Local) (r : Ran link s s') → IsMoment at s r.given s' → moment_in h ≡ at → old.held ≡ Late s → is_stopped s'.phase ≡ true
     → (has_failed s'.phase ≡ true) ⊎ (Includes (link_in (moved r ++ h)) (NotWritten Full) ⊎ (s'.wire.codec.output ≡ []))
-    → ((call : Call) → IsRunning call s h → prepared_in (made_in h) ≡ prepared_of call → BeginsWithOpen (given_in h) → IsFaultIn old.fault s h → IsFaultIn fault s' (moved r ++ h)) → IsAskedToClose old h
+    → ((call : Call) → IsRunning call s h → prepared_in (made_in h) ≡ prepared_of call → BeginsWithOpen (given_in h) → IsFaultIn old.fault s h → IsFaultIn fault s' (moved r ++ h)) → IsAskedToClose condition old h
     → HasClosed (finished (record old { held = Late s'; fault = fault }) (close_reply (error_in (record old { held = Late s'; fault = fault })))) (Replied (answered old.name (close_reply (error_in (record old { held = Late s'; fault = fault })))) ∷ moved r ++ h)
-asked_ends {L} link at old s s' fault h r m t e z f g w =
+asked_ends {L} link at condition old s s' fault h r m t e z f g w =
     let mid = record old { held = Late s'; fault = fault } in
     let i : BeginsWithOpen (given_in h) × IsFaultIn old.fault s h = subst (λ (x : Held L). IsMadeIn old.fault x h) e w.is_made in
     let answers = replied_after h (passed r) ∙ w.replied in
-    finish_close mid s' (moved r ++ h) w.call w.name w.error refl z f (made_after h (passed r) ∙ w.made) (called_moves link at w.call old.held s s' h r m t e w.called)
+    finish_close mid s' (moved r ++ h) w.call w.name condition refl z f (made_after h (passed r) ∙ w.made) (called_moves link at w.call old.held s s' h r m t e w.called)
     (heard_open_more h r i.0, g w.call (is_running w.call old.held s h e w.called) (ap prepared_in w.made) i.0 i.1) (λ x. inr (ap (λ (u : List NamedReply). u ++ x ∷ []) answers))
 
-stopped_close : {L : Type 0} (link : Ghosts L) (at : ℕ) (old : Peering L) (s s' : State L) (fault : Option ConnectionFault) (r : Ran link s s') → reads_in r.events ≤ 1 → IsMoment at s r.given s' → old.held ≡ Late s → is_stopped s'.phase ≡ true
+stopped_close : {L : Type 0} (link : Ghosts L) (at : ℕ) (condition : Option (List ℕ)) (old : Peering L) (s s' : State L) (fault : Option ConnectionFault) (r : Ran link s s') → reads_in r.events ≤ 1 → IsMoment at s r.given s' → old.held ≡ Late s → is_stopped s'.phase ≡ true
     → ((h : List Local) → (has_failed s'.phase ≡ true) ⊎ (Includes (link_in (moved r ++ h)) (NotWritten Full) ⊎ (s'.wire.codec.output ≡ [])))
     → ((h : List Local) → moment_in h ≡ at → (call : Call) → IsRunning call s h → prepared_in (made_in h) ≡ prepared_of call → BeginsWithOpen (given_in h) → IsFaultIn old.fault s h → IsFaultIn fault s' (moved r ++ h))
-    → RestedFrom link at 1 (IsAskedToClose old) old (finished (record old { held = Late s'; fault = fault }) (close_reply (error_in (record old { held = Late s'; fault = fault }))))
-stopped_close {L} link at old s s' fault r few m e z f g =
+    → RestedFrom link at 1 (IsAskedToClose condition old) old (finished (record old { held = Late s'; fault = fault }) (close_reply (error_in (record old { held = Late s'; fault = fault }))))
+stopped_close {L} link at condition old s s' fault r few m e z f g =
     let mid = record old { held = Late s'; fault = fault } in
     let answer = answered old.name (close_reply (error_in mid)) in
     record {
@@ -316,14 +336,15 @@ stopped_close {L} link at old s s' fault r few m e z f g =
         answers = ap (λ (u : List NamedReply). old.replies ++ (u ++ answer ∷ [])) (sym (passed r).silent);
         few = subst (λ (es : List LinkEvent). reads_in es ≤ 1) (sym (passed r).link) few;
         kind = refl;
-        grows = λ h t a. inr (asked_ends link at old s s' fault h r m t e z (f h) (g h t) a);
+        grows = λ h t a. inr (asked_ends link at condition old s s' fault h r m t e z (f h) (g h t) a);
       };
       settled = λ a. absurd (cc (z, a));
+      begun = λ x. x;
     }
 
-pub close_rests : {L : Type 0} (link : Ghosts L) (at : ℕ) (old : Peering L) (s s' : State L) → old.held ≡ Late s → EngineStepped link at s (Ok step.Stopped) s' → RestedFrom link at 1 (IsAskedToClose old) old (finished (record old { held = Late s' }) (close_reply (error_in (record old { held = Late s' }))))
-close_rests link at old s s' e st =
-    stopped_close link at old s s' old.fault st.run st.few st.moment e st.told.stopped (λ h. written_after h st.run st.told.written) (λ h t call k prep o f. fault_same old.fault s s' h st.run st.told.phase f)
+pub close_rests : {L : Type 0} (link : Ghosts L) (at : ℕ) (condition : Option (List ℕ)) (old : Peering L) (s s' : State L) → old.held ≡ Late s → EngineStepped link at s (Ok step.Stopped) s' → RestedFrom link at 1 (IsAskedToClose condition old) old (finished (record old { held = Late s' }) (close_reply (error_in (record old { held = Late s' }))))
+close_rests link at condition old s s' e st =
+    stopped_close link at condition old s s' old.fault st.run st.few st.moment e st.told.stopped (λ h. written_after h st.run st.told.written) (λ h t call k prep o f. fault_same old.fault s s' h st.run st.told.phase f)
 
 -- a connection that has stopped neither works nor waits
 stopped_not_onward : (q r : Phase) → is_stopped q ≡ true → IsOnward q r → ⊥
@@ -375,30 +396,29 @@ stopped_fails link at s s' connection.NotFound z st n = absurd (stopped_not_refu
 stopped_fails link at s s' connection.RemoteClosed z st n = absurd st.told
 stopped_fails link at s s' (connection.RemoteClosedWithError x) z st n = absurd st.told
 
-pub close_fails_at_once : {L : Type 0} (link : Ghosts L) (at : ℕ) (old : Peering L) (s s' : State L) (e : ConnectionFault) → old.held ≡ Late s → is_stopped s.phase ≡ true → EngineStepped link at s (Err e) s' → ((x : _) → e ≡ connection.Memory x → ⊥)
-    → RestedFrom link at 1 (IsAskedToClose old) old (finished (record old { held = Late s'; fault = first_fault old.fault e }) (close_reply (error_in (record old { held = Late s'; fault = first_fault old.fault e }))))
-close_fails_at_once link at old s s' e l z st n =
+pub close_fails_at_once : {L : Type 0} (link : Ghosts L) (at : ℕ) (condition : Option (List ℕ)) (old : Peering L) (s s' : State L) (e : ConnectionFault) → old.held ≡ Late s → is_stopped s.phase ≡ true → EngineStepped link at s (Err e) s' → ((x : _) → e ≡ connection.Memory x → ⊥)
+    → RestedFrom link at 1 (IsAskedToClose condition old) old (finished (record old { held = Late s'; fault = first_fault old.fault e }) (close_reply (error_in (record old { held = Late s'; fault = first_fault old.fault e }))))
+close_fails_at_once link at condition old s s' e l z st n =
     let f = stopped_fails link at s s' e z st n in
-    stopped_close link at old s s' (first_fault old.fault e) st.run st.few st.moment l (failed_stops s'.phase f) (λ h. inl f) (λ h t call k prep o x. fault_failed link at call old.fault e s s' h st k o prep t n x)
+    stopped_close link at condition old s s' (first_fault old.fault e) st.run st.few st.moment l (failed_stops s'.phase f) (λ h. inl f) (λ h t call k prep o x. fault_failed link at call old.fault e s s' h st k o prep t n x)
 
 -- a close was called
 abbrev pub called_to_close : {L : Type 0} → Peering L → ℕ → Peering L
 called_to_close old name = record old { name = name; progress = progress.Closing }
 
-is_asked_to_close : {L : Type 0} (old : Peering L) (name at : ℕ) (condition : Option (List ℕ)) (h : List Local) → IsOpen old h → IsAskedToClose (called_to_close old name) (Made at name (Close condition) ∷ h)
+is_asked_to_close : {L : Type 0} (old : Peering L) (name at : ℕ) (condition : Option (List ℕ)) (h : List Local) → IsOpen old h → IsAskedToClose condition (called_to_close old name) (Made at name (Close condition) ∷ h)
 is_asked_to_close old name at condition h w =
     let q = quiet_made at name (Close condition) h in
     record {
       call = w.call;
       name = w.name;
-      error = condition;
       made = ap (λ (u : List (ℕ × Call)). (name, Close condition) ∷ u) w.made;
       replied = w.replied;
       called = called_quiet w.call old.held h (Made at name (Close condition) ∷ h) q w.called.caused w.called;
       is_made = made_quiet old.fault old.held h (Made at name (Close condition) ∷ h) q w.is_made;
     }
 
-pub closed : {L : Type 0} (link : Ghosts L) (at n name : ℕ) (condition : Option (List ℕ)) (old new : Peering L) → n ≤ 2 ^ 63 → old.progress ≡ progress.Open → RestedFrom link at n (IsAskedToClose (called_to_close old name)) (called_to_close old name) new → Stepped link old (Made at name (Close condition)) new
+pub closed : {L : Type 0} (link : Ghosts L) (at n name : ℕ) (condition : Option (List ℕ)) (old new : Peering L) → n ≤ 2 ^ 63 → old.progress ≡ progress.Open → RestedFrom link at n (IsAskedToClose condition (called_to_close old name)) (called_to_close old name) new → Stepped link old (Made at name (Close condition)) new
 closed {L} link at n name condition old new l e r =
     record {
       events = r.run.events;
@@ -408,6 +428,7 @@ closed {L} link at n name condition old new l e r =
       few = omega (arith, r.run.few, l);
       kind = r.run.kind;
       settled = r.settled;
+      begun = λ b. r.begun;
       grows = λ h x. r.run.grows (Made at name (Close condition) ∷ h) refl (is_asked_to_close old name at condition h (subst (λ (q : Progress). HasIn q old h) e x));
     }
 
@@ -423,6 +444,7 @@ polled link at n old new l r =
       few = omega (arith, r.run.few, l);
       kind = r.run.kind;
       settled = r.settled;
+      begun = λ b. r.begun;
       grows = λ h x. r.run.grows (Polled at ∷ h) refl (has_polled old at h x);
     }
 
@@ -436,5 +458,6 @@ polled_idle link at old n =
       few = omega arith;
       kind = refl;
       settled = λ a. absurd (n a);
+      begun = λ b. b;
       grows = λ h x. has_polled old at h x;
     }

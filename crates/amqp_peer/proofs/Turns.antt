@@ -8,6 +8,7 @@ use Rattle.amqp_engine.specs.declared.engine.EngineStep.{EngineStep}
 use Rattle.amqp_engine.specs.declared.engine.EngineStep.TheVariants as step
 use Rattle.amqp_engine.specs.declared.error.Error.{Error as ConnectionFault}
 use Rattle.amqp_engine.specs.declared.error.Error.TheVariants as connection
+use Rattle.amqp_engine.specs.Calls.{Steps}
 use Rattle.amqp_engine.specs.Outcomes.{Stepped as EngineStepped, HasClosed as EngineClosed}
 use Rattle.amqp_engine.specs.Phases.{is_stopped}
 use Rattle.amqp_engine.specs.State.{State}
@@ -34,9 +35,10 @@ use Rattle.amqp_peer.specs.declared.peer.Progress.{Progress}
 use Rattle.amqp_peer.specs.History.{Local, Made, Polled}
 use Rattle.amqp_peer.specs.Held.{FitsCall, IsEarly, IsLate, IsReadyWith, IsReady, IsExchangedWith, IsExchanged, IsActive, SteppedLate, ClosedLate, RanEarly, BeganWith, BeganPlain, bound, IsConnecting, Connected}
 use Rattle.amqp_peer.specs.Peering.{Peering, Has, HasIn, MayCall, MayCallIn, IsMadeIn}
-use Rattle.amqp_peer.specs.Prepared.{prepared_of, sasl_of}
-use Rattle.amqp_peer.specs.Runs.{Stepped, Advanced, Worked, Rested, RestedFrom, IsAsked, IsAskedToClose, Refused, told, finished, concluded, greeted, close_reply, error_in, first_fault, open_error_of, without_memory, IsCloseNoted}
+use Rattle.amqp_peer.specs.Prepared.{prepared_of, sasl_of, error_for}
+use Rattle.amqp_peer.specs.Runs.{Stepped, Advanced, AdvancedFrom, IsToClose, Worked, Rested, RestedFrom, IsAsked, IsAskedToClose, Refused, told, finished, concluded, greeted, close_reply, error_in, first_fault, open_error_of, without_memory, IsCloseNoted}
 use Rattle.amqp_peer.proofs.Advances.{worked_advances, pending_rests, stopped_rests, failed_advances, rested_more}
+use Rattle.amqp_peer.proofs.Parts.{pending_part}
 use Rattle.amqp_peer.proofs.Openings.{early_rests, early_fails, early_exchanged, exchanged_ready, connected, connect_fails}
 use Rattle.amqp_peer.proofs.Starts.{close_queued, close_kept, close_fails, close_rests, close_worked_not, close_pending_not, close_fails_at_once, begins_with, begins_plain, begins_refused}
 
@@ -52,10 +54,11 @@ record LateStep {L : Type 0} (link : Ghosts L) (at : ℕ) (held : Held L) (resul
   pub is : held ≡ Late s
   pub becomes : held' ≡ Late s'
   pub step : EngineStepped link at s result s'
+  pub does : Steps link at s result s'
 
 late_step : {L : Type 0} (link : Ghosts L) (at : ℕ) (held : Held L) (result : Result EngineStep ConnectionFault) (held' : Held L) → SteppedLate link at held result held' → LateStep link at held result held'
 late_step link at (Early o p) result held' h = absurd h
-late_step link at (Late s) result held' h = record { s = s; s' = h.0; is = refl; becomes = h.1; step = h.2 }
+late_step link at (Late s) result held' h = record { s = s; s' = h.0; is = refl; becomes = h.1; step = h.2; does = h.3 }
 late_step link at (Unopened c) result held' h = absurd h
 late_step link at Moving result held' h = absurd h
 
@@ -70,7 +73,7 @@ worked_step {L} link at old held h =
 pub pending_step : {L : Type 0} (link : Ghosts L) (at : ℕ) (old : Peering L) (held : Held L) → SteppedLate link at old.held (Ok step.Pending) held → Rested link at 1 old (record old { held = held })
 pending_step {L} link at old held h =
     let k = late_step link at old.held (Ok step.Pending) held h in
-    subst (λ (x : Held L). Rested link at 1 old (record old { held = x })) (sym k.becomes) (pending_rests link at old k.s k.s' k.is k.step)
+    subst (λ (x : Held L). Rested link at 1 old (record old { held = x })) (sym k.becomes) (pending_rests link at old k.s k.s' k.is (pending_part link at k.s k.s' k.does) k.step)
 
 pub stopped_step : {L : Type 0} (link : Ghosts L) (at : ℕ) (old : Peering L) (held : Held L) → SteppedLate link at old.held (Ok step.Stopped) held → Rested link at 1 old (concluded (record old { held = held }))
 stopped_step {L} link at old held h =
@@ -110,24 +113,24 @@ is_true false n = absurd (n refl)
 stopped_late : {L : Type 0} (held : Held L) (s : State L) → held ≡ Late s → (IsActive held → ⊥) → is_stopped s.phase ≡ true
 stopped_late {L} held s e n = is_true (is_stopped s.phase) (λ a. n (subst (λ (x : Held L). IsActive x) (sym e) a))
 
-close_with : {L : Type 0} (link : Ghosts L) (at : ℕ) (old : Peering L) (s s' : State L) (result : EngineStep) → old.held ≡ Late s → is_stopped s.phase ≡ true → EngineStepped link at s (Ok result) s' → RestedFrom link at 1 (IsAskedToClose old) old (finished (record old { held = Late s' }) (close_reply (error_in (record old { held = Late s' }))))
-close_with link at old s s' step.Worked e z st = absurd (close_worked_not link at s s' z st)
-close_with link at old s s' step.Pending e z st = absurd (close_pending_not link at s s' z st)
-close_with link at old s s' step.Stopped e z st = close_rests link at old s s' e st
+close_with : {L : Type 0} (link : Ghosts L) (at : ℕ) (condition : Option (List ℕ)) (old : Peering L) (s s' : State L) (result : EngineStep) → old.held ≡ Late s → is_stopped s.phase ≡ true → EngineStepped link at s (Ok result) s' → RestedFrom link at 1 (IsAskedToClose condition old) old (finished (record old { held = Late s' }) (close_reply (error_in (record old { held = Late s' }))))
+close_with link at condition old s s' step.Worked e z st = absurd (close_worked_not link at s s' z st)
+close_with link at condition old s s' step.Pending e z st = absurd (close_pending_not link at s s' z st)
+close_with link at condition old s s' step.Stopped e z st = close_rests link at condition old s s' e st
 
-pub close_step : {L : Type 0} (link : Ghosts L) (at : ℕ) (old : Peering L) (held : Held L) (result : EngineStep) → (IsActive old.held → ⊥) → SteppedLate link at old.held (Ok result) held → RestedFrom link at 1 (IsAskedToClose old) old (finished (record old { held = held }) (close_reply (error_in (record old { held = held }))))
-close_step {L} link at old held result n h =
+pub close_step : {L : Type 0} (link : Ghosts L) (at : ℕ) (condition : Option (List ℕ)) (old : Peering L) (held : Held L) (result : EngineStep) → (IsActive old.held → ⊥) → SteppedLate link at old.held (Ok result) held → RestedFrom link at 1 (IsAskedToClose condition old) old (finished (record old { held = held }) (close_reply (error_in (record old { held = held }))))
+close_step {L} link at condition old held result n h =
     let k = late_step link at old.held (Ok result) held h in
-    subst (λ (x : Held L). RestedFrom link at 1 (IsAskedToClose old) old (finished (record old { held = x }) (close_reply (error_in (record old { held = x }))))) (sym k.becomes)
-    (close_with link at old k.s k.s' result k.is (stopped_late old.held k.s k.is n) k.step)
+    subst (λ (x : Held L). RestedFrom link at 1 (IsAskedToClose condition old) old (finished (record old { held = x }) (close_reply (error_in (record old { held = x }))))) (sym k.becomes)
+    (close_with link at condition old k.s k.s' result k.is (stopped_late old.held k.s k.is n) k.step)
 
-pub close_failed_step : {L : Type 0} (link : Ghosts L) (at : ℕ) (old : Peering L) (held : Held L) (e x : ConnectionFault) → (IsActive old.held → ⊥) → SteppedLate link at old.held (Err e) held → without_memory e ≡ Ok x
-    → RestedFrom link at 1 (IsAskedToClose old) old (finished (record old { held = held; fault = first_fault old.fault x }) (close_reply (error_in (record old { held = held; fault = first_fault old.fault x }))))
-close_failed_step {L} link at old held e x n h w =
+pub close_failed_step : {L : Type 0} (link : Ghosts L) (at : ℕ) (condition : Option (List ℕ)) (old : Peering L) (held : Held L) (e x : ConnectionFault) → (IsActive old.held → ⊥) → SteppedLate link at old.held (Err e) held → without_memory e ≡ Ok x
+    → RestedFrom link at 1 (IsAskedToClose condition old) old (finished (record old { held = held; fault = first_fault old.fault x }) (close_reply (error_in (record old { held = held; fault = first_fault old.fault x }))))
+close_failed_step {L} link at condition old held e x n h w =
     let i = kept e x w in
     let k = late_step link at old.held (Err x) held (subst (λ (y : ConnectionFault). SteppedLate link at old.held (Err y) held) (sym i.same) h) in
-    subst (λ (z : Held L). RestedFrom link at 1 (IsAskedToClose old) old (finished (record old { held = z; fault = first_fault old.fault x }) (close_reply (error_in (record old { held = z; fault = first_fault old.fault x }))))) (sym k.becomes)
-    (close_fails_at_once link at old k.s k.s' x k.is (stopped_late old.held k.s k.is n) k.step i.not_memory)
+    subst (λ (z : Held L). RestedFrom link at 1 (IsAskedToClose condition old) old (finished (record old { held = z; fault = first_fault old.fault x }) (close_reply (error_in (record old { held = z; fault = first_fault old.fault x }))))) (sym k.becomes)
+    (close_fails_at_once link at condition old k.s k.s' x k.is (stopped_late old.held k.s k.is n) k.step i.not_memory)
 
 -- ---- a Close is queued
 
@@ -147,24 +150,27 @@ late_close link error Moving result held' h = absurd h
 pub closed_late : {L : Type 0} (link : Ghosts L) (error : Option AmqpError) (held : Held L) (result : Result Unit ConnectionFault) (held' : Held L) → ClosedLate link error held result held' → IsLate held'
 closed_late {L} link error held result held' h = let k = late_close link error held result held' h in subst (λ (x : Held L). IsLate x) (sym k.becomes) tt
 
-pub queue_step : {L : Type 0} (link : Ghosts L) (at : ℕ) (old : Peering L) (held : Held L) (error : Option AmqpError) (u : Unit {0}) → old.progress ≡ progress.Closing → ClosedLate link error old.held (Ok u) held → Advanced link at 0 old (record old { held = held })
-queue_step {L} link at old held error u p h =
-    let k = late_close link error old.held (Ok u) held h in
-    subst (λ (x : Held L). Advanced link at 0 old (record old { held = x })) (sym k.becomes) (close_queued link at old k.s k.s' error u p k.is k.close)
+pub queue_step : {L : Type 0} (link : Ghosts L) (at : ℕ) (old : Peering L) (held : Held L) (condition : Option (List ℕ)) (u : Unit {0}) → old.progress ≡ progress.Closing → ClosedLate link (error_for condition) old.held (Ok u) held → AdvancedFrom link at 0 (IsToClose condition old) old (record old { held = held })
+queue_step {L} link at old held condition u p h =
+    let k = late_close link (error_for condition) old.held (Ok u) held h in
+    subst (λ (x : Held L). AdvancedFrom link at 0 (IsToClose condition old) old (record old { held = x })) (sym k.becomes) (close_queued link at old k.s k.s' condition u p k.is k.close)
 
-noted_as : {L : Type 0} (link : Ghosts L) (at : ℕ) (old : Peering L) (s s' : State L) (error : Option AmqpError) (e : ConnectionFault) (new : Peering L) → old.progress ≡ progress.Closing → old.held ≡ Late s → EngineClosed link s error (Err e) s' → IsCloseNoted e (record old { held = Late s' }) new → Advanced link at 0 old new
-noted_as link at old s s' error (connection.Memory a) new p l c n = absurd n
-noted_as {L} link at old s s' error (connection.TransportError t) new p l c n = subst (λ (x : Peering L). Advanced link at 0 old x) (sym n) (close_fails link at old s s' error (connection.TransportError t) p l c (λ x m. absurd (cc m)) (λ m. absurd (cc m)))
-noted_as {L} link at old s s' error connection.IllegalState new p l c n = subst (λ (x : Peering L). Advanced link at 0 old x) (sym n) (close_kept link at old s s' error p l c)
-noted_as {L} link at old s s' error connection.NotImplemented new p l c n = absurd c.told
-noted_as {L} link at old s s' error connection.NotFound new p l c n = absurd c.told
-noted_as {L} link at old s s' error connection.RemoteClosed new p l c n = absurd c.told
-noted_as {L} link at old s s' error (connection.RemoteClosedWithError x) new p l c n = absurd c.told
+noted_as : {L : Type 0} (link : Ghosts L) (at : ℕ) (old : Peering L) (s s' : State L) (condition : Option (List ℕ)) (e : ConnectionFault) (new : Peering L) → old.progress ≡ progress.Closing → old.held ≡ Late s → EngineClosed link s (error_for condition) (Err e) s' → IsCloseNoted e (record old { held = Late s' }) new
+    → AdvancedFrom link at 0 (IsToClose condition old) old new
+noted_as link at old s s' condition (connection.Memory a) new p l c n = absurd n
+noted_as {L} link at old s s' condition (connection.TransportError t) new p l c n =
+    subst (λ (x : Peering L). AdvancedFrom link at 0 (IsToClose condition old) old x) (sym n) (close_fails link at old s s' condition (connection.TransportError t) p l c (λ x m. absurd (cc m)) (λ m. absurd (cc m)))
+noted_as {L} link at old s s' condition connection.IllegalState new p l c n = subst (λ (x : Peering L). AdvancedFrom link at 0 (IsToClose condition old) old x) (sym n) (close_kept link at old s s' condition p l c)
+noted_as {L} link at old s s' condition connection.NotImplemented new p l c n = absurd c.told
+noted_as {L} link at old s s' condition connection.NotFound new p l c n = absurd c.told
+noted_as {L} link at old s s' condition connection.RemoteClosed new p l c n = absurd c.told
+noted_as {L} link at old s s' condition (connection.RemoteClosedWithError x) new p l c n = absurd c.told
 
-pub note_step : {L : Type 0} (link : Ghosts L) (at : ℕ) (old : Peering L) (held : Held L) (error : Option AmqpError) (e : ConnectionFault) (new : Peering L) → old.progress ≡ progress.Closing → ClosedLate link error old.held (Err e) held → IsCloseNoted e (record old { held = held }) new → Advanced link at 0 old new
-note_step {L} link at old held error e new p h n =
-    let k = late_close link error old.held (Err e) held h in
-    noted_as link at old k.s k.s' error e new p k.is k.close (subst (λ (x : Held L). IsCloseNoted e (record old { held = x }) new) k.becomes n)
+pub note_step : {L : Type 0} (link : Ghosts L) (at : ℕ) (old : Peering L) (held : Held L) (condition : Option (List ℕ)) (e : ConnectionFault) (new : Peering L) → old.progress ≡ progress.Closing → ClosedLate link (error_for condition) old.held (Err e) held → IsCloseNoted e (record old { held = held }) new
+    → AdvancedFrom link at 0 (IsToClose condition old) old new
+note_step {L} link at old held condition e new p h n =
+    let k = late_close link (error_for condition) old.held (Err e) held h in
+    noted_as link at old k.s k.s' condition e new p k.is k.close (subst (λ (x : Held L). IsCloseNoted e (record old { held = x }) new) k.becomes n)
 
 -- ---- the exchange of headers
 
@@ -331,5 +337,6 @@ misfit link at name call old new may n s =
       few = s.few;
       kind = s.kind;
       settled = s.settled;
+      begun = s.begun;
       grows = λ h x. absurd (n (fitting old.progress old call h may x));
     }

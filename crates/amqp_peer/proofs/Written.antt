@@ -21,7 +21,7 @@ use Rattle.amqp_opening.proofs.Exchanges.{gated_from, gated_passed}
 use Rattle.amqp_opening.proofs.Openings.{has_guarded}
 use Rattle.amqp_words.specs.declared.call.Call.{Call}
 use Rattle.amqp_peer.specs.declared.prepared.Prepared.{Prepared}
-use Rattle.amqp_peer.specs.Causes.{MadeIn, IsReadTo, IsOut}
+use Rattle.amqp_peer.specs.Causes.{MadeIn, IsReadTo, IsQueued, IsOut}
 use Rattle.amqp_peer.specs.Gated.{IsTalk, IsGatedIn}
 use Rattle.amqp_peer.specs.History.{Local, link_in, given_in, sent_in, read_in, wrote_in, at_link}
 use Rattle.amqp_peer.specs.Peering.{IsExchanging, IsRunning, HasWritten}
@@ -40,20 +40,20 @@ intro_read true x rest unwritten events h =
 intro_read false x rest unwritten events h = ([], h.heard)
 
 -- what was written before the AMQP header, and what of that header
-record Introduced (unwritten wrote : List ℕ) : Type 0 where
+pub record Introduced (unwritten wrote : List ℕ) : Type 0 where
   pub head : List ℕ
   pub part : List ℕ
   pub is : wrote ≡ head ++ part
   pub header : part ++ unwritten ≡ amqp_header
 
-intro_wrote : (layer : Bool) (x : Authentication) (rest unwritten : List ℕ) (events : List LinkEvent) → HasIntro layer peer_mechanism x rest unwritten events → Introduced unwritten (wrote_of events)
+pub intro_wrote : (layer : Bool) (x : Authentication) (rest unwritten : List ℕ) (events : List LinkEvent) → HasIntro layer peer_mechanism x rest unwritten events → Introduced unwritten (wrote_of events)
 intro_wrote true x rest unwritten events h = record { head = said h.sent; part = h.part; is = h.wrote; header = h.header }
 intro_wrote false x rest unwritten events h = record { head = []; part = wrote_of events; is = refl; header = h.wrote }
 
 -- ---- what was written
 
 -- behind a part of the header, the rest of it and frames
-talk : (part unwritten since output bytes : List ℕ) → part ++ unwritten ≡ amqp_header → since ++ output ≡ unwritten ++ bytes → (part ++ since) ++ output ≡ amqp_header ++ bytes
+pub talk : (part unwritten since output bytes : List ℕ) → part ++ unwritten ≡ amqp_header → since ++ output ≡ unwritten ++ bytes → (part ++ since) ++ output ≡ amqp_header ++ bytes
 talk part unwritten since output bytes h o =
     append_assoc part since output ∙ ap (λ (u : List ℕ). part ++ u) o ∙ sym (append_assoc part unwritten bytes) ∙ ap (λ (u : List ℕ). u ++ bytes) h
 
@@ -91,9 +91,9 @@ gated_running (Some c) call s h k m =
 pub written_running : {L : Type 0} (call : Call) (s : State L) (h : List Local) → IsRunning call s h → HasWritten call h
 written_running call s h k = gated_running (sasl_of call) call s h k k.made
 
--- all that was queued is written, unless the link was full
-pub out_running : {L : Type 0} (call : Call) (s : State L) (h : List Local) → IsRunning call s h → Includes (link_in h) (NotWritten Full) ⊎ (s.wire.codec.output ≡ []) → IsOut h
-out_running call s h k all =
+-- what was queued is written, but for what the codec still has
+abbrev pub queued_running : {L : Type 0} (call : Call) (s : State L) (h : List Local) → IsRunning call s h → IsQueued h
+queued_running call s h k =
     let i = intro_wrote k.layer k.x (amqp_header ++ k.arrived) k.unwritten k.before k.intro in
     record {
       head = i.head;
@@ -101,8 +101,11 @@ out_running call s h k all =
       wrote = ap (λ (u : List ℕ). u ++ s.wire.codec.output) (ap wrote_of k.passed ∙ wrote_of-append k.since k.before ∙ ap (λ (u : List ℕ). u ++ wrote_of k.since) i.is ∙ append_assoc i.head i.part (wrote_of k.since))
           ∙ append_assoc i.head (i.part ++ wrote_of k.since) s.wire.codec.output
           ∙ ap (λ (u : List ℕ). i.head ++ u) (talk i.part k.unwritten (wrote_of k.since) s.wire.codec.output (bytes_of_all (sent_in h)) i.header k.runs.out);
-      all = all;
     }
+
+-- all of it is, unless the link was full
+pub out_running : {L : Type 0} (call : Call) (s : State L) (h : List Local) → IsRunning call s h → Includes (link_in h) (NotWritten Full) ⊎ (s.wire.codec.output ≡ []) → IsOut h
+out_running call s h k all = record { queued = queued_running call s h k; all = all }
 
 -- ---- what was read
 

@@ -15,7 +15,7 @@ use Rattle.amqp_transport.specs.declared.transport.Error.{Error as TransportFaul
 use Rattle.amqp_transport.specs.declared.transport.Error.TheVariants as fault
 use Rattle.amqp_transport.specs.Causes.{IsUnspelled}
 use Rattle.amqp_transport.specs.Kinds.{amqp_spells, no_frame}
-use Rattle.amqp_transport.specs.Stream.{Joined}
+use Rattle.amqp_transport.specs.Stream.{Joined, IsPart}
 use Rattle.amqp_engine.specs.declared.error.Error.{Error as ConnectionFault}
 use Rattle.amqp_engine.specs.declared.error.Error.TheVariants as connection
 use Rattle.amqp_engine.specs.Calls.{IsTooLarge}
@@ -31,13 +31,15 @@ use Rattle.amqp_opening.specs.declared.authentication.SaslCall.{SaslCall}
 use Rattle.amqp_opening.specs.Authentication.{peer_mechanism, MadeFor, HasAllowedTexts}
 use Rattle.amqp_opening.specs.Opening.{amqp_header, IsOpeningCause}
 use Rattle.amqp_words.specs.declared.call.Call.{Call}
+use Rattle.amqp_words.specs.declared.call.Call.TheVariants.{Close as CloseCall}
 use Rattle.amqp_words.specs.declared.open_error.OpenError.TheVariants as failed
 use Rattle.amqp_words.specs.declared.reply.Reply.{Reply}
 use Rattle.amqp_words.specs.declared.reply.Reply.TheVariants as reply
+use Rattle.amqp_words.specs.declared.reply.NamedReply.{NamedReply}
 use Rattle.amqp_transport.specs.Wire.{idle_of}
 use Rattle.amqp_peer.specs.declared.prepared.Prepared.{Prepared}
-use Rattle.amqp_peer.specs.Prepared.{prepared_of, sasl_of}
-use Rattle.amqp_peer.specs.History.{Local, Made, Polled, AtLink, Exchanged, Got, Put, Replied, made_in, link_in, given_in, sent_in, moment_in, since_in, Once}
+use Rattle.amqp_peer.specs.Prepared.{prepared_of, sasl_of, error_for}
+use Rattle.amqp_peer.specs.History.{Local, Made, Polled, AtLink, Exchanged, Got, Put, Replied, made_in, link_in, given_in, sent_in, replied_in, moment_in, since_in, Once}
 
 -- the exchange is that of the SASL layer, if there is one
 abbrev pub MadeIn : Option SaslCall → Bool → Authentication → Type 0
@@ -109,12 +111,25 @@ pub record IsReadTo (h : List Local) (rest : List ℕ) : Type 0 where
   pub read : read_of (link_in h) ≡ head ++ (amqp_header ++ behind)
   pub joined : Joined 0 amqp_spells behind (given_in h) rest
 
--- behind the AMQP header the frames that were queued are written, unless the link was full
-pub record IsOut (h : List Local) : Type 0 where
+-- behind the AMQP header the frames that were queued were written, but for what is still to go out
+pub record IsQueued (h : List Local) : Type 0 where
   pub head : List ℕ
   pub out : List ℕ
   pub wrote : wrote_of (link_in h) ++ out ≡ head ++ (amqp_header ++ bytes_of_all (sent_in h))
-  pub all : Includes (link_in h) (NotWritten Full) ⊎ (out ≡ [])
+
+-- and nothing is, unless the link was full
+pub record IsOut (h : List Local) : Type 0 where
+  pub queued : IsQueued h
+  pub all : Includes (link_in h) (NotWritten Full) ⊎ (queued.out ≡ [])
+
+-- each whole frame that was read was taken, or no frame was sent yet
+abbrev pub IsTakenUp : List Local → Type 0
+IsTakenUp h = (sent_in h ≡ []) ⊎ ((rest : List ℕ) × IsReadTo h rest × IsPart rest)
+
+-- the frames of an end are those of the bytes that it read and wrote, if it has any
+pub record IsTied (h : List Local) : Type 0 where
+  pub heard : (given_in h ≡ []) ⊎ ((rest : List ℕ) × IsReadTo h rest)
+  pub said : (sent_in h ≡ []) ⊎ IsQueued h
 
 -- ---- causes
 
@@ -131,18 +146,30 @@ pub record IsParted (h : List Local) : Type 0 where
   pub said : EndsWithClose (sent_in h)
   pub out : IsOut h
 
--- no frame came for the idle time
+-- the exchange of headers ends here, at which the peer's was read
+abbrev pub EndsExchange : List Local → Type 0
+EndsExchange [] = ⊥
+EndsExchange (Made at name call ∷ h) = ⊥
+EndsExchange (Polled at ∷ h) = ⊥
+EndsExchange (AtLink x ∷ h) = ⊥
+EndsExchange (Exchanged ∷ h) = (head : List ℕ) × (rest : List ℕ) × (read_of (link_in h) ≡ head ++ (amqp_header ++ rest))
+EndsExchange (Got x ∷ h) = ⊥
+EndsExchange (Put x ∷ h) = ⊥
+EndsExchange (Replied r ∷ h) = ⊥
+
+-- behind the headers no frame came for the idle time
 pub record HasIdled (h : List Local) : Type 0 where
+  pub began : Once EndsExchange h
+  pub opens : BeginsWithOpen (sent_in h)
   pub runs : 0 < idle_with (prepared_in (made_in h))
   pub passed : since_in h + idle_with (prepared_in (made_in h)) ≤ moment_in h
 
--- an own frame: Open or a Close of the calls, an empty frame, or a Close that answers or rejects
+-- a frame of a call: the Open of the first, or the Close of the last
 pub data IsOwn (calls : List (ℕ × Call)) : Frame → Type 0 where
   opening : (p : Prepared) → prepared_in calls ≡ Some p → IsOwn calls (open_frame p.end)
-  closing : (error : Option AmqpError) → IsOwn calls (close_frame error)
-  beating : IsOwn calls no_frame
+  closing : (name : ℕ) (condition : Option (List ℕ)) (earlier : List (ℕ × Call)) → calls ≡ (name, CloseCall condition) ∷ earlier → IsOwn calls (close_frame (error_for condition))
 
--- an own frame is above the limit
+-- a frame of a call is above the limit
 pub record IsOverlarge (h : List Local) : Type 0 where
   pub limit : ℕ
   pub x : Frame
@@ -218,3 +245,27 @@ AllCaused (Exchanged ∷ h) = AllCaused h
 AllCaused (Got x ∷ h) = AllCaused h
 AllCaused (Put x ∷ h) = AllCaused h
 AllCaused (Replied r ∷ h) = HasCause h r.reply × AllCaused h
+
+-- ---- an end that does not go on
+
+-- a reply behind which its connection is over
+abbrev pub IsLast : Reply → Type 0
+IsLast reply.Pending = ⊥
+IsLast reply.Connection = ⊥
+IsLast reply.Closed = ⊤
+IsLast (reply.OpenError e) = ⊤
+IsLast (reply.ConnectionError e) = ⊤
+
+-- the transport failed
+pub record IsBroken (h : List Local) : Type 0 where
+  pub fault : TransportFault
+  pub cause : Once (TransportCause fault) h
+
+-- Why an end does not go on: nothing was called, its connection was answered to be over, the peer's Close was read, another frame came in
+-- place of Open, or the transport failed.
+pub data IsSpent (h : List Local) : Type 0 where
+  uncalled : made_in h ≡ [] → IsSpent h
+  answered : (before : List NamedReply) (last : NamedReply) → replied_in h ≡ before ++ last ∷ [] → IsLast last.reply → IsSpent h
+  left : EndsWithClose (given_in h) → IsSpent h
+  mistaken : IsOther (given_in h) → IsSpent h
+  broken : IsBroken h → IsSpent h

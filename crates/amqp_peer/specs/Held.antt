@@ -6,6 +6,7 @@ use Rattle.amqp_composites.specs.declared.error.Error.{Error as AmqpError}
 use Rattle.amqp_frames.specs.declared.shared.ConnectionState.{ConnectionState}
 use Rattle.amqp_frames.specs.declared.shared.ConnectionState.TheVariants as state
 use Rattle.amqp_frames.specs.declared.shared.ConnectionStopReason.{ConnectionStopReason}
+use Rattle.amqp_transport.specs.Stream.{IsPart}
 use Rattle.amqp_transport.specs.Wire.{Wire, idle_of}
 use Rattle.sasl_gate.specs.declared.gate.negotiation.Phase.TheVariants.{Header as HeaderPhase}
 use Rattle.amqp_opening.specs.declared.authentication.Authentication.{Authentication}
@@ -14,7 +15,7 @@ use Rattle.amqp_opening.specs.declared.opening.OpeningPoll.{OpeningPoll}
 use Rattle.amqp_opening.specs.declared.opening.Stage.{Stage}
 use Rattle.amqp_opening.specs.declared.opening.Stage.TheVariants.{Idle, Negotiating, Header, Exchanged, Ended}
 use Rattle.amqp_opening.specs.Authentication.{peer_mechanism}
-use Rattle.amqp_opening.specs.Opening.{Opened, begun as begun_with, begun_plain, IsUnderWay, Ran as OpeningRan}
+use Rattle.amqp_opening.specs.Opening.{Opened, begun as begun_with, begun_plain, IsUnderWay, IsAtRest, Ran as OpeningRan}
 use Rattle.amqp_engine.specs.declared.engine.EngineStep.{EngineStep}
 use Rattle.amqp_engine.specs.declared.error.Error.{Error as ConnectionFault}
 use Rattle.amqp_engine.specs.Calls.{OpensTo, Steps}
@@ -100,6 +101,13 @@ IsActive (Early o p) = IsReadyWith o p
 IsActive (Late s) = is_stopped s.phase ≡ false
 IsActive (Unopened c) = ⊥
 IsActive Moving = ⊥
+
+-- what is read next is not there whole: of the exchange of headers, or a frame of a connection that has begun
+abbrev pub IsSorted : {L : Type 0} → Held L → Type 0
+IsSorted (Early o p) = IsAtRest peer_mechanism o
+IsSorted (Late s) = IsPart s.wire.codec.input
+IsSorted (Unopened c) = ⊤
+IsSorted Moving = ⊤
 
 -- the link that is held, or another where it is on its way
 abbrev pub link_at : {L : Type 0} → L → Held L → L

@@ -1,5 +1,5 @@
 -- An end, in words of what happened at it.
-use Rattle.std.specs.Prelude.{◌≡◌, ◌⊎◌, ℕ, List, [], ◌∷◌, ◌++◌, Bool, false, Option, Some, None}
+use Rattle.std.specs.Prelude.{◌≡◌, ◌⊎◌, ℕ, List, [], ◌∷◌, ◌++◌, Bool, true, false, Option, Some, None}
 use Rattle.amqp_wire.specs.Events.{LinkEvent}
 use Rattle.amqp_engine.specs.declared.error.Error.{Error as ConnectionFault}
 use Rattle.amqp_engine.specs.declared.error.Error.TheVariants as connection
@@ -25,9 +25,9 @@ use Rattle.amqp_peer.specs.declared.peer.Progress.{Progress}
 use Rattle.amqp_peer.specs.declared.peer.Progress.TheVariants as progress
 use Rattle.amqp_peer.specs.declared.prepared.Prepared.{Prepared}
 use Rattle.amqp_peer.specs.Calls.{IsFirstCall, IsClose}
-use Rattle.amqp_peer.specs.Causes.{MadeIn, BeginsWithOpen, IsOther, IsHeardOpen, TransportCause, AllCaused}
+use Rattle.amqp_peer.specs.Causes.{MadeIn, BeginsWithOpen, IsOther, IsHeardOpen, TransportCause, AllCaused, IsBroken, EndsExchange}
 use Rattle.amqp_peer.specs.Gated.{IsGatedIn}
-use Rattle.amqp_peer.specs.Held.{IsBusy, link_at, with_link, nothing_held}
+use Rattle.amqp_peer.specs.Held.{IsMidway, IsBusy, link_at, with_link, nothing_held}
 use Rattle.amqp_peer.specs.History.{Local, made_in, link_in, given_in, sent_in, replied_in, read_in, wrote_in, since_in, Once}
 use Rattle.amqp_peer.specs.Prepared.{prepared_of, sasl_of}
 use Rattle.amqp_peer.specs.Replies.{pending, connection, open_failed, answered, IsCloseEnd}
@@ -64,10 +64,16 @@ pub record IsUntouched {L : Type 0} (o : Opened L Authentication) : Type 0 where
   pub output : o.negotiation.codec.output ≡ []
   pub phase : o.negotiation.phase ≡ HeaderPhase
 
+-- it is known with what the connection begins
+abbrev pub IsKnown : Option Prepared → Type 0
+IsKnown None = ⊥
+IsKnown (Some p) = Unit {0}
+
 -- the headers are being exchanged
 pub record IsExchanging {L : Type 0} (call : Call) (o : Opened L Authentication) (p : Option Prepared) (h : List Local) : Type 0 where
   pub made : MadeIn (sasl_of call) o.has_sasl o.negotiation.exchange
   pub prepared : prepared_of call ≡ p
+  pub known : IsKnown p
   pub opening : HasOpening peer_mechanism o (link_in h)
   pub given : given_in h ≡ []
   pub sent : sent_in h ≡ []
@@ -86,6 +92,7 @@ pub record IsRunning {L : Type 0} (call : Call) (s : State L) (h : List Local) :
   pub unwritten : List ℕ
   pub intro : HasIntro layer peer_mechanism x (amqp_header ++ arrived) unwritten before
   pub runs : EngineHas unwritten arrived s (record { events = since; given = given_in h; sent = sent_in h })
+  pub began : Once EndsExchange h
   pub opens : BeginsWithOpen (sent_in h)
   pub idle : s.wire.clock.idle ≡ idle_of p.idle
   pub start : s.wire.clock.since ≡ since_in h
@@ -95,17 +102,23 @@ pub record IsRunning {L : Type 0} (call : Call) (s : State L) (h : List Local) :
 abbrev pub HasWritten : Call → List Local → Type 0
 HasWritten call h = IsGatedIn (sasl_of call) (wrote_in h) (read_in h)
 
+-- and no frame was read or queued
+pub record HasNoFrames (call : Call) (h : List Local) : Type 0 where
+  pub written : HasWritten call h
+  pub given : given_in h ≡ []
+  pub sent : sent_in h ≡ []
+
 abbrev pub IsHeldAt : {L : Type 0} → Stage → Call → Opened L Authentication → Option Prepared → List Local → Type 0
 IsHeldAt stage.Idle call o p h = ⊥
 IsHeldAt stage.Negotiating call o p h = IsExchanging call o p h
 IsHeldAt stage.Header call o p h = IsExchanging call o p h
 IsHeldAt stage.Exchanged call o p h = IsExchanging call o p h
-IsHeldAt stage.Ended call o p h = HasWritten call h
+IsHeldAt stage.Ended call o p h = HasNoFrames call h
 
 abbrev pub IsHeld : {L : Type 0} → Call → Held L → List Local → Type 0
 IsHeld call (Early o p) h = IsHeldAt o.stage call o p h
 IsHeld call (Late s) h = IsRunning call s h
-IsHeld call (Unopened c) h = HasWritten call h
+IsHeld call (Unopened c) h = HasNoFrames call h
 IsHeld call Moving h = ⊥
 
 -- ---- the fault
@@ -142,13 +155,17 @@ pub record IsFaultless {L : Type 0} (s : State L) (h : List Local) : Type 0 wher
 abbrev pub IsUnheard : {L : Type 0} → State L → List Local → Type 0
 IsUnheard s h = has_failed s.phase ≡ false → BeginsWithOpen (given_in h) → ⊥
 
+-- where the transport has failed, it had its cause when it did
+abbrev pub IsBrokenIn : {L : Type 0} → State L → List Local → Type 0
+IsBrokenIn s h = has_failed s.phase ≡ true → IsBroken h
+
 -- the connection is not made, and a fault had its cause when it came
 abbrev pub IsUnmadeAt : {L : Type 0} → Option ConnectionFault → State L → List Local → Type 0
 IsUnmadeAt None s h = IsFaultless s h
-IsUnmadeAt (Some e) s h = Once (EarlyFault e) h × IsUnheard s h
+IsUnmadeAt (Some e) s h = Once (EarlyFault e) h × (IsUnheard s h × IsBrokenIn s h)
 
 abbrev pub IsUnmade : {L : Type 0} → Option ConnectionFault → Held L → List Local → Type 0
-IsUnmade fault (Early o p) h = fault ≡ None
+IsUnmade fault (Early o p) h = (fault ≡ None) × IsMidway o.stage
 IsUnmade fault (Late s) h = IsUnmadeAt fault s h
 IsUnmade fault (Unopened c) h = ⊥
 IsUnmade fault Moving h = ⊥
@@ -156,7 +173,7 @@ IsUnmade fault Moving h = ⊥
 -- the connection is made, and a fault had its cause when it came
 abbrev pub IsFaultIn : {L : Type 0} → Option ConnectionFault → State L → List Local → Type 0
 IsFaultIn None s h = has_failed s.phase ≡ false
-IsFaultIn (Some e) s h = Once (LateFault e) h
+IsFaultIn (Some e) s h = Once (LateFault e) h × IsBrokenIn s h
 
 abbrev pub IsMadeIn : {L : Type 0} → Option ConnectionFault → Held L → List Local → Type 0
 IsMadeIn fault (Early o p) h = ⊥

@@ -1,5 +1,6 @@
 -- What a call begins a connection with (OASIS AMQP 1.0, part 2, section 2.7.1).
 use Rattle.std.specs.Prelude.{ℕ, List, ◌/◌, max, Option, Some, None}
+use Rattle.amqp_composites.specs.declared.error.Error.{Error as AmqpError}
 use Rattle.amqp_composites.specs.declared.open.Open.{Open}
 use Rattle.amqp_engine.specs.declared.connection.EndKind.TheVariants.{Client, Listener}
 use Rattle.amqp_opening.specs.declared.acceptor.AcceptSasl.{AcceptSasl}
@@ -56,3 +57,8 @@ abbrev pub sasl_of : Call → Option SaslCall
 sasl_of (call.Open settings host sasl) = client_sasl sasl host
 sasl_of (call.Accept settings sasl) = listener_sasl sasl
 sasl_of (call.Close error) = None
+
+-- the error of a Close that is called with a condition (section 2.7.9)
+abbrev pub error_for : Option (List ℕ) → Option AmqpError
+error_for None = None
+error_for (Some condition) = Some (record { condition = condition; description = None; info = None })

@@ -24,16 +24,17 @@ use Rattle.amqp_peer.specs.declared.held.Held.{Held}
 use Rattle.amqp_peer.specs.declared.held.Held.TheVariants.{Early}
 use Rattle.amqp_peer.specs.declared.peer.Progress.{Progress}
 use Rattle.amqp_peer.specs.declared.peer.Progress.TheVariants as progress
-use Rattle.amqp_peer.specs.Held.{IsActive, EndedEarly, reason_of, is_made}
+use Rattle.amqp_peer.specs.Held.{IsActive, IsSorted, IsExchanged, EndedEarly, reason_of, is_made}
 use Rattle.amqp_peer.specs.History.{Local, made_in, link_in, given_in, sent_in, replied_in, moment_in, IsInside}
 use Rattle.amqp_peer.specs.Causes.{AllCaused}
 use Rattle.amqp_peer.specs.Peering.{Peering, Has, HasCalled, IsMadeIn, IsUntouched, link_of}
 use Rattle.amqp_peer.specs.Replies.{pending, connection, answered}
 
--- why an end can do no more now: the link had no input or took no output, or a great many reads were made, or frames read and queued
-abbrev pub IsSettled : List Local → Type 0
-IsSettled events =
-    Includes (link_in events) (NotRead Empty) ⊎ (Includes (link_in events) (NotWritten Full)
+-- why an end can do no more now: the link had no input, and no whole frame is left, or it took no output, or a great many reads were
+-- made, or frames read and queued
+abbrev pub IsSettled : {L : Type 0} → Held L → List Local → Type 0
+IsSettled held events =
+    (Includes (link_in events) (NotRead Empty) × IsSorted held) ⊎ (Includes (link_in events) (NotWritten Full)
     ⊎ ((2 ^ 62 ≤ reads_in (link_in events)) ⊎ (2 ^ 62 ≤ length (given_in events) + length (sent_in events))))
 
 -- An end went on by itself, with at most so many reads that gave bytes, from what was before: what passed at its link, its frames and its
@@ -59,7 +60,8 @@ pub record Worked {L : Type 0} (link : Ghosts L) (at n : ℕ) (old new : Peering
 -- it went on until it could do no more
 pub record RestedFrom {L : Type 0} (link : Ghosts L) (at n : ℕ) (Before : List Local → Type 0) (old new : Peering L) : Type 0 where
   pub run : AdvancedFrom link at n Before old new
-  pub settled : IsActive new.held → IsSettled run.events
+  pub settled : IsActive new.held → IsSettled new.held run.events
+  pub begun : IsExchanged new.held → ⊥
 
 abbrev pub Rested : {L : Type 0} → Ghosts L → ℕ → ℕ → Peering L → Peering L → Type 0
 Rested link at n old new = RestedFrom link at n (Has old) old new
@@ -79,18 +81,25 @@ pub record IsAsked {L : Type 0} (call : Call) (p : Peering L) (h : List Local) :
   pub holds : p.held ≡ Early opening prepared
   pub untouched : IsUntouched opening
 
--- a close was asked for, and not answered yet
-pub record IsAskedToClose {L : Type 0} (p : Peering L) (h : List Local) : Type 0 where
+-- a close with this condition was asked for, and not answered yet
+pub record IsAskedToClose {L : Type 0} (condition : Option (List ℕ)) (p : Peering L) (h : List Local) : Type 0 where
   pub call : Call
   pub name : ℕ
-  pub error : Option (List ℕ)
-  pub made : made_in h ≡ (p.name, Close error) ∷ (name, call) ∷ []
+  pub made : made_in h ≡ (p.name, Close condition) ∷ (name, call) ∷ []
   pub replied : replied_in h ≡ pending name ∷ connection name ∷ []
   pub called : HasCalled call p.held h
   pub is_made : IsMadeIn p.fault p.held h
 
+-- what the end has, where the last call is a close with this condition
+pub record IsToClose {L : Type 0} (condition : Option (List ℕ)) (p : Peering L) (h : List Local) : Type 0 where
+  pub name : ℕ
+  pub earlier : List (ℕ × Call)
+  pub made : made_in h ≡ (name, Close condition) ∷ earlier
+  pub has : Has p h
+
 -- An end made a step, which began with a call or a poll: what passed at its link, its frames and its replies are added to its
--- history. It stops where it can do no more now, or where the connection has not begun or has ended.
+-- history. It stops where it can do no more now, or where the connection has not begun or has ended; where the headers are exchanged,
+-- the connection begins.
 pub record Stepped {L : Type 0} (link : Ghosts L) (old : Peering L) (first : Local) (new : Peering L) : Type 0 where
   pub events : List Local
   pub inside : IsInside events
@@ -98,7 +107,8 @@ pub record Stepped {L : Type 0} (link : Ghosts L) (old : Peering L) (first : Loc
   pub answers : new.replies ≡ old.replies ++ replied_in events
   pub few : reads_in (link_in events) ≤ 2 ^ 63
   pub kind : new.kind ≡ old.kind
-  pub settled : IsActive new.held → IsSettled events
+  pub settled : IsActive new.held → IsSettled new.held events
+  pub begun : (IsExchanged old.held → ⊥) → IsExchanged new.held → ⊥
   pub grows : (h : List Local) → Has old h → Has new (events ++ first ∷ h)
 
 -- ---- answers
@@ -123,11 +133,6 @@ told_by (why.RemoteClosedWithError e) = Some (fault.RemoteClosedWithError e)
 abbrev pub told_of : Option ConnectionStopReason → Option ConnectionFault
 told_of None = None
 told_of (Some reason) = told_by reason
-
--- the error of a condition
-abbrev pub error_for : Option (List ℕ) → Option AmqpError
-error_for None = None
-error_for (Some condition) = Some (record { condition = condition; description = None; info = None })
 
 -- the first fault stays
 abbrev pub first_fault : Option ConnectionFault → ConnectionFault → Option ConnectionFault

@@ -7,7 +7,7 @@ ghost use Rattle.amqp_peer.specs.contracts.held.Held.{the_row};
 ghost use Rattle.amqp_peer.specs.declared.held.Held.{Held};
 ghost use Rattle.amqp_peer.specs.Held.{IsThere, IsEarly, IsReady, IsExchanged, IsActive, IsLate, with_link, link_at, nothing_held, BeganWith, BeganPlain, EndedEarly, RanEarly, Connected, IsConnecting, bound, SteppedLate, ClosedLate, FitsCall, is_made, reason_of};
 
-use crate::copies::discard;
+use crate::drops::discard;
 use crate::prepared::Prepared;
 use amqp_composites::error::Error as AmqpError;
 use amqp_engine::{ConnectionEngine, EngineStep, Error as ConnectionError};

@@ -4,7 +4,7 @@
 pub use peer::{Peer, PeerError, PeerKind};
 pub use prepared::Prepared;
 
-mod copies;
+mod drops;
 pub mod held;
 pub mod peer;
 pub mod prepared;

@@ -1,5 +1,5 @@
 //! One end of a connection: what it is asked to do, and what it answers.
-ghost use Rattle.std.specs.Prelude.{◌≡◌, ◌↔◌, ◌≤◌, ◌<◌, ◌+◌, ◌^◌, List, ℕ, [], ◌∷◌, ◌++◌, length, true, false, Ok, Err, Some, None, IfOk, OnOk, OnErr, IsTrue, IsErrOf, IfErr, option_map};
+ghost use Rattle.std.specs.Prelude.{◌≡◌, ◌↔◌, ◌≤◌, ◌<◌, ◌+◌, ◌^◌, List, ℕ, [], ◌∷◌, ◌++◌, length, true, false, Ok, Err, Option, Some, None, IfOk, OnOk, OnErr, IsTrue, IsErrOf, IfErr, option_map};
 ghost use Rattle.std.specs.Borrow.{Lends, sem};
 ghost use Rattle.amqp_peer.specs.contracts.peer.Peer.{the_row};
 ghost use Rattle.amqp_peer.specs.declared.peer.PeerError.TheVariants.{Memory};
@@ -10,10 +10,10 @@ ghost use Rattle.amqp_peer.specs.Calls.{IsAllowedLayer};
 ghost use Rattle.amqp_peer.specs.Held.{IsThere, IsEarly, IsReady, IsExchanged, IsActive, IsLate, FitsCall, with_link};
 ghost use Rattle.amqp_peer.specs.History.{Made, Polled};
 ghost use Rattle.amqp_peer.specs.Peering.{Peering, fresh, link_of, MayCall};
-ghost use Rattle.amqp_peer.specs.Prepared.{prepared_of, sasl_of};
-ghost use Rattle.amqp_peer.specs.Runs.{Stepped, Advanced, AdvancedFrom, Worked, Rested, RestedFrom, IsAsked, IsAskedToClose, Refused, open_error_of, open_failure, open_reply, close_reply, told_of, error_for, first_fault, error_in, told, finished, concluded, greeted_if, greeted, without_memory, IsCloseNoted};
+ghost use Rattle.amqp_peer.specs.Prepared.{prepared_of, sasl_of, error_for};
+ghost use Rattle.amqp_peer.specs.Runs.{Stepped, AdvancedFrom, Worked, Rested, RestedFrom, IsAsked, IsAskedToClose, IsToClose, Refused, open_error_of, open_failure, open_reply, close_reply, told_of, first_fault, error_in, told, finished, concluded, greeted_if, greeted, without_memory, IsCloseNoted};
 
-use crate::copies::{copied_error, discard};
+use crate::drops::discard;
 use crate::held::{Held, Way};
 use crate::prepared::{Prepared, client_prepared, client_sasl, listener_prepared, listener_sasl};
 use crate::valid::is_first_call;
@@ -24,6 +24,7 @@ use amqp_opening::authentication::{SaslCall, exchange_for};
 use amqp_opening::opening::{OpeningPoll, memory_in};
 use amqp_text::Symbol;
 use amqp_wire::link::Link;
+use amqp_words::copies::copied_error;
 use amqp_words::{Call, NamedReply, OpenError, Reply, ReplyList};
 use sasl_gate::NegotiationError;
 use std::alloc::{AllocError, Global};
@@ -484,7 +485,7 @@ impl<L: Link> Peer<L> {
     // Queues a Close, unless one is queued or owed.
     fn queue_close(&mut self, condition: Option<Symbol>) -> Result<(), AllocError>
         requires { IsLate self.old.held }
-        ensures ok { OnOk result ((at : ℕ) → self.old.progress ≡ Progress.Closing → Advanced L.Link at 0 self.old self.new) }
+        ensures ok { OnOk result ((at : ℕ) → self.old.progress ≡ Progress.Closing → AdvancedFrom L.Link at 0 (IsToClose condition self.old) self.old self.new) }
         ensures late { OnOk result (IsLate self.new.held) }
         ensures alive { self.new.failed ≡ self.old.failed }
     {
@@ -513,7 +514,7 @@ impl<L: Link> Peer<L> {
     // A close waits: its Close goes out, and the peer's is awaited.
     fn close_open(&mut self, at: u64, condition: Option<Symbol>) -> Result<(), AllocError>
         requires { IsLate self.old.held }
-        ensures ok { OnOk result (self.old.progress ≡ Progress.Closing → RestedFrom L.Link at (2 ^ 62) (IsAskedToClose self.old) self.old self.new) }
+        ensures ok { OnOk result (self.old.progress ≡ Progress.Closing → RestedFrom L.Link at (2 ^ 62) (IsAskedToClose condition self.old) self.old self.new) }
         ensures alive { self.new.failed ≡ self.old.failed }
     {
         self.answer(Reply::Pending)?;
@@ -525,7 +526,7 @@ impl<L: Link> Peer<L> {
     fn close_stopped(&mut self, at: u64) -> Result<(), AllocError>
         requires late { IsLate self.old.held }
         requires stopped { IsActive self.old.held → ⊥ }
-        ensures ok { OnOk result (RestedFrom L.Link at 1 (IsAskedToClose self.old) self.old self.new) }
+        ensures ok { OnOk result ((condition : Option (List ℕ)) → RestedFrom L.Link at 1 (IsAskedToClose condition self.old) self.old self.new) }
         ensures alive { self.new.failed ≡ self.old.failed }
     {
         match self.held.step(at) {
@@ -540,7 +541,7 @@ impl<L: Link> Peer<L> {
 
     fn close_on(&mut self, at: u64, condition: Option<Symbol>) -> Result<(), AllocError>
         requires { IsLate self.old.held }
-        ensures ok { OnOk result (self.old.progress ≡ Progress.Closing → RestedFrom L.Link at (2 ^ 62) (IsAskedToClose self.old) self.old self.new) }
+        ensures ok { OnOk result (self.old.progress ≡ Progress.Closing → RestedFrom L.Link at (2 ^ 62) (IsAskedToClose condition self.old) self.old self.new) }
         ensures alive { self.new.failed ≡ self.old.failed }
     {
         if self.held.has_stopped() {

@@ -1,8 +1,8 @@
 //! What an end is asked to do.
 ghost use Rattle.std.specs.Prelude.{◌≡◌, IfOk};
 
+use crate::copies::{copied_symbol, copied_text};
 use amqp_opening::AcceptSasl;
-use amqp_text::symbol::SymbolError;
 use amqp_text::{Symbol, Text};
 use sasl_gate::SaslProfile;
 use std::alloc::{AllocError, Global};
@@ -48,31 +48,6 @@ pub enum Call {
     },
 }
 
-fn clone_text(text: &Option<Text>, alloc: Global) -> Result<Option<Text>, AllocError>
-    ensures { IfOk result (λ t. t ≡ text.now) }
-{
-    match text {
-        Some(text) => {
-            let text = text.try_clone(alloc)?;
-            Ok(Some(text))
-        }
-        None => Ok(None),
-    }
-}
-
-fn clone_symbol(symbol: &Option<Symbol>, alloc: Global) -> Result<Option<Symbol>, AllocError>
-    ensures { IfOk result (λ s. s ≡ symbol.now) }
-{
-    match symbol {
-        Some(symbol) => match Symbol::from_slice(alloc, symbol.as_slice()) {
-            Ok(copy) => Ok(Some(copy)),
-            Err(SymbolError::Memory(error)) => Err(error),
-            Err(SymbolError::NotAscii) => unreachable!(),
-        },
-        None => Ok(None),
-    }
-}
-
 fn clone_profile(
     profile: &Option<SaslProfile>,
     alloc: Global,
@@ -106,7 +81,7 @@ impl ConnectionSettings {
         ensures { IfOk result (λ s. s ≡ self.now) }
     {
         let container_id = self.container_id.try_clone(alloc)?;
-        let hostname = clone_text(&self.hostname, alloc)?;
+        let hostname = copied_text(alloc, &self.hostname)?;
         Ok(ConnectionSettings {
             container_id,
             hostname,
@@ -129,7 +104,7 @@ impl Call {
                 sasl,
             } => {
                 let settings = settings.try_clone(alloc)?;
-                let sasl_hostname = clone_text(sasl_hostname, alloc)?;
+                let sasl_hostname = copied_text(alloc, sasl_hostname)?;
                 let sasl = clone_profile(sasl, alloc)?;
                 Ok(Call::Open {
                     settings,
@@ -142,10 +117,11 @@ impl Call {
                 let sasl = clone_sasl(sasl, alloc)?;
                 Ok(Call::Accept { settings, sasl })
             }
-            Call::Close { error } => {
-                let error = clone_symbol(error, alloc)?;
-                Ok(Call::Close { error })
+            Call::Close { error: Some(error) } => {
+                let error = copied_symbol(alloc, error)?;
+                Ok(Call::Close { error: Some(error) })
             }
+            Call::Close { error: None } => Ok(Call::Close { error: None }),
         }
     }
 }

@@ -9,6 +9,7 @@ pub use step::{Act, End, Step, StepList};
 pub use trace::{Entry, EntryList, Trace};
 
 pub mod call;
+pub mod copies;
 pub mod open_error;
 pub mod reply;
 pub mod step;

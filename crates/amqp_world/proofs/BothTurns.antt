@@ -36,14 +36,13 @@ related_client b b' s x name r h v e t steps entries moment =
     let n : is_same Client s.end ≡ true = ap (is_same Client) h in
     let m : is_same Listener s.end ≡ false = ap (is_same Listener) h in
     let va : IsValidAct Client (past_in b) s.act = subst (λ (y : End). IsValidAct y (past_in b) s.act) h v.act in
-    let made = side_near Client Listener ev (past_in b) b.client b.listener b'.client b'.listener n m refl r.client r.listener u in
-    let near : Side Client Listener b'.client (ev ∷ past_in b) = made.0 in
+    let near : Side Client Listener b'.client (ev ∷ past_in b) = side_near Client Listener ev (past_in b) b.client b.listener b'.client b'.listener n m refl r.client r.listener u in
     let far : Side Listener Client b'.listener (ev ∷ past_in b) = side_far Client Listener ev (past_in b) b.client b.listener b'.client b'.listener n m refl refl va r.client r.listener u in
     record {
       form = form_turn b b' s x r steps entries;
       client = subst (λ (p : List Event). Side Client Listener b'.client p) (sym past) near;
       listener = subst (λ (p : List Event). Side Listener Client b'.listener p) (sym past) far;
-      explained = subst Explained (sym past) (explains_turn Client Listener ev (past_in b) b.client b.listener b'.client b'.listener n h refl v r.client u made.0 made.1 far, r.explained);
+      explained = subst Explained (sym past) (explains_turn Client Listener ev (past_in b) b.client b.listener b'.client b'.listener n h refl v r.client u near far, r.explained);
       moment = moment ∙ sym (ap last_moment past);
     }
 
@@ -55,14 +54,13 @@ related_listener b b' s x name r h v e t steps entries moment =
     let n : is_same Listener s.end ≡ true = ap (is_same Listener) h in
     let m : is_same Client s.end ≡ false = ap (is_same Client) h in
     let va : IsValidAct Listener (past_in b) s.act = subst (λ (y : End). IsValidAct y (past_in b) s.act) h v.act in
-    let made = side_near Listener Client ev (past_in b) b.listener b.client b'.listener b'.client n m refl r.listener r.client u in
-    let near : Side Listener Client b'.listener (ev ∷ past_in b) = made.0 in
+    let near : Side Listener Client b'.listener (ev ∷ past_in b) = side_near Listener Client ev (past_in b) b.listener b.client b'.listener b'.client n m refl r.listener r.client u in
     let far : Side Client Listener b'.client (ev ∷ past_in b) = side_far Listener Client ev (past_in b) b.listener b.client b'.listener b'.client n m refl refl va r.listener r.client u in
     record {
       form = form_turn b b' s x r steps entries;
       client = subst (λ (p : List Event). Side Client Listener b'.client p) (sym past) far;
       listener = subst (λ (p : List Event). Side Listener Client b'.listener p) (sym past) near;
-      explained = subst Explained (sym past) (explains_turn Listener Client ev (past_in b) b.listener b.client b'.listener b'.client n h refl v r.listener u made.0 made.1 far, r.explained);
+      explained = subst Explained (sym past) (explains_turn Listener Client ev (past_in b) b.listener b.client b'.listener b'.client n h refl v r.listener u near far, r.explained);
       moment = moment ∙ sym (ap last_moment past);
     }
 

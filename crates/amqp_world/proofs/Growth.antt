@@ -1,9 +1,9 @@
 -- What an event adds to the past, and a step to an end's own history.
-use Rattle.std.proofs.Common.{◌≡◌, ◌+◌, List, ℕ, [], ◌∷◌, ◌++◌, true, false, length, refl, ap, ◌∙◌, arith}
+use Rattle.std.proofs.Common.{◌≡◌, ◌+◌, List, ℕ, [], ◌∷◌, ◌++◌, Bool, true, false, length, refl, sym, ap, ◌∙◌, subst, arith}
 use Rattle.amqp_wire.specs.Events.{LinkEvent, read_of, wrote_of}
 use Rattle.amqp_wire.proofs.Events.{read_of-append, wrote_of-append}
 use Rattle.amqp_words.specs.declared.reply.NamedReply.{NamedReply}
-use Rattle.amqp_peer.specs.History.{Local, Made, Polled, AtLink, Exchanged, Got, Put, Replied, made_in, link_in, replied_in, read_in, wrote_in, IsInside}
+use Rattle.amqp_peer.specs.History.{Local, made_in, link_in, replied_in, read_in, wrote_in, IsInside}
 use Rattle.amqp_peer.proofs.Laws.{link_in-append, replied_in-append}
 use Rattle.amqp_peer.proofs.Histories.{made_in-keeps}
 use Rattle.amqp_words.specs.declared.step.End.{End}
@@ -11,7 +11,8 @@ use Rattle.amqp_words.specs.declared.step.Act.{Act}
 use Rattle.amqp_words.specs.declared.step.Act.TheVariants.{Take, TakeAll, Call}
 use Rattle.amqp_words.specs.declared.step.Step.{Step}
 use Rattle.amqp_words.specs.declared.trace.Entry.{Entry}
-use Rattle.amqp_world.specs.History.{Event, wrote, taken, moved, calls, called, begun, begun_by, begun_in, replied, other, is_same}
+use Rattle.amqp_world.specs.History.{Event, wrote, taken, moved, calls, called, begun, replied, other, is_same}
+use Rattle.amqp_world.specs.Causes.{Adds, Choose, Follows}
 use Rattle.amqp_world.specs.Explains.{onto, past_of}
 
 -- what an event adds at its own end, and at the other
@@ -34,17 +35,19 @@ calls_near e x past q = rw q refl
 pub calls_far : (e : End) (x : Event) (past : List Event) → is_same e x.step.end ≡ false → calls e (x ∷ past) ≡ calls e past
 calls_far e x past q = rw q refl
 
-pub begun_near : (e : End) (x : Event) (past : List Event) → is_same e x.step.end ≡ true → begun_by e (x ∷ past) ≡ begun x.step.at (length past) x.step.act ∷ begun_by e past
-begun_near e x past q = rw q refl
-
-pub begun_far : (e : End) (x : Event) (past : List Event) → is_same e x.step.end ≡ false → begun_by e (x ∷ past) ≡ begun_by e past
-begun_far e x past q = rw q refl
-
 pub replied_near : (e : End) (x : Event) (past : List Event) → is_same e x.step.end ≡ true → replied e (x ∷ past) ≡ replied e past ++ x.entry.replies
 replied_near e x past q = rw q refl
 
 pub replied_far : (e : End) (x : Event) (past : List Event) → is_same e x.step.end ≡ false → replied e (x ∷ past) ≡ replied e past
 replied_far e x past q = rw q refl
+
+-- a history that follows the past, at the end of an event and at the other
+
+pub follows_near : (e : End) (x : Event) (past : List Event) (before h : List Local) → is_same e x.step.end ≡ true → Adds e x past before h → Follows e past before → Follows e (x ∷ past) h
+follows_near e x past before h q a f = subst (λ (b : Bool). Choose b ((u : List Local) × Adds e x past u h × Follows e past u) (Follows e past h)) (sym q) (before, a, f)
+
+pub follows_far : (e : End) (x : Event) (past : List Event) (h : List Local) → is_same e x.step.end ≡ false → Follows e past h → Follows e (x ∷ past) h
+follows_far e x past h q f = subst (λ (b : Bool). Choose b ((u : List Local) × Adds e x past u h × Follows e past u) (Follows e past h)) (sym q) f
 
 -- what a step adds to the history of its end
 
@@ -63,26 +66,8 @@ replied_begun at name (Take n) h = refl
 replied_begun at name TakeAll h = refl
 replied_begun at name (Call call) h = refl
 
-begun_begun : (at name : ℕ) (act : Act) (h : List Local) → begun_in (begun at name act ∷ h) ≡ begun at name act ∷ begun_in h
-begun_begun at name (Take n) h = refl
-begun_begun at name TakeAll h = refl
-begun_begun at name (Call call) h = refl
-
-begun_in-inside : (es h : List Local) → IsInside es → begun_in (es ++ h) ≡ begun_in h
-begun_in-inside [] h p = refl
-begun_in-inside (Made at name call ∷ es) h p = absurd p
-begun_in-inside (Polled at ∷ es) h p = absurd p
-begun_in-inside (AtLink x ∷ es) h p = begun_in-inside es h p
-begun_in-inside (Exchanged ∷ es) h p = begun_in-inside es h p
-begun_in-inside (Got x ∷ es) h p = begun_in-inside es h p
-begun_in-inside (Put x ∷ es) h p = begun_in-inside es h p
-begun_in-inside (Replied r ∷ es) h p = begun_in-inside es h p
-
 pub made_grown : (es h : List Local) (at name : ℕ) (act : Act) → IsInside es → made_in (es ++ begun at name act ∷ h) ≡ called act name (made_in h)
 made_grown es h at name act inside = made_in-keeps es (begun at name act ∷ h) inside ∙ made_begun at name act h
-
-pub begun_grown : (es h : List Local) (at name : ℕ) (act : Act) → IsInside es → begun_in (es ++ begun at name act ∷ h) ≡ begun at name act ∷ begun_in h
-begun_grown es h at name act inside = begun_in-inside es (begun at name act ∷ h) inside ∙ begun_begun at name act h
 
 pub link_grown : (es h : List Local) (at name : ℕ) (act : Act) → link_in (es ++ begun at name act ∷ h) ≡ link_in es ++ link_in h
 link_grown es h at name act = link_in-append es (begun at name act ∷ h) ∙ ap (λ (u : List LinkEvent). link_in es ++ u) (link_begun at name act h)

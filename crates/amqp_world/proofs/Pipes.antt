@@ -1,5 +1,5 @@
 -- Pipes as links: what passed at one.
-use Rattle.std.proofs.Common.{◌≡◌, inl, inr, List, [], ◌∷◌, ◌++◌, subst, arith}
+use Rattle.std.proofs.Common.{◌≡◌, inl, inr, ℕ, List, [], ◌∷◌, ◌++◌, length, refl, sym, ap, ◌∙◌, subst, arith}
 use Rattle.amqp_wire.specs.declared.link.Stop.TheVariants as stop
 use Rattle.amqp_wire.specs.declared.link.Held.TheVariants as held
 use Rattle.amqp_wire.specs.Link.{Rose}
@@ -27,7 +27,7 @@ never_ends a b [] w i = i
 never_ends a b (x ∷ es) w (inl e) = let q : IsEvent piping w.0 (NotRead stop.End) b = subst (λ (y : LinkEvent). IsEvent piping w.0 y b) e w.2 in q.why
 never_ends a b (x ∷ es) w (inr i) = never_ends a w.0 es w.1 i
 
-never_fills : (a b : Piped) (es : List LinkEvent) → Went piping a es b → Includes es (NotWritten held.Full) → ⊥
+pub never_fills : (a b : Piped) (es : List LinkEvent) → Went piping a es b → Includes es (NotWritten held.Full) → ⊥
 never_fills a b [] w i = i
 never_fills a b (x ∷ es) w (inl e) = let q : IsEvent piping w.0 (NotWritten held.Full) b = subst (λ (y : LinkEvent). IsEvent piping w.0 y b) e w.2 in q.why
 never_fills a b (x ∷ es) w (inr i) = never_fills a w.0 es w.1 i
@@ -57,3 +57,13 @@ calm_more fs es p q =
       unended = none_of fs es _ p.unended q.unended;
       unfilled = none_of fs es _ p.unfilled q.unfilled;
     }
+
+-- after a read that found nothing, the input is used up
+nothing_left : (r b : List ℕ) → [] ≡ r ++ b → b ≡ []
+nothing_left [] b e = sym e
+nothing_left (y ∷ r) b e = absurd (omega (arith, ap length e))
+
+pub pipe_emptied : (a b : Piped) (es : List LinkEvent) → Went piping a es b → Includes es (NotRead stop.Empty) → b.input ≡ []
+pipe_emptied a b [] w i = absurd i
+pipe_emptied a b (x ∷ es) w (inl e) = let q : IsEvent piping w.0 (NotRead stop.Empty) b = subst (λ (y : LinkEvent). IsEvent piping w.0 y b) e w.2 in sym q.gave.input ∙ q.why
+pipe_emptied a b (x ∷ es) w (inr i) = nothing_left (read_of (x ∷ [])) b.input (sym (pipe_emptied a w.0 es w.1 i) ∙ pipe_input w.0 b (x ∷ []) (w.0, refl, w.2))

@@ -1,6 +1,6 @@
 -- Where a step leaves both ends.
-use Rattle.std.proofs.Common.{◌≡◌, ◌↔◌, ◌+◌, ◌≤◌, List, ℕ, [], ◌∷◌, ◌++◌, true, false, length, take, drop, refl, sym, ap, ◌∙◌, subst, arith, length-append, append_assoc}
-use Rattle.std.proofs.lemmas.List.{take-append-le, append-nil}
+use Rattle.std.proofs.Common.{◌≡◌, ◌↔◌, ◌⊎◌, inl, inr, ◌+◌, ◌≤◌, List, ℕ, [], ◌∷◌, ◌++◌, true, false, length, take, drop, refl, sym, ap, ◌∙◌, subst, arith, length-append, append_assoc}
+use Rattle.std.proofs.lemmas.List.{take-append-le}
 use Rattle.std.proofs.Math.Seq.{take-add}
 use Rattle.amqp_wire.specs.Events.{LinkEvent}
 use Rattle.amqp_wire.specs.Piped.{Piped}
@@ -9,26 +9,27 @@ use Rattle.amqp_peer.specs.declared.peer.PeerKind.{PeerKind}
 use Rattle.amqp_words.specs.declared.reply.NamedReply.{NamedReply}
 use Rattle.amqp_peer.specs.History.{Local, made_in, link_in, replied_in, read_in, wrote_in}
 use Rattle.amqp_peer.specs.Calls.{IsValidCall}
-use Rattle.amqp_peer.specs.Causes.{AllCaused}
+use Rattle.amqp_peer.specs.Causes.{IsSpent, IsTakenUp}
 use Rattle.amqp_peer.specs.Gated.{IsGated}
+use Rattle.amqp_peer.specs.Held.{IsActive, IsExchanged}
 use Rattle.amqp_peer.specs.Peering.{Peering, Has, MayCall, fresh}
 use Rattle.amqp_peer.specs.Replies.{AreReplies}
-use Rattle.amqp_peer.proofs.Laws.{has_fresh, has_with_link, has_taken, link_of-fresh, may_law, replies_law, gated_law, gated_more, causes_law}
+use Rattle.amqp_peer.specs.Runs.{Stepped}
+use Rattle.amqp_peer.proofs.Laws.{has_fresh, has_with_link, has_taken, link_of-fresh, may_law, replies_law, gated_law, gated_more, causes_law, tied_law, taken_up_law, spent_law, exchanged_with_link, fresh_not_exchanged}
 use Rattle.amqp_words.specs.declared.step.End.{End}
 use Rattle.amqp_words.specs.declared.step.Act.{Act}
 use Rattle.amqp_words.specs.declared.step.Act.TheVariants.{Take, TakeAll, Call}
-use Rattle.amqp_world.specs.History.{Event, wrote, taken, moved, read, calls, called, begun, begun_by, begun_in, replied, other, is_same}
+use Rattle.amqp_world.specs.History.{Event, wrote, taken, moved, read, calls, called, begun, replied, other, is_same}
 use Rattle.amqp_world.specs.Valid.{IsValid, IsValidAct, kind_of}
-use Rattle.amqp_world.specs.Causes.{IsCalm, AreCaused}
+use Rattle.amqp_world.specs.Causes.{IsCalm, IsVast, Adds, IsHistoried}
 use Rattle.amqp_world.specs.Explains.{Explains}
-use Rattle.amqp_world.specs.Turn.{CanAct, Turned, fed, drained, marked, empty_pipe, pipe_of}
+use Rattle.amqp_world.specs.Turn.{CanAct, Turned, piping, fed, drained, given, marked, empty_pipe, pipe_of}
 use Rattle.amqp_world.specs.Related.{Side}
-use Rattle.amqp_world.proofs.Pipes.{calm_none, calm_more}
-use Rattle.amqp_world.proofs.Growth.{wrote_near, wrote_far, taken_near, taken_far, calls_near, calls_far, begun_near, begun_far, replied_near, replied_far, made_grown, begun_grown, link_grown, replied_grown, read_grown, wrote_grown}
+use Rattle.amqp_world.proofs.Pipes.{calm_none, calm_more, never_fills, pipe_emptied}
+use Rattle.amqp_world.proofs.Growth.{wrote_near, wrote_far, taken_near, taken_far, calls_near, calls_far, replied_near, replied_far, follows_near, follows_far, made_grown, link_grown, replied_grown, read_grown, wrote_grown}
 use Rattle.amqp_world.proofs.Turns.{marked_link, stepped_input, stepped_mark, stepped_calm, turned_wrote, turned_replied, turned_link}
 use Rattle.amqp_world.proofs.Form.{form_of}
 use Rattle.amqp_world.proofs.Gate.{gate_of}
-use Rattle.amqp_world.proofs.Causes.{caused_inside}
 
 -- what a valid act moves is there
 moved_within : (e f : End) (act : Act) (past : List Event) → other e ≡ f → IsValidAct e past act → taken e past ≤ length (wrote f past) → moved act (taken e past) (length (wrote f past)) ≤ length (wrote f past)
@@ -41,8 +42,23 @@ moved_to : (e f : End) (past : List Event) (act : Act) (q : Peering Piped) (coun
 moved_to e f past act q count far counted =
     counted ∙ ap (λ (k : ℕ). moved act k (length (pipe_of q).output)) far.mark ∙ ap (λ (u : List ℕ). moved act (taken e past) (length u)) far.output
 
+-- an end that goes on has read all that came to it, unless there was a vast lot of it
+kept_up : (near : Peering Piped) (far : Piped) (count : ℕ) (first : Local) (ran : Peering Piped) (h : List Local) (left : List ℕ) → left ≡ (pipe_of ran).input → (s : Stepped piping (given near far count) first ran) → Has ran h → IsActive ran.held ⊎ IsSpent h → ((left ≡ []) × IsTakenUp h) ⊎ (IsSpent h ⊎ IsVast s.events)
+kept_up near far count first ran h left e s has (inr spent) = inr (inl spent)
+kept_up near far count first ran h left e s has (inl active) = elim (s.settled active) [
+  | inl a ↦ inl (e ∙ pipe_emptied (pipe_of (given near far count)) (pipe_of ran) (link_in s.events) (s.went empty_pipe) a.0, taken_up_law ran h has active a.1)
+  | inr a ↦ elim a [
+    | inl f ↦ absurd (never_fills (pipe_of (given near far count)) (pipe_of ran) (link_in s.events) (s.went empty_pipe) f)
+    | inr v ↦ inr (inr v)
+  ]
+]
+
+-- what an event begins at its end
+abbrev begun_first : Event → List Event → Local
+begun_first x past = begun x.step.at (length past) x.step.act
+
 -- the end that made a step, whose history has the step's events
-pub side_near : (e f : End) (x : Event) (past : List Event) (p q p' q' : Peering Piped) → is_same e x.step.end ≡ true → is_same f x.step.end ≡ false → other e ≡ f → (near : Side e f p past) → Side f e q past → (t : Turned p q (length past) x.step.at x.step.act p' q' x.entry) → (s : Side e f p' (x ∷ past)) × (s.h ≡ t.stepped.events ++ begun x.step.at (length past) x.step.act ∷ near.h)
+pub side_near : (e f : End) (x : Event) (past : List Event) (p q p' q' : Peering Piped) → is_same e x.step.end ≡ true → is_same f x.step.end ≡ false → other e ≡ f → (near : Side e f p past) → Side f e q past → (t : Turned p q (length past) x.step.at x.step.act p' q' x.entry) → Side e f p' (x ∷ past)
 side_near e f x past p q p' q' n m o near far t =
     let name : ℕ = length past in
     let es : List Local = t.stepped.events in
@@ -60,16 +76,29 @@ side_near e f x past p q p' q' n m o near far t =
     let came : (pipe_of p).input ++ take t.count (drop k.mark k.output) ≡ read_in es ++ (pipe_of t.ran).input = stepped_input p k t.count (begun x.step.at name x.step.act) t.ran t.stepped in
     let output : (pipe_of p').output ≡ (pipe_of p).output ++ x.entry.wrote = ap (λ (z : Piped). z.output) same ∙ t.output in
     let mark : (pipe_of p').mark ≡ (pipe_of p).mark = ap (λ (z : Piped). z.mark) same ∙ stepped_mark p k t.count (begun x.step.at name x.step.act) t.ran t.stepped in
-    let s : Side e f p' (x ∷ past) =
+    let got : read_in h' ++ (pipe_of p').input ≡ read e (x ∷ past) =
+    ap (λ (u : List ℕ). u ++ (pipe_of p').input) (read_grown es near.h x.step.at name x.step.act) ∙ ap (λ (z : Piped). (read_in near.h ++ read_in es) ++ z.input) same
+    ∙ append_assoc (read_in near.h) (read_in es) (pipe_of t.ran).input ∙ ap (λ (u : List ℕ). read_in near.h ++ u) (sym came) ∙ sym (append_assoc (read_in near.h) (pipe_of p).input _)
+    ∙ ap (λ (u : List ℕ). u ++ take t.count (drop k.mark k.output)) before ∙ sym (take-add k.mark t.count k.output) ∙ sym after in
+    let ran : Has t.ran h' = t.stepped.grows near.h (has_with_link p (fed (pipe_of p) k t.count) near.h near.has) in
+    let rests : IsExchanged t.ran.held → ⊥ = t.stepped.begun (exchanged_with_link p (fed (pipe_of p) k t.count) near.begun) in
+    let adds : Adds e x past near.h h' =
+    record {
+      inside = es;
+      within = t.stepped.inside;
+      is = refl;
+      replies = turned_replied p q p' q' name x.step.at x.step.act x.entry t near.empty;
+      writes = turned_wrote p q p' q' name x.step.at x.step.act x.entry t;
+      left = (pipe_of p').input;
+      reads = got;
+      all = kept_up p k t.count (begun_first x past) t.ran h' (pipe_of p').input (ap (λ (z : Piped). z.input) same) t.stepped ran (spent_law t.ran h' ran rests);
+    } in
     record {
       h = h';
-      has = subst (λ (z : Peering Piped). Has z h') (sym t.near_end) (has_taken t.ran h' (t.stepped.grows near.h (has_with_link p (fed (pipe_of p) k t.count) near.h near.has)));
+      has = subst (λ (z : Peering Piped). Has z h') (sym t.near_end) (has_taken t.ran h' ran);
       made = made_grown es near.h x.step.at name x.step.act t.stepped.inside ∙ ap (λ (cs : List (ℕ × peer_call.Call)). called x.step.act name cs) near.made ∙ sym (calls_near e x past n);
-      begins = begun_grown es near.h x.step.at name x.step.act t.stepped.inside ∙ ap (λ (u : List Local). begun x.step.at name x.step.act ∷ u) near.begins ∙ sym (begun_near e x past n);
-      got =
-          ap (λ (u : List ℕ). u ++ (pipe_of p').input) (read_grown es near.h x.step.at name x.step.act) ∙ ap (λ (z : Piped). (read_in near.h ++ read_in es) ++ z.input) same
-          ∙ append_assoc (read_in near.h) (read_in es) (pipe_of t.ran).input ∙ ap (λ (u : List ℕ). read_in near.h ++ u) (sym came) ∙ sym (append_assoc (read_in near.h) (pipe_of p).input _)
-          ∙ ap (λ (u : List ℕ). u ++ take t.count (drop k.mark k.output)) before ∙ sym (take-add k.mark t.count k.output) ∙ sym after;
+      follows = follows_near e x past near.h h' n adds near.follows;
+      got = got;
       sent = wrote_grown es near.h x.step.at name x.step.act ∙ ap (λ (u : List ℕ). wrote_in near.h ++ u) (turned_wrote p q p' q' name x.step.at x.step.act x.entry t) ∙ ap (λ (u : List ℕ). u ++ x.entry.wrote) near.sent ∙ sym (wrote_near e x past n);
       answered = replied_grown es near.h x.step.at name x.step.act ∙ ap (λ (u : List NamedReply). replied_in near.h ++ u) (turned_replied p q p' q' name x.step.at x.step.act x.entry t near.empty) ∙ ap (λ (u : List NamedReply). u ++ x.entry.replies) near.answered ∙ sym (replied_near e x past n);
       calm = subst (λ (u : List LinkEvent). IsCalm u) (sym (link_grown es near.h x.step.at name x.step.act)) (calm_more (link_in es) (link_in near.h) (stepped_calm p k t.count (begun x.step.at name x.step.act) t.ran t.stepped) near.calm);
@@ -77,10 +106,10 @@ side_near e f x past p q p' q' n m o near far t =
       mark = mark ∙ near.mark ∙ sym (taken_far f x past m);
       bound = let more : length (pipe_of p').output ≡ length (pipe_of p).output + length x.entry.wrote = ap length output ∙ length-append (pipe_of p).output x.entry.wrote in omega (arith, near.bound);
       empty = ap (λ (z : Peering Piped). z.replies) t.near_end;
+      begun = λ z. rests (subst (λ (y : Peering Piped). IsExchanged y.held) t.near_end z);
       kind = ap (λ (z : Peering Piped). z.kind) t.near_end ∙ t.stepped.kind ∙ near.kind;
       alive = t.alive ∙ near.alive;
-    } in
-    (s, refl)
+    }
 
 -- the other end
 pub side_far : (e f : End) (x : Event) (past : List Event) (p q p' q' : Peering Piped) → is_same e x.step.end ≡ true → is_same f x.step.end ≡ false → other e ≡ f → other f ≡ e → IsValidAct e past x.step.act → Side e f p past → Side f e q past → Turned p q (length past) x.step.at x.step.act p' q' x.entry → Side f e q' (x ∷ past)
@@ -100,7 +129,7 @@ side_far e f x past p q p' q' n m o o' v near far t =
       h = far.h;
       has = has_with_link q (drained k t.count) far.h far.has;
       made = far.made ∙ sym (calls_far f x past m);
-      begins = far.begins ∙ sym (begun_far f x past m);
+      follows = follows_far f x past far.h m far.follows;
       got = ap (λ (z : Piped). read_in far.h ++ z.input) link ∙ far.got ∙ same_read;
       sent = far.sent ∙ sym (wrote_far f x past m);
       answered = far.answered ∙ sym (replied_far f x past m);
@@ -109,6 +138,7 @@ side_far e f x past p q p' q' n m o o' v near far t =
       mark = ap (λ (z : Piped). z.mark) link ∙ to ∙ ap (λ (y : End). moved x.step.act (taken e past) (length (wrote y past))) (sym o) ∙ sym (taken_near e x past n);
       bound = subst (λ (z : Piped). z.mark ≤ length z.output) (sym link) within;
       empty = far.empty;
+      begun = exchanged_with_link q (drained k t.count) far.begun;
       kind = far.kind;
       alive = far.alive;
     })
@@ -121,7 +151,7 @@ side_start e f =
       h = [];
       has = has_fresh empty_pipe (kind_of e);
       made = refl;
-      begins = refl;
+      follows = refl;
       got = ap (λ (z : Piped). z.input) link;
       sent = refl;
       answered = refl;
@@ -130,6 +160,7 @@ side_start e f =
       mark = ap (λ (z : Piped). z.mark) link;
       bound = subst (λ (z : Piped). z.mark ≤ length z.output) (sym link) (omega arith);
       empty = refl;
+      begun = fresh_not_exchanged empty_pipe (kind_of e);
       kind = refl;
       alive = refl;
     }
@@ -146,35 +177,21 @@ side_gate e f p past s =
     let b : IsGated (calls e past) (wrote e past) (read_in s.h ++ (pipe_of p).input) = subst (λ (u : List ℕ). IsGated (calls e past) u (read_in s.h ++ (pipe_of p).input)) s.sent a in
     subst (λ (u : List ℕ). IsGated (calls e past) (wrote e past) u) s.got b
 
--- the replies of a step have their causes
-turn_causes : (e f : End) (x : Event) (past : List Event) (p q p' q' : Peering Piped) (before : Side e f p past) (t : Turned p q (length past) x.step.at x.step.act p' q' x.entry) (near : Side e f p' (x ∷ past)) → near.h ≡ t.stepped.events ++ begun x.step.at (length past) x.step.act ∷ before.h
-    → AreCaused (calls e (x ∷ past)) (begun_by e (x ∷ past)) (read e (x ∷ past)) (wrote e (x ∷ past)) x.entry.replies
-turn_causes e f x past p q p' q' before t near same =
-    let es : List Local = t.stepped.events in
-    let base : List Local = begun x.step.at (length past) x.step.act ∷ before.h in
-    let back : es ++ base ≡ near.h = sym same in
-    let made : made_in (es ++ base) ≡ calls e (x ∷ past) = ap made_in back ∙ near.made in
-    let begins : begun_in (es ++ base) ≡ begun_by e (x ∷ past) = ap begun_in back ∙ near.begins in
-    let reads : read_in (es ++ base) ++ (pipe_of p').input ≡ read e (x ∷ past) = ap (λ (h : List Local). read_in h ++ (pipe_of p').input) back ∙ near.got in
-    let writes : wrote_in (es ++ base) ++ [] ≡ wrote e (x ∷ past) = append-nil (wrote_in (es ++ base)) ∙ ap wrote_in back ∙ near.sent in
-    let calm : IsCalm (link_in (es ++ base)) = subst (λ (h : List Local). IsCalm (link_in h)) same near.calm in
-    let all : AllCaused (es ++ base) = subst AllCaused same (causes_law p' near.h near.has) in
-    let inside : AreCaused (calls e (x ∷ past)) (begun_by e (x ∷ past)) (read e (x ∷ past)) (wrote e (x ∷ past)) (replied_in es) =
-    caused_inside es base (calls e (x ∷ past)) (begun_by e (x ∷ past)) (pipe_of p').input [] (read e (x ∷ past)) (wrote e (x ∷ past)) t.stepped.inside made begins reads writes calm all in
-    subst (λ (rs : List NamedReply). AreCaused (calls e (x ∷ past)) (begun_by e (x ∷ past)) (read e (x ∷ past)) (wrote e (x ∷ past)) rs) (turned_replied p q p' q' (length past) x.step.at x.step.act x.entry t before.empty) inside
+-- an end has a history that explains its replies
+side_history : (e f : End) (p : Peering Piped) (past : List Event) → Side e f p past → IsHistoried e past
+side_history e f p past s = record { h = s.h; follows = s.follows; calm = s.calm; tied = tied_law p s.h s.has; caused = causes_law p s.h s.has }
 
 -- a step makes an event that is explained
-pub explains_turn : (e f : End) (x : Event) (past : List Event) (p q p' q' : Peering Piped) → is_same e x.step.end ≡ true → x.step.end ≡ e → other e ≡ f → IsValid past x.step → (before : Side e f p past) → (t : Turned p q (length past) x.step.at x.step.act p' q' x.entry) → (near : Side e f p' (x ∷ past))
-    → near.h ≡ t.stepped.events ++ begun x.step.at (length past) x.step.act ∷ before.h → Side f e q' (x ∷ past) → Explains x past
-explains_turn e f x past p q p' q' n same o v before t near grown far =
+pub explains_turn : (e f : End) (x : Event) (past : List Event) (p q p' q' : Peering Piped) → is_same e x.step.end ≡ true → x.step.end ≡ e → other e ≡ f → IsValid past x.step → (before : Side e f p past) → (t : Turned p q (length past) x.step.at x.step.act p' q' x.entry) → Side e f p' (x ∷ past)
+    → Side f e q' (x ∷ past) → Explains x past
+explains_turn e f x past p q p' q' n same o v before t near far =
     let va : IsValidAct e past x.step.act = subst (λ (y : End). IsValidAct y past x.step.act) same v.act in
     let replies : replied e (x ∷ past) ≡ replied e past ++ x.entry.replies = replied_near e x past n in
-    let causes : AreCaused (calls e (x ∷ past)) (begun_by e (x ∷ past)) (read e (x ∷ past)) (wrote e (x ∷ past)) x.entry.replies = turn_causes e f x past p q p' q' before t near grown in
     record {
       valid = v;
       form = form_of e f x past same o (calls_near e x past n) replies va (side_replies e f p past before) (side_replies e f p' (x ∷ past) near) (side_replies f e q' (x ∷ past) far);
       gate = gate_of e f (x ∷ past) o (side_gate e f p' (x ∷ past) near) (side_gate f e q' (x ∷ past) far);
-      causes = subst (λ (y : End). AreCaused (calls y (x ∷ past)) (begun_by y (x ∷ past)) (read y (x ∷ past)) (wrote y (x ∷ past)) x.entry.replies) (sym same) causes;
+      causes = subst (λ (y : End). IsHistoried y (x ∷ past)) (sym same) (side_history e f p' (x ∷ past) near);
     }
 
 -- what the code tests at an end is what is valid after the past

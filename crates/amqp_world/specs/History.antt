@@ -2,7 +2,7 @@
 use Rattle.std.specs.Prelude.{◌+◌, List, ℕ, [], ◌∷◌, ◌++◌, length, take, Bool, true, false, if◌then◌else◌}
 use Rattle.amqp_words.specs.declared.call.Call.{Call}
 use Rattle.amqp_words.specs.declared.reply.NamedReply.{NamedReply}
-use Rattle.amqp_peer.specs.History.{Local, Made, Polled, AtLink, Exchanged, Got, Put, Replied}
+use Rattle.amqp_peer.specs.History.{Local, Made, Polled}
 use Rattle.amqp_words.specs.declared.step.End.{End}
 use Rattle.amqp_words.specs.declared.step.End.TheVariants.{Client, Listener}
 use Rattle.amqp_words.specs.declared.step.Act.{Act}
@@ -61,22 +61,6 @@ abbrev pub begun : ℕ → ℕ → Act → Local
 begun at name (act.Take n) = Polled at
 begun at name act.TakeAll = Polled at
 begun at name (act.Call call) = Made at name call
-
--- the calls and polls at an end with their moments, the newest first
-abbrev pub begun_by : End → List Event → List Local
-begun_by e [] = []
-begun_by e (x ∷ past) = if is_same e x.step.end then begun x.step.at (length past) x.step.act ∷ begun_by e past else begun_by e past
-
--- the same of an end's own history
-abbrev pub begun_in : List Local → List Local
-begun_in [] = []
-begun_in (Made at name call ∷ h) = Made at name call ∷ begun_in h
-begun_in (Polled at ∷ h) = Polled at ∷ begun_in h
-begun_in (AtLink x ∷ h) = begun_in h
-begun_in (Exchanged ∷ h) = begun_in h
-begun_in (Got x ∷ h) = begun_in h
-begun_in (Put x ∷ h) = begun_in h
-begun_in (Replied r ∷ h) = begun_in h
 
 -- all replies at an end, in order
 abbrev pub replied : End → List Event → List NamedReply

@@ -2,24 +2,25 @@
 use Rattle.std.specs.Prelude.{◌≡◌, ◌≤◌, List, [], ◌++◌, length, Bool, false}
 use Rattle.amqp_wire.specs.Piped.{Piped}
 use Rattle.amqp_peer.specs.History.{Local, made_in, link_in, replied_in, read_in, wrote_in}
+use Rattle.amqp_peer.specs.Held.{IsExchanged}
 use Rattle.amqp_peer.specs.Peering.{Peering, Has}
 use Rattle.amqp_words.specs.declared.step.End.{End}
 use Rattle.amqp_words.specs.declared.step.End.TheVariants.{Client, Listener}
 use Rattle.amqp_world.specs.declared.both.Both.{Both}
-use Rattle.amqp_world.specs.History.{Event, wrote, taken, read, calls, begun_by, begun_in, replied, last_moment}
+use Rattle.amqp_world.specs.History.{Event, wrote, taken, read, calls, replied, last_moment}
 use Rattle.amqp_world.specs.Valid.{kind_of}
-use Rattle.amqp_world.specs.Causes.{IsCalm}
+use Rattle.amqp_world.specs.Causes.{IsCalm, Follows}
 use Rattle.amqp_world.specs.Explains.{past_of, Explained}
 use Rattle.amqp_world.specs.WorldView.{WorldView}
 use Rattle.amqp_world.specs.Turn.{pipe_of}
 
--- The end e, whose other is f, is where the past leaves it. It has a history of the past's calls, polls and replies; what it
+-- The end e, whose other is f, is where the past leaves it. It has a history that follows the past, with its calls and replies; what it
 -- read and what its link still holds is what was moved to it, and what it wrote is its link's output.
 pub record Side (e f : End) (p : Peering Piped) (past : List Event) : Type 0 where
   pub h : List Local
   pub has : Has p h
   pub made : made_in h ≡ calls e past
-  pub begins : begun_in h ≡ begun_by e past
+  pub follows : Follows e past h
   pub got : read_in h ++ (pipe_of p).input ≡ read e past
   pub sent : wrote_in h ≡ wrote e past
   pub answered : replied_in h ≡ replied e past
@@ -28,6 +29,7 @@ pub record Side (e f : End) (p : Peering Piped) (past : List Event) : Type 0 whe
   pub mark : (pipe_of p).mark ≡ taken f past
   pub bound : (pipe_of p).mark ≤ length (pipe_of p).output
   pub empty : p.replies ≡ []
+  pub begun : IsExchanged p.held → ⊥
   pub kind : p.kind ≡ kind_of e
   pub alive : p.failed ≡ false
 

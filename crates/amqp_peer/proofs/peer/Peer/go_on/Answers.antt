@@ -22,4 +22,4 @@ returns-clause-ok g c =
     let i = c.steps.invariant in
     let all : 2 ^ 62 ≤ i.0 = omega (arith, i.1, c.steps-test.false) in
     let few : i.0 ≤ 2 ^ 62 = omega (arith, i.1) in
-    rested_more g.L.Link c.args.at i.0 (2 ^ 62) (Has c.args.self.now) c.args.self.now c.steps.self few (rested_spent g.L.Link c.args.at i.0 c.args.self.now c.steps.self all i.2)
+    rested_more g.L.Link c.args.at i.0 (2 ^ 62) (Has c.args.self.now) c.args.self.now c.steps.self few (rested_spent g.L.Link c.args.at i.0 c.args.self.now c.steps.self all i.3 i.2)

@@ -1,4 +1,4 @@
-//! Copies of errors, and what is let go.
+//! Copies of texts and errors. The one error of each is want of memory.
 ghost use Rattle.std.specs.Prelude.{◌≡◌, IfOk};
 
 use amqp_composites::error::Error as AmqpError;
@@ -7,10 +7,8 @@ use amqp_text::symbol::SymbolError;
 use amqp_text::{Symbol, Text};
 use std::alloc::{AllocError, Global};
 
-/// Lets a value go. The drop of an error has as many places as its parts have fields; here it is one.
-pub(crate) fn discard<T: Drop>(_value: T) {}
-
-fn copied_symbol(alloc: Global, symbol: &Symbol) -> Result<Symbol, AllocError>
+/// A copy of a symbol.
+pub fn copied_symbol(alloc: Global, symbol: &Symbol) -> Result<Symbol, AllocError>
     ensures { IfOk result (λ s. s ≡ symbol.now) }
 {
     match Symbol::from_slice(alloc, symbol.as_slice()) {
@@ -20,7 +18,8 @@ fn copied_symbol(alloc: Global, symbol: &Symbol) -> Result<Symbol, AllocError>
     }
 }
 
-fn copied_text(alloc: Global, text: &Option<Text>) -> Result<Option<Text>, AllocError>
+/// A copy of a text, if there is one.
+pub fn copied_text(alloc: Global, text: &Option<Text>) -> Result<Option<Text>, AllocError>
     ensures { IfOk result (λ t. t ≡ text.now) }
 {
     match text {
@@ -44,8 +43,8 @@ fn copied_info(alloc: Global, info: &Option<FieldMap>) -> Result<Option<FieldMap
     }
 }
 
-/// A copy; the one error is want of memory.
-pub(crate) fn copied_error(alloc: Global, error: &AmqpError) -> Result<AmqpError, AllocError>
+/// A copy of an error of AMQP.
+pub fn copied_error(alloc: Global, error: &AmqpError) -> Result<AmqpError, AllocError>
     ensures { IfOk result (λ e. e ≡ error.now) }
 {
     let condition = copied_symbol(alloc, &error.condition)?;
