@@ -14,7 +14,7 @@ use Rattle.amqp_engine.specs.declared.sessions.Plan.TheVariants as plan
 use Rattle.amqp_engine.specs.Phases.{kind_of, IsInner, IsClose}
 use Rattle.amqp_engine.specs.State.{State, own_reason, answered_reason, failed_reason, close_phase}
 use Rattle.amqp_engine.specs.Machine.{received, awaited, arrived, outlasted, phase_after, plan_of}
-use Rattle.amqp_engine.specs.Heard.{IsHeard, IsGreeted, AllUnclosed}
+use Rattle.amqp_engine.specs.Heard.{IsHeard, IsGreeted, IsRejected, IsStray, AllUnclosed}
 
 -- a frame of that body
 abbrev framed : ℕ → FrameBody → Frame
@@ -32,11 +32,11 @@ IsListening p.Discarding = Unit {0}
 IsListening p.Ended = ⊥
 IsListening p.Failed = ⊥
 
-inner_unclosed : (k : BodyKind) → IsInner k → IsClose k → ⊥
-inner_unclosed kind.Session i c = c
-inner_unclosed kind.Empty i c = c
-inner_unclosed kind.Open i c = c
-inner_unclosed kind.Close i c = i
+stray_unclosed : (k : BodyKind) → IsStray k → IsClose k → ⊥
+stray_unclosed kind.Session i c = c
+stray_unclosed kind.Empty i c = c
+stray_unclosed kind.Open i c = c
+stray_unclosed kind.Close i c = i
 
 unclosed_push : (xs : List Frame) (x : Frame) → AllUnclosed xs → (IsClose (kind_of x.body) → ⊥) → AllUnclosed (xs ++ x ∷ [])
 unclosed_push [] x a n = (n, tt)
@@ -48,6 +48,13 @@ greeted_push xs x n g = record { channel = g.channel; first = g.first; more = g.
 -- a frame whose body is no Close
 greeted_by : (xs : List Frame) (x : Frame) (body : FrameBody) → x.body ≡ body → (IsClose (kind_of body) → ⊥) → IsGreeted xs → IsGreeted (xs ++ x ∷ [])
 greeted_by xs x body e n g = greeted_push xs x (λ c. n (subst (λ (z : FrameBody). IsClose (kind_of z)) e c)) g
+
+-- a refused frame is no Close
+pub rejected_greeted : (given : List Frame) → IsRejected given → IsGreeted given
+rejected_greeted given r = subst (λ (xs : List Frame). IsGreeted xs) (sym r.is) (greeted_push r.front r.last (stray_unclosed (kind_of r.last.body) r.stray) r.before)
+
+rejected_by : (xs : List Frame) (x : Frame) (body : FrameBody) → x.body ≡ body → IsStray (kind_of body) → IsGreeted xs → IsRejected (xs ++ x ∷ [])
+rejected_by xs x body e i g = record { front = xs; last = x; before = g; stray = subst (λ (z : FrameBody). IsStray (kind_of z)) (sym e) i; is = refl }
 
 -- the frame of that body, last
 last_is : (xs : List Frame) (x : Frame) (body : FrameBody) → x.body ≡ body → xs ++ x ∷ [] ≡ xs ++ framed x.channel body ∷ []
@@ -72,18 +79,18 @@ heard_awaited at s xs x (b.Disposition y) e h = mistaken s.reason xs x (b.Dispos
 heard_awaited at s xs x (b.Detach y) e h = mistaken s.reason xs x (b.Detach y) e tt h
 heard_awaited at s xs x (b.End y) e h = mistaken s.reason xs x (b.End y) e tt h
 
-heard_planned : (q : Plan) (phase : Phase) (reason : ConnectionStopReason) (xs : List Frame) → phase ≡ p.Opened → IsHeard p.Opened reason xs → IsHeard (phase_after q phase) reason xs
-heard_planned (plan.Reject w) phase reason xs e h = h
-heard_planned plan.Deliver phase reason xs e h = subst (λ (q : Phase). IsHeard q reason xs) (sym e) h
-heard_planned plan.Answer phase reason xs e h = subst (λ (q : Phase). IsHeard q reason xs) (sym e) h
-heard_planned plan.End phase reason xs e h = subst (λ (q : Phase). IsHeard q reason xs) (sym e) h
-heard_planned plan.Ask phase reason xs e h = subst (λ (q : Phase). IsHeard q reason xs) (sym e) h
+heard_planned : (q : Plan) (phase : Phase) (reason : ConnectionStopReason) (xs : List Frame) → phase ≡ p.Opened → IsRejected xs → IsHeard p.Opened reason xs → IsHeard (phase_after q phase) reason xs
+heard_planned (plan.Reject w) phase reason xs e r h = (r, h.1)
+heard_planned plan.Deliver phase reason xs e r h = subst (λ (q : Phase). IsHeard q reason xs) (sym e) h
+heard_planned plan.Answer phase reason xs e r h = subst (λ (q : Phase). IsHeard q reason xs) (sym e) h
+heard_planned plan.End phase reason xs e r h = subst (λ (q : Phase). IsHeard q reason xs) (sym e) h
+heard_planned plan.Ask phase reason xs e r h = subst (λ (q : Phase). IsHeard q reason xs) (sym e) h
 
-heard_session : {L : Type 0} (s : State L) (xs : List Frame) (x : Frame) (body : FrameBody) → x.body ≡ body → IsInner (kind_of body) → s.phase ≡ p.Opened → IsHeard p.Opened s.reason xs → IsHeard (phase_after (plan_of s x) s.phase) s.reason (xs ++ x ∷ [])
-heard_session s xs x body e i o h = heard_planned (plan_of s x) s.phase s.reason (xs ++ x ∷ []) o (greeted_by xs x body e (inner_unclosed (kind_of body) i) h.0, h.1)
+heard_session : {L : Type 0} (s : State L) (xs : List Frame) (x : Frame) (body : FrameBody) → x.body ≡ body → IsStray (kind_of body) → s.phase ≡ p.Opened → IsHeard p.Opened s.reason xs → IsHeard (phase_after (plan_of s x) s.phase) s.reason (xs ++ x ∷ [])
+heard_session s xs x body e i o h = heard_planned (plan_of s x) s.phase s.reason (xs ++ x ∷ []) o (rejected_by xs x body e i h.0) (greeted_by xs x body e (stray_unclosed (kind_of body) i) h.0, h.1)
 
 heard_arrived : {L : Type 0} (s : State L) (xs : List Frame) (x : Frame) (body : FrameBody) → x.body ≡ body → s.phase ≡ p.Opened → IsHeard p.Opened s.reason xs → IsHeard (arrived s x body).phase (arrived s x body).reason (xs ++ x ∷ [])
-heard_arrived s xs x (b.Open y) e o h = (greeted_by xs x (b.Open y) e (λ c. c) h.0, h.1)
+heard_arrived s xs x (b.Open y) e o h = (rejected_by xs x (b.Open y) e tt h.0, h.1)
 heard_arrived s xs x (b.Close y) e o h = record { front = xs; channel = x.channel; last = y; before = inr h.0; is = last_is xs x (b.Close y) e; told = refl }
 heard_arrived s xs x b.Empty e o h = subst (λ (q : Phase). IsHeard q s.reason (xs ++ x ∷ [])) (sym o) (greeted_by xs x b.Empty e (λ c. c) h.0, h.1)
 heard_arrived s xs x (b.Begin y) e o h = heard_session s xs x (b.Begin y) e tt o h

@@ -1,6 +1,7 @@
 pub mod Reading
 pub mod Said
 pub mod Hearing
+pub mod Bounds
 pub mod Writes
 pub mod Runs
 pub mod Steps

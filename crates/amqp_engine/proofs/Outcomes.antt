@@ -43,9 +43,9 @@ use Rattle.amqp_engine.specs.Machine.{received, answer_to, plan_of, admitted_ans
 use Rattle.amqp_engine.specs.State.{State, failing, closing, close_frame, error_for, beating}
 use Rattle.amqp_engine.specs.Calls.{Puts, IsMemory, Steps, Acts, ThenActs, Reads, After, Writes, FlushesIf, AfterFlush, Sends, SendsIf}
 use Rattle.amqp_engine.specs.Sentence.{IsCalm}
-use Rattle.amqp_engine.specs.Faults.{IsFault, IsOwed, input_of}
+use Rattle.amqp_engine.specs.Faults.{IsFault, IsOwed, AllOwed, input_of}
 use Rattle.amqp_engine.specs.Outcomes.{IsWritten, HasWaited, HasRested, IsRefusal, HasWorked, IsOnward, IsTold, IsMoment, Stepped, IsClosedBy, HasClosed}
-use Rattle.amqp_engine.proofs.Hearing.{IsListening}
+use Rattle.amqp_engine.proofs.Hearing.{IsListening, rejected_greeted}
 use Rattle.amqp_engine.proofs.Runs.{RanBy, CanFollow, alike_refl, alike_same, alike_failing, none_by, then_by, read_by, flushed_by}
 use Rattle.amqp_engine.proofs.Steps.{in_phase, heard_in, listening_holds, queued_of, puts_by, reached, beats_follow, answers_follow, closes_follow, open_follows, is_open_only}
 use Rattle.amqp_engine.proofs.Writes.{write_events}
@@ -220,6 +220,7 @@ record Acted {L : Type 0} (link : Ghosts L) (at : ℕ) (old : State L) (result :
   pub few : reads_in events ≤ 1
   pub moment : IsMoment at old given new
   pub told : (es : List LinkEvent) → read_of es ≡ [] → IsWritten old.phase es old.wire.codec.output → IsTold at old (events ++ es) given queued result new
+  pub owed : AllOwed old.phase queued
 
 -- no frame is given
 moment_none : {L : Type 0} (link : Ghosts L) (at : ℕ) (old new : State L) (events : List LinkEvent) (queued : List Frame) → RanBy link old events [] queued new → IsMoment at old [] new
@@ -234,7 +235,7 @@ moment_after link at old wire (Err e) result new g a c r = moment_none link at o
 acted_reads : {L : Type 0} (link : Ghosts L) (at : ℕ) (old : State L) (result : Result EngineStep Error) (new : State L) → IsListening old.phase → (old.phase ≡ p.Opened → IsDue old.beat at → ⊥) → Reads link at old result new → Acted link at old result new
 acted_reads link at old result new l u r =
     let k = reached link at old r.wire r.answer result new l r.joined r.does in
-    let by = read_by link at old r.wire r.answer new r.joined k.beside k.heard k.calm in
+    let by = read_by link at old r.wire r.answer new r.joined k.beside k.heard k.calm k.bounds in
     record {
       events = r.joined.events;
       given = frames_of r.answer;
@@ -243,12 +244,13 @@ acted_reads link at old result new l u r =
       few = r.joined.few;
       moment = moment_after link at old r.wire r.answer result new r.joined r.does k.beside.clock by;
       told = λ es n w. told_after link at old r.wire r.answer result new r.joined es l u n (k.beside.output ∙ r.joined.output) w r.does;
+      owed = tt;
     }
 
 -- nothing was done
 acted_none : {L : Type 0} (link : Ghosts L) (at : ℕ) (old : State L) (result : Result EngineStep Error) (new : State L) → RanBy link old [] [] [] new → ((es : List LinkEvent) → IsWritten old.phase es old.wire.codec.output → IsTold at old es [] [] result new) → Acted link at old result new
 acted_none link at old result new r t =
-    record { events = []; given = []; queued = []; by = r; few = omega arith; moment = moment_none link at old new [] [] r; told = λ es n w. t es w }
+    record { events = []; given = []; queued = []; by = r; few = omega arith; moment = moment_none link at old new [] [] r; told = λ es n w. t es w; owed = tt }
 
 -- memory was wanting
 acted_wants : {L : Type 0} (link : Ghosts L) (at : ℕ) (old : State L) (result : Result EngineStep Error) (new : State L) → IsMemory result → new ≡ old → Acted link at old result new
@@ -293,6 +295,10 @@ told_puts at old x after es (Err error.NotFound) new o h q = absurd q
 told_puts at old x after es (Err error.RemoteClosed) new o h q = absurd q
 told_puts at old x after es (Err (error.RemoteClosedWithError y)) new o h q = absurd q
 
+owed_of : {A : Type 0} (phase : Phase) (x : Frame) (result : Result A Error) → IsOwed phase x → AllOwed phase (queued_of x result)
+owed_of phase x (Ok v) o = o
+owed_of phase x (Err e) o = tt
+
 -- a frame that is owed
 acted_puts : {L : Type 0} (link : Ghosts L) (at : ℕ) (old : State L) (x : Frame) (after : State L) (result : Result EngineStep Error) (new : State L) → CanFollow old x after → IsOwed old.phase x → has_failed after.phase ≡ false → Puts old x after step.Worked result new → Acted link at old result new
 acted_puts link at old x after result new f o h q =
@@ -305,6 +311,7 @@ acted_puts link at old x after result new f o h q =
       few = omega arith;
       moment = moment_none link at old new [] (queued_of x result) by;
       told = λ es n w. told_puts at old x after es result new o h q;
+      owed = owed_of old.phase x result o;
     }
 
 owed_in : {L : Type 0} (old : State L) (q : Phase) (x : Frame) → old.phase ≡ q → IsOwed q x → IsOwed old.phase x
@@ -329,15 +336,15 @@ acted p.Refused link at old result new e a =
     acted_puts link at old (close_frame None) _ result new (answers_follow old (λ sent s. in_phase old p.Refused sent e s) (λ before h. inr (inl (heard_in old p.Refused before e h))) (ap is_stopped e)) (owed_in old p.Refused (close_frame None) e refl) refl a
 acted (p.Rejected why) link at old result new e (inl a) =
     acted_puts link at old (close_frame (Some (error_for why))) (closing old (Some (error_for why))) result new
-    (closes_follow old (Some (error_for why)) (λ sent s. in_phase old (p.Rejected why) sent e s) (λ before h. (heard_in old (p.Rejected why) before e h).0) (ap is_stopped e)) (owed_in old (p.Rejected why) (close_frame (Some (error_for why))) e refl) refl a
+    (closes_follow old (Some (error_for why)) (λ sent s. in_phase old (p.Rejected why) sent e s) (λ before h. rejected_greeted before (heard_in old (p.Rejected why) before e h).0) (ap is_stopped e)) (owed_in old (p.Rejected why) (close_frame (Some (error_for why))) e refl) refl a
 acted (p.Rejected why) link at old result new e (inr m) = acted_wants link at old result new m.0 m.1
 acted p.CloseSent link at old result new e a = acted_reads link at old result new (listens_in old p.CloseSent e tt) (λ f. absurd (cc (e, f))) a
 acted p.Discarding link at old result new e a = acted_reads link at old result new (listens_in old p.Discarding e tt) (λ f. absurd (cc (e, f))) a
 acted p.Ended link at old result new e a = acted_rests link at old result new (ap is_stopped e) a.0 a.1
 acted p.Failed link at old result new e a = acted_rests link at old result new (ap is_stopped e) a.0 a.1
 
-stepped_so : {L : Type 0} (link : Ghosts L) (at : ℕ) (old : State L) (events : List LinkEvent) (given queued : List Frame) (result : Result EngineStep Error) (new : State L) → RanBy link old events given queued new → reads_in events ≤ 1 → IsMoment at old given new → IsTold at old events given queued result new → Stepped link at old result new
-stepped_so link at old events given queued result new b f m t =
+stepped_so : {L : Type 0} (link : Ghosts L) (at : ℕ) (old : State L) (events : List LinkEvent) (given queued : List Frame) (result : Result EngineStep Error) (new : State L) → RanBy link old events given queued new → reads_in events ≤ 1 → IsMoment at old given new → IsTold at old events given queued result new → AllOwed old.phase queued → Stepped link at old result new
+stepped_so link at old events given queued result new b f m t o =
     record {
       run = b.run;
       few = subst (λ (es : List LinkEvent). reads_in es ≤ 1) (sym b.events_is) f;
@@ -345,6 +352,7 @@ stepped_so link at old events given queued result new b f m t =
       told = subst (λ (es : List LinkEvent). IsTold at old es b.run.given b.run.queued result new) (sym b.events_is)
           (subst (λ (gs : List Frame). IsTold at old events gs b.run.queued result new) (sym b.given_is)
           (subst (λ (qs : List Frame). IsTold at old events given qs result new) (sym b.queued_is) t));
+      owed = subst (λ (qs : List Frame). AllOwed old.phase qs) (sym b.queued_is) o;
     }
 
 -- after the link took bytes
@@ -379,13 +387,13 @@ few_then es fs n f = omega (arith, reads_in-append fs es, n, f)
 stepped_acts : {L : Type 0} (link : Ghosts L) (at : ℕ) (old : State L) (to : L) (output : List ℕ) (es : List LinkEvent) (result : Result EngineStep Error) (new : State L) → RanBy link old es [] [] (sent_state old to output) → reads_in es ≡ 0 → read_of es ≡ [] → IsWritten old.phase es output → Acted link at (sent_state old to output) result new → Stepped link at old result new
 stepped_acts link at old to output es result new b n r w a =
     stepped_so link at old (a.events ++ es) a.given a.queued result new (then_by link old (sent_state old to output) new es a.events [] a.given [] a.queued b a.by)
-    (few_then es a.events n a.few) a.moment (told_before at old to output (a.events ++ es) a.given a.queued result new (a.told es r w))
+    (few_then es a.events n a.few) a.moment (told_before at old to output (a.events ++ es) a.given a.queued result new (a.told es r w)) a.owed
 
 -- the flush failed, or memory was wanting
 stepped_held : {L : Type 0} (link : Ghosts L) (at : ℕ) (old : State L) (to : L) (output : List ℕ) (es : List LinkEvent) (result : Result EngineStep Error) (new : State L) → RanBy link old es [] [] (sent_state old to output) → reads_in es ≡ 0 → RanBy link (sent_state old to output) [] [] [] new → IsTold at old es [] [] result new → Stepped link at old result new
 stepped_held link at old to output es result new b n c t =
     let by = then_by link old (sent_state old to output) new es [] [] [] [] [] b c in
-    stepped_so link at old es [] [] result new by (omega (arith, n)) (moment_none link at old new es [] by) t
+    stepped_so link at old es [] [] result new by (omega (arith, n)) (moment_none link at old new es [] by) t tt
 
 acts_of : {L : Type 0} (link : Ghosts L) (at : ℕ) (f : Flush) (flush : Result Flush Error) (s mid : State L) (result : Result EngineStep Error) (new : State L) → flush ≡ Ok f → mid ≡ s → ThenActs link at flush mid result new → Acted link at s result new
 acts_of {L} link at f flush s mid result new e m a =

@@ -3,6 +3,7 @@ use Rattle.std.proofs.Common.{◌≡◌, ◌≤◌, inl, inr, ℕ, List, [], ◌
 use Rattle.std.proofs.Math.Path.{ap₂}
 use Rattle.std.proofs.lemmas.Bool.{cases_lt}
 use Rattle.std.proofs.lemmas.List.{append-nil}
+use Rattle.std.proofs.lemmas.List.Elements.{All-nil, All-cons, All-append}
 use Rattle.std.proofs.lemmas.Grind.{flat_map-append}
 use Rattle.amqp_wire.specs.declared.link.Link.{Ghosts}
 use Rattle.amqp_wire.specs.Codec.{Codec}
@@ -25,10 +26,11 @@ use Rattle.amqp_engine.specs.declared.connection.Settings.{Settings}
 use Rattle.amqp_engine.specs.Calls.{IsTooLarge}
 use Rattle.amqp_engine.specs.Heard.{IsHeard}
 use Rattle.amqp_engine.specs.Phases.{is_stopped, has_failed}
-use Rattle.amqp_engine.specs.State.{State, bytes_of, queueing, failing, failed_reason}
-use Rattle.amqp_engine.specs.Sentence.{Ran, IsSaid, IsCalm, bytes_of_all, size_of_frame, AllWithin, IsLimited, HasStopped}
+use Rattle.amqp_engine.specs.State.{State, bytes_of, queueing, failing, failed_reason, IsFramed}
+use Rattle.amqp_engine.specs.Sentence.{Ran, IsSaid, IsCalm, bytes_of_all, size_of_frame, AllWithin, IsLimited, IsBounded, HasStopped}
 use Rattle.amqp_engine.proofs.Hearing.{heard_failed}
 use Rattle.amqp_engine.proofs.Said.{said_failed}
+use Rattle.amqp_engine.proofs.Bounds.{SameBounds, same_bounds, bounded_same, bounded_none}
 use Rattle.amqp_engine.proofs.Writes.{write_events, went_writes, writes_of, writes_read}
 
 -- what stays where a frame is read, or nothing, and the phase moves on
@@ -41,12 +43,14 @@ pub record Beside {L : Type 0} (old new : State L) : Type 0 where
   pub said : (sent : List Frame) → IsSaid old.phase sent → IsSaid new.phase sent
   pub stays : is_stopped old.phase ≡ true → HasStopped old new []
   pub limits : IsLimited old → IsLimited new × (old.wire.codec.encoder ≤ new.wire.codec.encoder)
+  pub own : new.settings.largest_read ≡ old.settings.largest_read
 
 -- what a run does not see: nothing was heard, either
 pub record Alike {L : Type 0} (old new : State L) : Type 0 where
   pub beside : Beside old new
   pub heard : (before : List Frame) → IsHeard old.phase old.reason before → IsHeard new.phase new.reason before
   pub calm : IsCalm old → IsCalm new
+  pub bounds : SameBounds old new
 
 pub beside_refl : {L : Type 0} (s : State L) → Beside s s
 beside_refl s =
@@ -59,10 +63,11 @@ beside_refl s =
       said = λ sent i. i;
       stays = λ e. record { phase = e; reason = refl; none = refl };
       limits = λ l. (l, omega arith);
+      own = refl;
     }
 
 pub alike_refl : {L : Type 0} (s : State L) → Alike s s
-alike_refl s = record { beside = beside_refl s; heard = λ before h. h; calm = λ c. c }
+alike_refl s = record { beside = beside_refl s; heard = λ before h. h; calm = λ c. c; bounds = same_bounds s }
 
 pub alike_same : {L : Type 0} (old new : State L) → new ≡ old → Alike old new
 alike_same {L} old new e = subst (λ (t : State L). Alike old t) (sym e) (alike_refl old)
@@ -79,6 +84,7 @@ beside_moves s q reason i n e =
       said = i;
       stays = λ f. absurd (cc (e, f));
       limits = λ l. (record { told = l.told; least = l.least; reads = l.reads; first = λ f. absurd (n f) }, omega arith);
+      own = refl;
     }
 
 not_open_sent : p.Failed ≡ p.OpenSent → ⊥
@@ -106,6 +112,7 @@ beside_failing s =
       said = λ sent i. said_failed s.phase sent i;
       stays = λ f. record { phase = refl; reason = failing_from s.phase s refl f; none = refl };
       limits = λ l. (record { told = l.told; least = l.least; reads = l.reads; first = λ f. absurd (not_open_sent f) }, omega arith);
+      own = refl;
     }
 
 pub calm_failing : {L : Type 0} (s : State L) → IsCalm (failing s)
@@ -113,7 +120,7 @@ calm_failing s f = absurd (cc f)
 
 pub alike_failing : {L : Type 0} (old new : State L) → new ≡ failing old → Alike old new
 alike_failing {L} old new e =
-    subst (λ (t : State L). Alike old t) (sym e) (record { beside = beside_failing old; heard = λ before h. heard_failed old.phase old.reason before h; calm = λ c. calm_failing old })
+    subst (λ (t : State L). Alike old t) (sym e) (record { beside = beside_failing old; heard = λ before h. heard_failed old.phase old.reason before h; calm = λ c. calm_failing old; bounds = record { reads = refl; writes = refl; own = refl } })
 
 -- a run by these events, with these frames given and queued
 pub record RanBy {L : Type 0} (link : Ghosts L) (old : State L) (events : List LinkEvent) (given queued : List Frame) (new : State L) : Type 0 where
@@ -152,6 +159,9 @@ none_by {L} link old new a =
         calm = a.calm;
         stays = a.beside.stays;
         limits = λ l. let m = a.beside.limits l in (m.0, m.1, tt);
+        framed = All-nil IsFramed;
+        bounds = λ before h k. bounded_none new before (bounded_same old new before a.bounds k);
+        own = a.beside.own;
       };
       events_is = refl;
       given_is = refl;
@@ -210,6 +220,9 @@ ran_then link a b c m n =
           let h = n.limits f.0 in
           let both : a.wire.codec.encoder ≤ c.wire.codec.encoder = omega (arith, f.1, h.1) in
           (h.0, both, within_append c.wire.codec.encoder m.queued n.queued (within_more b.wire.codec.encoder c.wire.codec.encoder m.queued h.1 f.2) h.2);
+      framed = All-append IsFramed m.queued n.queued m.framed n.framed;
+      bounds = λ before h k. subst (λ (xs : List Frame). IsBounded c xs) (append_assoc before m.given n.given) (n.bounds (before ++ m.given) (m.heard before h) (m.bounds before h k));
+      own = n.own ∙ m.own;
     }
 
 pub then_by : {L : Type 0} (link : Ghosts L) (a b c : State L) (es fs : List LinkEvent) (gs hs qs rs : List Frame) → RanBy link a es gs qs b → RanBy link b fs hs rs c → RanBy link a (fs ++ es) (gs ++ hs) (qs ++ rs) c
@@ -247,10 +260,11 @@ not_failed p.Ended e = refl
 not_failed p.Failed e = absurd (cc e)
 
 -- a frame was queued
-pub put_by : {L : Type 0} (link : Ghosts L) (old new : State L) (x : Frame) → CanFollow old x new → size_of_frame x ≤ old.wire.codec.encoder → RanBy link old [] [] (x ∷ []) new
-put_by {L} link old new x f fits =
+pub put_by : {L : Type 0} (link : Ghosts L) (old new : State L) (x : Frame) → CanFollow old x new → size_of_frame x ≤ old.wire.codec.encoder → IsFramed x → RanBy link old [] [] (x ∷ []) new
+put_by {L} link old new x f fits spells =
     let lim : new.wire.codec.encoder ≡ old.wire.codec.encoder = ap (λ (w : Wire L). w.codec.encoder) f.wire in
     let reads : new.wire.codec.decoder ≡ old.wire.codec.decoder = ap (λ (w : Wire L). w.codec.decoder) f.wire in
+    let own : new.settings.largest_read ≡ old.settings.largest_read = ap (λ (t : Settings). t.largest_read) f.settings in
     record {
       run = record {
         events = [];
@@ -270,6 +284,9 @@ put_by {L} link old new x f fits =
           omega (arith, lim),
           (omega (arith, lim, fits), tt),
         );
+        framed = All-cons IsFramed x [] spells (All-nil IsFramed);
+        bounds = λ before h k. bounded_none new before (bounded_same old new before (record { reads = reads; writes = lim; own = own }) k);
+        own = own;
       };
       events_is = refl;
       given_is = refl;
@@ -289,8 +306,8 @@ since_after (Ok next.Ended) at c e = refl
 since_after (Err e) at c n = refl
 
 -- bytes were read, and a frame given or not
-pub read_by : {L : Type 0} (link : Ghosts L) (at : ℕ) (old : State L) (wire : Wire L) (answer : Result (Next Frame) TransportFault) (new : State L) (g : Grew link 0 amqp_spells old.wire at answer wire) → Beside (record old { wire = wire }) new → ((before : List Frame) → IsHeard old.phase old.reason before → IsHeard new.phase new.reason (before ++ frames_of answer)) → (IsCalm old → IsCalm new) → RanBy link old g.events (frames_of answer) [] new
-read_by {L} link at old wire answer new g b heard calm =
+pub read_by : {L : Type 0} (link : Ghosts L) (at : ℕ) (old : State L) (wire : Wire L) (answer : Result (Next Frame) TransportFault) (new : State L) (g : Grew link 0 amqp_spells old.wire at answer wire) → Beside (record old { wire = wire }) new → ((before : List Frame) → IsHeard old.phase old.reason before → IsHeard new.phase new.reason (before ++ frames_of answer)) → (IsCalm old → IsCalm new) → ((before : List Frame) → IsHeard old.phase old.reason before → IsBounded old before → IsBounded new (before ++ frames_of answer)) → RanBy link old g.events (frames_of answer) [] new
+read_by {L} link at old wire answer new g b heard calm bounds =
     let lim : wire.codec.encoder ≡ old.wire.codec.encoder = ap (λ (l : ℕ × ℕ). l.1) g.limits in
     let reads : wire.codec.decoder ≡ old.wire.codec.decoder = ap (λ (l : ℕ × ℕ). l.0) g.limits in
     record {
@@ -310,6 +327,9 @@ read_by {L} link at old wire answer new g b heard calm =
         limits = λ l.
             let m = b.limits (record { told = l.told ∙ sym lim; least = omega (arith, lim, l.least); reads = omega (arith, reads, l.reads); first = λ f. lim ∙ l.first f }) in
             (m.0, omega (arith, lim, m.1), tt);
+        framed = All-nil IsFramed;
+        bounds = bounds;
+        own = b.own;
       };
       events_is = refl;
       given_is = refl;
@@ -338,6 +358,9 @@ flushed_by {L} link old wire answer f =
         calm = λ k n. ap (λ (w : Wire L). w.kept) same ∙ k n;
         stays = λ e. record { phase = e; reason = refl; none = refl };
         limits = λ l. (record { told = l.told ∙ sym lim; least = omega (arith, lim, l.least); reads = omega (arith, reads, l.reads); first = λ e. lim ∙ l.first e }, omega (arith, lim), tt);
+        framed = All-nil IsFramed;
+        bounds = λ before h k. bounded_none (record old { wire = wire }) before (bounded_same old (record old { wire = wire }) before (record { reads = reads; writes = lim; own = refl }) k);
+        own = refl;
       };
       events_is = refl;
       given_is = refl;

@@ -34,10 +34,11 @@ use Rattle.amqp_engine.specs.Channels.{Channels, taken_in}
 use Rattle.amqp_engine.specs.Machine.{received, awaited, arrived, outlasted, admitted, plan_of}
 use Rattle.amqp_engine.specs.Calls.{Puts, After, AfterFlush, failing_by, FlushesIf, Flushes, SendsIf, Sends, with_channels, Allocates}
 use Rattle.amqp_engine.specs.Heard.{IsHeard, IsGreeted, IsOver}
-use Rattle.amqp_engine.specs.Sentence.{Ran, IsCalm, IsSaid, IsBegun, IsClosed}
+use Rattle.amqp_engine.specs.Sentence.{Ran, IsCalm, IsSaid, IsBegun, IsClosed, IsBounded}
 use Rattle.amqp_engine.proofs.Said.{said_closing, closed_push, begun_push, session_is_inner}
 use Rattle.amqp_engine.proofs.Runs.{Alike, Beside, RanBy, CanFollow, beside_refl, beside_moves, beside_failing, calm_failing, alike_same, alike_failing, within, heard_none, none_by, put_by, flushed_by, ran_none, ran_then}
 use Rattle.amqp_engine.proofs.Hearing.{IsListening, heard_received, heard_failed, heard_closing}
+use Rattle.amqp_engine.proofs.Bounds.{SameBounds, bounded_same, bounded_none, bounded_received}
 
 pub in_phase : {L : Type 0} (old : State L) (q : Phase) (sent : List Frame) → old.phase ≡ q → IsSaid old.phase sent → IsSaid q sent
 in_phase old q sent e s = subst (λ (r : Phase). IsSaid r sent) e s
@@ -74,7 +75,7 @@ queued_of x (Err e) = []
 
 -- a frame was queued, or refused
 pub puts_by : {L A : Type 0} (link : Ghosts L) (old : State L) (x : Frame) (after : State L) (value : A) (result : Result A Error) (new : State L) → CanFollow old x after → Puts old x after value result new → RanBy link old [] [] (queued_of x result) new
-puts_by {L} link old x after value (Ok v) new f q = subst (λ (t : State L). RanBy link old [] [] (x ∷ []) t) (sym q.2) (put_by link old after x f (within old.wire.codec.encoder x q.1))
+puts_by {L} link old x after value (Ok v) new f q = subst (λ (t : State L). RanBy link old [] [] (x ∷ []) t) (sym q.2) (put_by link old after x f (within old.wire.codec.encoder x q.1) q.3)
 puts_by link old x after value (Err (error.Memory a)) new f q = none_by link old new (alike_same old new q)
 puts_by link old x after value (Err (error.TransportError fault.FramingError)) new f q = none_by link old new (alike_failing old new q.1)
 puts_by link old x after value (Err (error.TransportError (fault.Memory a))) new f q = absurd q
@@ -110,6 +111,7 @@ beside_entered at s y e =
       limits = λ l.
           let old : s.wire.codec.encoder ≡ 512 = l.first e in
           (record { told = omega arith; least = omega arith; reads = omega arith; first = λ f. absurd (opened_not f) }, omega (arith, old));
+      own = refl;
     }
 
 awaited_moves : {L : Type 0} (s : State L) (q : Phase) (reason : ConnectionStopReason) → s.phase ≡ p.OpenSent → ((sent : List Frame) → IsBegun sent → IsSaid q sent) → (q ≡ p.OpenSent → ⊥) → Beside s (record s { phase = q; reason = reason })
@@ -139,10 +141,11 @@ beside_channels s c =
       said = λ sent i. i;
       stays = λ e. record { phase = e; reason = refl; none = refl };
       limits = λ l. (record { told = l.told; least = l.least; reads = l.reads; first = l.first }, omega arith);
+      own = refl;
     }
 
 pub alike_channels : {L : Type 0} (s : State L) (c : Channels) → Alike s (with_channels s c)
-alike_channels s c = record { beside = beside_channels s c; heard = λ before h. h; calm = λ k. k }
+alike_channels s c = record { beside = beside_channels s c; heard = λ before h. h; calm = λ k. k; bounds = record { reads = refl; writes = refl; own = refl } }
 
 arrived_moves : {L : Type 0} (s : State L) (q : Phase) (reason : ConnectionStopReason) → s.phase ≡ p.Opened → ((sent : List Frame) → IsBegun sent → IsSaid q sent) → (q ≡ p.OpenSent → ⊥) → Beside s (record s { phase = q; reason = reason })
 arrived_moves s q reason e i n = beside_moves s q reason (λ sent j. i sent (in_phase s p.Opened sent e j)) n (ap is_stopped e)
@@ -202,6 +205,7 @@ pub record Reached {L : Type 0} (old s new : State L) (given : List Frame) : Typ
   pub beside : Beside s new
   pub heard : (before : List Frame) → IsHeard old.phase old.reason before → IsHeard new.phase new.reason (before ++ given)
   pub calm : IsCalm old → IsCalm new
+  pub bounds : (before : List Frame) → IsHeard old.phase old.reason before → IsBounded old before → IsBounded new (before ++ given)
 
 reached_is : {L : Type 0} (old s new after : State L) (given : List Frame) → new ≡ after → Reached old s after given → Reached old s new given
 reached_is {L} old s new after given e r = subst (λ (t : State L). Reached old s t given) (sym e) r
@@ -217,36 +221,51 @@ listening_holds p.Discarding l = refl
 listening_holds p.Ended l = refl
 listening_holds p.Failed l = absurd l
 
-reached_failing : {L : Type 0} (old s : State L) → s.phase ≡ old.phase → s.reason ≡ old.reason → Reached old s (failing s) []
-reached_failing {L} old s q r =
+reached_failing : {L : Type 0} (old s : State L) → s.phase ≡ old.phase → s.reason ≡ old.reason → SameBounds old s → Reached old s (failing s) []
+reached_failing {L} old s q r same =
     record {
       beside = beside_failing s;
       heard = λ before h. heard_none p.Failed (failed_reason s.phase s.reason) before (heard_failed s.phase s.reason before
           (subst (λ (z : Phase). IsHeard z s.reason before) (sym q) (subst (λ (z : ConnectionStopReason). IsHeard old.phase z before) (sym r) h)));
       calm = λ c. calm_failing s;
+      bounds = λ before h k. bounded_none (failing s) before (bounded_same old (failing s) before (record { reads = same.reads; writes = same.writes; own = same.own }) k);
     }
 
-reached_still : {L : Type 0} (old : State L) (wire : Wire L) → wire.kept ≡ old.wire.kept → Reached old (record old { wire = wire }) (record old { wire = wire }) []
-reached_still old wire k =
-    record { beside = beside_refl (record old { wire = wire }); heard = λ before h. heard_none old.phase old.reason before h; calm = λ c f. k ∙ c f }
+reached_still : {L : Type 0} (old : State L) (wire : Wire L) → wire.kept ≡ old.wire.kept → SameBounds old (record old { wire = wire }) → Reached old (record old { wire = wire }) (record old { wire = wire }) []
+reached_still old wire k same =
+    record {
+      beside = beside_refl (record old { wire = wire });
+      heard = λ before h. heard_none old.phase old.reason before h;
+      calm = λ c f. k ∙ c f;
+      bounds = λ before h b. bounded_none (record old { wire = wire }) before (bounded_same old (record old { wire = wire }) before same b);
+    }
 
-reached_by : {L : Type 0} (old : State L) (wire : Wire L) (e : TransportFault) → wire.kept ≡ kept_after {X = Frame} (Err e) old.wire.kept → Reached old (record old { wire = wire }) (failing_by e (record old { wire = wire })) []
-reached_by old wire (fault.Memory a) k = reached_still old wire k
-reached_by old wire (fault.Io i) k = reached_failing old (record old { wire = wire }) refl refl
-reached_by old wire fault.IdleTimeoutElapsed k = reached_failing old (record old { wire = wire }) refl refl
-reached_by old wire fault.DecodeError k = reached_failing old (record old { wire = wire }) refl refl
-reached_by old wire fault.NotImplemented k = reached_failing old (record old { wire = wire }) refl refl
-reached_by old wire fault.FramingError k = reached_failing old (record old { wire = wire }) refl refl
+reached_by : {L : Type 0} (old : State L) (wire : Wire L) (e : TransportFault) → wire.kept ≡ kept_after {X = Frame} (Err e) old.wire.kept → SameBounds old (record old { wire = wire }) → Reached old (record old { wire = wire }) (failing_by e (record old { wire = wire })) []
+reached_by old wire (fault.Memory a) k same = reached_still old wire k same
+reached_by old wire (fault.Io i) k same = reached_failing old (record old { wire = wire }) refl refl same
+reached_by old wire fault.IdleTimeoutElapsed k same = reached_failing old (record old { wire = wire }) refl refl same
+reached_by old wire fault.DecodeError k same = reached_failing old (record old { wire = wire }) refl refl same
+reached_by old wire fault.NotImplemented k same = reached_failing old (record old { wire = wire }) refl refl same
+reached_by old wire fault.FramingError k same = reached_failing old (record old { wire = wire }) refl refl same
+
+-- a poll of the transport leaves the limits
+same_polled : {L : Type 0} (link : Ghosts L) (at : ℕ) (old : State L) (wire : Wire L) (answer : Result (Next Frame) TransportFault) → Grew link 0 amqp_spells old.wire at answer wire → SameBounds old (record old { wire = wire })
+same_polled link at old wire answer g = record { reads = ap (λ (l : ℕ × ℕ). l.0) g.limits; writes = ap (λ (l : ℕ × ℕ). l.1) g.limits; own = refl }
 
 pub reached : {L : Type 0} (link : Ghosts L) (at : ℕ) (old : State L) (wire : Wire L) (answer : Result (Next Frame) TransportFault) (result : Result EngineStep Error) (new : State L) → IsListening old.phase → Grew link 0 amqp_spells old.wire at answer wire → After at (record old { wire = wire }) answer result new → Reached old (record old { wire = wire }) new (frames_of answer)
 reached {L} link at old wire (Ok (next.Frame x)) result new l g a =
     let s : State L = record old { wire = wire } in
     let b = beside_received old.phase at s x refl in
     reached_is old s new (received old.phase at s x) (x ∷ []) a.1
-    (record { beside = b; heard = λ before h. heard_received old.phase at s before x refl l h; calm = λ c f. b.kept ∙ g.kept ∙ c (listening_holds old.phase l) })
-reached link at old wire (Ok next.Pending) result new l g a = reached_is old (record old { wire = wire }) new (record old { wire = wire }) [] a.1 (reached_still old wire g.kept)
-reached link at old wire (Ok next.Ended) result new l g a = reached_is old (record old { wire = wire }) new _ [] a.1 (reached_failing old (record old { wire = wire }) refl refl)
-reached link at old wire (Err e) result new l g a = reached_is old (record old { wire = wire }) new _ [] a.1 (reached_by old wire e g.kept)
+    (record {
+      beside = b;
+      heard = λ before h. heard_received old.phase at s before x refl l h;
+      calm = λ c f. b.kept ∙ g.kept ∙ c (listening_holds old.phase l);
+      bounds = λ before h k. bounded_received old.phase at s before x l h (bounded_same old s before (same_polled link at old wire (Ok (next.Frame x)) g) k);
+    })
+reached link at old wire (Ok next.Pending) result new l g a = reached_is old (record old { wire = wire }) new (record old { wire = wire }) [] a.1 (reached_still old wire g.kept (same_polled link at old wire (Ok next.Pending) g))
+reached link at old wire (Ok next.Ended) result new l g a = reached_is old (record old { wire = wire }) new _ [] a.1 (reached_failing old (record old { wire = wire }) refl refl (same_polled link at old wire (Ok next.Ended) g))
+reached link at old wire (Err e) result new l g a = reached_is old (record old { wire = wire }) new _ [] a.1 (reached_by old wire e g.kept (same_polled link at old wire (Err e) g))
 
 -- a frame between Open and Close
 inner_follows : {L : Type 0} (old : State L) (x : Frame) (after : State L) → old.phase ≡ p.Opened → after.wire ≡ (queueing old x).wire → after.settings ≡ old.settings → after.phase ≡ old.phase → after.reason ≡ old.reason → IsInner (kind_of x.body) → CanFollow old x after

@@ -28,23 +28,23 @@ use Rattle.amqp_engine.specs.Channels.{Channels, TakesFrame, TakesSession, first
 use Rattle.amqp_engine.specs.Errors.{error_of}
 use Rattle.amqp_engine.specs.Machine.{received, answer_to}
 use Rattle.amqp_engine.specs.Phases.{has_failed, is_open}
-use Rattle.amqp_engine.specs.State.{State, queueing, failing, closing, close_frame, error_for, beating, opened, open_frame, limited}
+use Rattle.amqp_engine.specs.State.{State, queueing, failing, closing, close_frame, error_for, beating, opened, open_frame, limited, IsFramed}
 
 -- a frame above the limit of what is written, or one that has no bytes
 abbrev pub IsTooLarge : ℕ → Frame → Type 0
 IsTooLarge limit x = (limit < 8 + length (amqp_bytes x)) ⊎ ((2 ^ 32 ≤ 8 + length (amqp_bytes x)) ⊎ amqp_oversized x)
 
--- Open is queued whole, or nothing is and the transport comes back
+-- Open is queued whole, in a frame that spells it (part 2, section 2.3), or nothing is and the transport comes back
 abbrev pub OpensTo : {L : Type 0} → Wire L → EndKind → Result (State L) (Error × Wire L) → Type 0
-OpensTo w end (Ok s) = (IsTooLarge 512 (open_frame end) → ⊥) × (s ≡ opened w end)
+OpensTo w end (Ok s) = (IsTooLarge 512 (open_frame end) → ⊥) × (s ≡ opened w end) × IsFramed (open_frame end)
 OpensTo w end (Err (error.Memory a, back)) = back ≡ limited w 512 512
 OpensTo w end (Err (error.TransportError fault.FramingError, back)) = IsTooLarge 512 (open_frame end) × (back ≡ limited w 512 512)
 OpensTo w end (Err (e, back)) = ⊥
 
--- A frame is queued whole, and then the engine is so and answers so. Want of memory changes nothing; a frame that is too large ends
--- the engine.
+-- A frame is queued whole and spells what it holds (part 2, section 2.3), and then the engine is so and answers so. Want of memory
+-- changes nothing; a frame that is too large ends the engine.
 abbrev pub Puts : {L A : Type 0} → State L → Frame → State L → A → Result A Error → State L → Type 0
-Puts old x after value (Ok v) new = (v ≡ value) × (IsTooLarge old.wire.codec.encoder x → ⊥) × (new ≡ after)
+Puts old x after value (Ok v) new = (v ≡ value) × (IsTooLarge old.wire.codec.encoder x → ⊥) × (new ≡ after) × IsFramed x
 Puts old x after value (Err (error.Memory a)) new = new ≡ old
 Puts old x after value (Err (error.TransportError fault.FramingError)) new = IsTooLarge old.wire.codec.encoder x × (new ≡ failing old)
 Puts old x after value (Err e) new = ⊥

@@ -1,5 +1,5 @@
 -- Why a step answers an error of the transport.
-use Rattle.std.specs.Prelude.{◌≡◌, ◌⊎◌, ℕ, List, ◌++◌, Some, None}
+use Rattle.std.specs.Prelude.{◌≡◌, ◌⊎◌, ℕ, List, [], ◌∷◌, ◌++◌, Some, None, ⊤}
 use Rattle.amqp_wire.specs.declared.link.Stop.TheVariants.{End as EndStop}
 use Rattle.amqp_wire.specs.declared.link.IoKind.TheVariants.{Fault, End}
 use Rattle.amqp_wire.specs.declared.frame.Front.TheVariants.{Refused, Foreign}
@@ -27,6 +27,12 @@ IsOwed p.CloseSent x = ⊥
 IsOwed p.Discarding x = ⊥
 IsOwed p.Ended x = ⊥
 IsOwed p.Failed x = ⊥
+
+-- what a step queues is what the end owes, and one frame at most (part 2, sections 2.4.3 and 2.4.5)
+abbrev pub AllOwed : Phase → List Frame → Type 0
+AllOwed phase [] = ⊤
+AllOwed phase (x ∷ []) = IsOwed phase x
+AllOwed phase (x ∷ y ∷ xs) = ⊥
 
 -- the frame that is owed is too large for the peer
 abbrev pub OwesTooMuch : {L : Type 0} → State L → Type 0

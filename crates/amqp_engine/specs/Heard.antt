@@ -7,6 +7,8 @@ use Rattle.amqp_frames.specs.declared.body.FrameBody.TheVariants as b
 use Rattle.amqp_frames.specs.declared.shared.ConnectionStopReason.{ConnectionStopReason}
 use Rattle.amqp_frames.specs.declared.shared.ConnectionStopReason.TheVariants as why
 use Rattle.amqp_transport.specs.declared.frames.Frame.{Frame}
+use Rattle.amqp_engine.specs.declared.phase.BodyKind.{BodyKind}
+use Rattle.amqp_engine.specs.declared.phase.BodyKind.TheVariants as kind
 use Rattle.amqp_engine.specs.declared.phase.Phase.{Phase}
 use Rattle.amqp_engine.specs.declared.phase.Phase.TheVariants as p
 use Rattle.amqp_engine.specs.Phases.{kind_of, IsInner, IsClose}
@@ -24,6 +26,21 @@ pub record IsGreeted (given : List Frame) : Type 0 where
   pub more : List Frame
   pub each : AllUnclosed more
   pub is : given ≡ record { channel = channel; body = b.Open first } ∷ more
+
+-- it has no place while the connection is open: a second Open, or a frame of a session (part 2, section 2.4)
+abbrev pub IsStray : BodyKind → Type 0
+IsStray kind.Open = Unit {0}
+IsStray kind.Session = Unit {0}
+IsStray kind.Empty = ⊥
+IsStray kind.Close = ⊥
+
+-- the peer's Open, and last a frame that is refused (part 2, section 2.4)
+pub record IsRejected (given : List Frame) : Type 0 where
+  pub front : List Frame
+  pub last : Frame
+  pub before : IsGreeted front
+  pub stray : IsStray (kind_of last.body)
+  pub is : given ≡ front ++ last ∷ []
 
 -- the peer's Close, in place of Open or behind it, and nothing more; the reason is its own (part 2, section 2.4.3)
 pub record IsParted (reason : ConnectionStopReason) (given : List Frame) : Type 0 where
@@ -63,7 +80,7 @@ IsHeard p.OpenSent reason given = (given ≡ []) × (reason ≡ why.Closed)
 IsHeard p.Opened reason given = IsGreeted given × (reason ≡ why.Closed)
 IsHeard p.CloseReceived reason given = IsParted reason given
 IsHeard p.Refused reason given = IsMistaken reason given
-IsHeard (p.Rejected rejection) reason given = IsGreeted given × (reason ≡ why.Closed)
+IsHeard (p.Rejected rejection) reason given = IsRejected given × (reason ≡ why.Closed)
 IsHeard p.CloseSent reason given = IsGreeted given × (reason ≡ own_reason None)
 IsHeard p.Discarding reason given = IsGreeted given × (own : AmqpError) × (reason ≡ own_reason (Some own))
 IsHeard p.Ended reason given = IsOver reason given

@@ -21,7 +21,7 @@ use Rattle.amqp_engine.specs.Plans.{rejection_told}
 use Rattle.amqp_engine.specs.State.{State, failing, closing, close_frame}
 use Rattle.amqp_engine.specs.Calls.{IsTooLarge}
 use Rattle.amqp_engine.specs.Sentence.{Ran, IsCalm}
-use Rattle.amqp_engine.specs.Faults.{IsFault}
+use Rattle.amqp_engine.specs.Faults.{IsFault, AllOwed}
 
 -- what was queued was written as far as the link took it, unless the transport failed before
 abbrev pub IsWritten : Phase → List LinkEvent → List ℕ → Type 0
@@ -83,12 +83,13 @@ IsTold at old events given queued (Err (error.RemoteClosedWithError e)) new = �
 abbrev pub IsMoment : {L : Type 0} → ℕ → State L → List Frame → State L → Type 0
 IsMoment at old given new = ((given ≡ []) × (new.wire.clock.since ≡ old.wire.clock.since)) ⊎ ((x : Frame) × (given ≡ x ∷ []) × (new.wire.clock.since ≡ at))
 
--- a run of one step, with what its answer says; the bytes that reads gave are told as one event at most
+-- a run of one step, with what its answer says; the bytes that reads gave are told as one event at most, and what is queued was owed
 pub record Stepped {L : Type 0} (link : Ghosts L) (at : ℕ) (old : State L) (result : Result EngineStep Error) (new : State L) : Type 0 where
   pub run : Ran link old new
   pub few : reads_in run.events ≤ 1
   pub moment : IsMoment at old run.given new
   pub told : IsTold at old run.events run.given run.queued result new
+  pub owed : AllOwed old.phase run.queued
 
 -- what the answer of a close says: a Close is queued, or nothing is
 abbrev pub IsClosedBy : {L : Type 0} → State L → Option AmqpError → List Frame → Result Unit Error → State L → Type 0

@@ -1,9 +1,10 @@
 -- What an end says on its connection (OASIS AMQP 1.0, part 2, section 2.4): Open, then frames of sessions and empty frames, then at
 -- most one Close, and nothing after it.
-use Rattle.std.specs.Prelude.{◌≡◌, ◌≤◌, ◌+◌, ℕ, List, [], ◌∷◌, ◌++◌, length, true, false, None, ◌⊎◌}
+use Rattle.std.specs.Prelude.{◌≡◌, ◌≤◌, ◌+◌, ℕ, List, [], ◌∷◌, ◌++◌, length, max, true, false, None, ◌⊎◌, All}
 use Rattle.amqp_wire.specs.declared.link.Link.{Ghosts}
 use Rattle.amqp_wire.specs.Events.{LinkEvent, Went, read_of, wrote_of}
 use Rattle.amqp_composites.specs.declared.open.Open.{Open}
+use Rattle.amqp_frames.specs.declared.body.FrameBody.{FrameBody}
 use Rattle.amqp_frames.specs.declared.body.FrameBody.TheVariants as b
 use Rattle.amqp_transport.specs.declared.frames.Frame.{Frame}
 use Rattle.amqp_transport.specs.Kinds.{amqp_bytes, amqp_channel, amqp_spells}
@@ -12,7 +13,7 @@ use Rattle.amqp_engine.specs.declared.connection.EndKind.{EndKind}
 use Rattle.amqp_engine.specs.declared.phase.Phase.{Phase}
 use Rattle.amqp_engine.specs.declared.phase.Phase.TheVariants as p
 use Rattle.amqp_engine.specs.Phases.{kind_of, is_stopped, has_failed, IsInner, IsClose}
-use Rattle.amqp_engine.specs.State.{State, open_frame}
+use Rattle.amqp_engine.specs.State.{State, open_frame, IsFramed}
 use Rattle.amqp_engine.specs.Heard.{IsHeard}
 
 -- the bytes of frames, one after another
@@ -68,6 +69,31 @@ pub record IsLimited {L : Type 0} (s : State L) : Type 0 where
   pub reads : 512 ≤ s.wire.codec.decoder
   pub first : s.phase ≡ p.OpenSent → s.wire.codec.encoder ≡ 512
 
+-- the limit of what is read where the first frame that was read has that body (part 2, section 2.7.1)
+abbrev pub read_limit_by : ℕ → FrameBody → ℕ
+read_limit_by own (b.Open x) = max 512 own
+read_limit_by own body = 512
+
+-- the limit of what is written then (part 2, section 2.7.1)
+abbrev pub write_limit_by : FrameBody → ℕ
+write_limit_by (b.Open x) = max 512 (max x.max_frame_size 512)
+write_limit_by body = 512
+
+-- the limit of what is read: 512 until the peer's Open was read, and then that of the own Open (part 2, section 2.4.1)
+abbrev pub read_limit : ℕ → List Frame → ℕ
+read_limit own [] = 512
+read_limit own (x ∷ xs) = read_limit_by own x.body
+
+-- the limit of what is written: 512, and then that of the peer's Open (part 2, section 2.4.1)
+abbrev pub write_limit : List Frame → ℕ
+write_limit [] = 512
+write_limit (x ∷ xs) = write_limit_by x.body
+
+-- the limits are those of the Opens, by the frames that were read (part 2, section 2.7.1)
+pub record IsBounded {L : Type 0} (s : State L) (given : List Frame) : Type 0 where
+  pub reads : s.wire.codec.decoder ≡ read_limit s.settings.largest_read given
+  pub writes : s.wire.codec.encoder ≡ write_limit given
+
 -- a connection that has stopped stays so, and its reason too
 pub record HasStopped {L : Type 0} (old new : State L) (queued : List Frame) : Type 0 where
   pub phase : is_stopped new.phase ≡ true
@@ -79,7 +105,7 @@ abbrev pub IsCalm : {L : Type 0} → State L → Type 0
 IsCalm s = has_failed s.phase ≡ false → s.wire.kept ≡ None
 
 -- Something passed at the link, and frames were queued and given: what is queued and not yet written, and what is read and not yet
--- given, stays.
+-- given, stays. Each frame that is queued spells what it holds (part 2, section 2.3), and the limits go by the Opens (section 2.4.1).
 pub record Ran {L : Type 0} (link : Ghosts L) (old new : State L) : Type 0 where
   pub events : List LinkEvent
   pub queued : List Frame
@@ -94,6 +120,9 @@ pub record Ran {L : Type 0} (link : Ghosts L) (old new : State L) : Type 0 where
   pub calm : IsCalm old → IsCalm new
   pub stays : is_stopped old.phase ≡ true → HasStopped old new queued
   pub limits : IsLimited old → IsLimited new × (old.wire.codec.encoder ≤ new.wire.codec.encoder) × AllWithin new.wire.codec.encoder queued
+  pub framed : All IsFramed queued
+  pub bounds : (before : List Frame) → IsHeard old.phase old.reason before → IsBounded old before → IsBounded new (before ++ given)
+  pub own : new.settings.largest_read ≡ old.settings.largest_read
 
 -- what has happened at an end: what passed at its link, the newest first, and the frames given and queued
 pub record History : Type 0 where
@@ -115,6 +144,8 @@ pub record Has {L : Type 0} (before arrived : List ℕ) (s : State L) (h : Histo
   pub heard : IsHeard s.phase s.reason h.given
   pub limited : IsLimited s
   pub sized : AllWithin s.settings.largest_written h.sent
+  pub framed : All IsFramed h.sent
+  pub bounded : IsBounded s h.given
 
 -- bytes that begin a sentence of frames within the limit: what was before, Open, frames of sessions and empty frames, at most one Close, and nothing after it
 pub record IsSentence (limit : ℕ) (before wrote : List ℕ) : Type 0 where

@@ -9,7 +9,8 @@ use Rattle.amqp_frames.specs.declared.shared.ConnectionStopReason.TheVariants as
 use Rattle.amqp_transport.specs.declared.frames.Frame.{Frame}
 use Rattle.amqp_transport.specs.declared.heart_beat.HeartBeat.{HeartBeat}
 use Rattle.amqp_transport.specs.Clocks.{periods}
-use Rattle.amqp_transport.specs.Kinds.{amqp_bytes}
+use Rattle.amqp_transport.specs.Kinds.{amqp_bytes, amqp_spells, amqp_channel, amqp_again}
+use Rattle.amqp_transport.specs.Stream.{HasFrame}
 use Rattle.amqp_transport.specs.Wire.{Wire}
 use Rattle.amqp_wire.specs.Frame.{frame_of}
 use Rattle.amqp_engine.specs.declared.connection.EndKind.{EndKind}
@@ -34,6 +35,10 @@ pub record State (L : Type 0) : Type 0 where
 -- the bytes of a frame
 abbrev pub bytes_of : Frame → List ℕ
 bytes_of x = frame_of 0 x.channel (amqp_bytes x)
+
+-- a frame can hold it, and its body spells it as it is read again (part 2, section 2.3)
+abbrev pub IsFramed : Frame → Type 0
+IsFramed x = HasFrame amqp_spells amqp_bytes amqp_channel amqp_again x
 
 -- both limits
 abbrev pub limited : {L : Type 0} → Wire L → ℕ → ℕ → Wire L

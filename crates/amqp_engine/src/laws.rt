@@ -21,6 +21,7 @@ use amqp_wire::link::Link;
 /// What was written is at every moment the front of: what was queued before, Open, frames of sessions and empty frames, at most
 /// one Close, and nothing after it; no frame is above the limit that is told. The frames that were given, joined with what is
 /// left, are the bytes that were read. Where the reason of the stop is the peer's, its Close was the last frame, for that error.
+/// Each frame that was queued spells what it holds, and the limits of what is read and written are those of both ends' Opens.
 pub fn says_a_sentence<L: Link>()
     ensures start { (before arrived : List ℕ) (w : Wire L) (end : EndKind) (s : State L) → OpensTo w end (Ok s) → w.codec.output ≡ before → w.codec.input ≡ arrived → Has before arrived s (begun end) }
     ensures goes_on { (before arrived : List ℕ) (old new : State L) (h : History) (ran : Ran L.Link old new) → Has before arrived old h → Has before arrived new (grown h ran) }
