@@ -1,6 +1,7 @@
 -- What the exchanges of an end say of the bytes.
 use Rattle.std.proofs.Common.{◌≡◌, inl, inr, ℕ, true, List, [], ◌∷◌, ◌++◌, Option, Some, sym, ap, ◌∙◌, subst, append_assoc}
 use Rattle.std.proofs.lemmas.List.{append-nil}
+use Rattle.std.proofs.lemmas.List.Elements.{All-nil}
 use Rattle.amqp_composites.specs.declared.sasl_body.SaslBody.{SaslBody}
 use Rattle.amqp_composites.specs.declared.sasl_code.SaslCode.TheVariants as sasl
 use Rattle.amqp_wire.specs.Events.{LinkEvent, read_of, wrote_of}
@@ -11,7 +12,7 @@ use Rattle.sasl_gate.specs.declared.gate.exchange.Turn.TheVariants.{Pass}
 use Rattle.sasl_gate.specs.declared.gate.server.ServerStage.{ServerStage}
 use Rattle.sasl_gate.specs.declared.gate.server.ServerStage.TheVariants as server
 use Rattle.sasl_gate.specs.ClientGate.{ClientEnd, turn_in as client_turn_in, holds_in as client_holds_in, HasPassed as ClientHasPassed, ClientPassed}
-use Rattle.sasl_gate.specs.Frames.{Heard, said}
+use Rattle.sasl_gate.specs.Frames.{HasSaslFrame, Heard, said}
 use Rattle.sasl_gate.specs.ScramBodies.{outcome_body, IsOnlySasl}
 use Rattle.sasl_gate.specs.ServerGate.{ServerEnd, turn_in as server_turn_in, holds_in as server_holds_in, HasProof, ServerPassed}
 use Rattle.sasl_gate.specs.States.{Account, ServerState}
@@ -132,7 +133,7 @@ gated_only After (call.Listener (accept.ScramSha256 user password salt iteration
 
 -- nothing was written
 pub gated_nothing : (After : List ℕ → Type 0) (asked : SaslCall) (wrote read : List ℕ) → wrote ≡ [] → IsGatedBy After asked wrote read
-gated_nothing After asked wrote read e = gated_only After asked wrote read (record { bodies = []; rest = said []; frames = ap (λ (u : List ℕ). u ++ said []) e })
+gated_nothing After asked wrote read e = gated_only After asked wrote read (record { bodies = []; rest = said []; frames = ap (λ (u : List ℕ). u ++ said []) e; framed = All-nil HasSaslFrame })
 
 gated_guarded : (After : List ℕ → Type 0) (asked : SaslCall) (x : Authentication) (rest unwritten : List ℕ) (events : List LinkEvent) → MadeFor asked x
     → (h : HasPassed peer_mechanism x rest unwritten events) → ((part : List ℕ) → BeginsHeader part → After part) → IsGatedBy After asked (wrote_of events) (read_of events)
@@ -192,7 +193,7 @@ pub same_made : (asked : SaslCall) (x y : Authentication) → same_by x y → Ma
 same_made (call.Client (profile.ScramSha256 user password nonce) hostname) Idle y s m = absurd m
 same_made (call.Client (profile.ScramSha256 user password nonce) hostname) (Client x) Idle s m = absurd s
 same_made (call.Client (profile.ScramSha256 user password nonce) hostname) (Client x) (Client y) s m =
-    record { user_is = sym s.user ∙ m.user_is; password_is = sym s.password ∙ m.password_is; nonce_is = sym s.nonce ∙ m.nonce_is; hostname_is = sym s.hostname ∙ m.hostname_is }
+    record { user_is = sym s.user ∙ m.user_is; password_is = sym s.password ∙ m.password_is; nonce_is = sym s.nonce ∙ m.nonce_is; hostname_is = sym s.hostname ∙ m.hostname_is; asked = m.asked }
 same_made (call.Client (profile.ScramSha256 user password nonce) hostname) (Client x) (Listener y) s m = absurd s
 same_made (call.Client (profile.ScramSha256 user password nonce) hostname) (Listener x) y s m = absurd m
 same_made (call.Listener (accept.ScramSha256 user password salt iterations nonce)) Idle y s m = absurd m
@@ -200,4 +201,4 @@ same_made (call.Listener (accept.ScramSha256 user password salt iterations nonce
 same_made (call.Listener (accept.ScramSha256 user password salt iterations nonce)) (Listener x) Idle s m = absurd s
 same_made (call.Listener (accept.ScramSha256 user password salt iterations nonce)) (Listener x) (Client y) s m = absurd s
 same_made (call.Listener (accept.ScramSha256 user password salt iterations nonce)) (Listener x) (Listener y) s m =
-    record { account = sym s.provider ∙ m.account; nonce_is = sym s.nonce ∙ m.nonce_is }
+    record { account = sym s.provider ∙ m.account; nonce_is = sym s.nonce ∙ m.nonce_is; asked = m.asked }

@@ -28,7 +28,7 @@ use Rattle.amqp_opening.specs.declared.opening.OpeningPoll.{OpeningPoll}
 use Rattle.amqp_opening.specs.declared.opening.OpeningPoll.TheVariants as poll
 use Rattle.amqp_opening.specs.declared.opening.Stage.{Stage}
 use Rattle.amqp_opening.specs.declared.opening.Stage.TheVariants.{Idle, Negotiating as NegotiatingStage, Header, Exchanged, Ended}
-use Rattle.amqp_opening.specs.Opening.{amqp_header, Opened, begun, begun_plain, IsUnderWay, HasPassed, HasIntro, HasAt, HasOpening, IsGuarded, in_negotiation, at_amqp_header, at_link, at_plain_header, IsOpeningCause, HasEnding, Moves, Keeps, IsAtRestAt, IsAtRest, IsAtRestOrFull, ComesTo, Ran, IsStopEnd, IsMemoryIn}
+use Rattle.amqp_opening.specs.Opening.{amqp_header, Opened, begun, begun_plain, IsUnderWay, HasPassed, HasIntro, HasAt, HasOpening, IsGuarded, IsSaslCause, in_negotiation, at_amqp_header, at_link, at_plain_header, IsSaslCauseAfter, HasEnding, Moves, Keeps, IsAtRestAt, IsAtRest, IsAtRestOrFull, ComesTo, Ran, IsStopEnd, IsMemoryIn}
 
 -- ---- how it begins
 
@@ -83,8 +83,9 @@ has_exchanged m o events stage h = subst (λ (s : Stage). HasAt m o.has_sasl s o
 -- the link that it holds is no part of what it says
 negotiation_with : {L X : Type 0} (m : Mechanism X) (p : Phase) (n : Negotiating L X) (w : L) (events : List LinkEvent) → HasIn m p n events → HasIn m p (record n { codec = record n.codec { link = w } }) events
 negotiation_with m HeaderPhase n w events h = record { read = h.read; wrote = h.wrote; held = h.held }
-negotiation_with m Frames n w events h = record { given = h.given; sent = h.sent; heard = h.heard; wrote = h.wrote; held = h.held }
-negotiation_with m (Failed e) n w events h = record { sent = h.sent; wrote = h.wrote; cause = h.cause }
+negotiation_with m Frames n w events h = record { given = h.given; sent = h.sent; heard = h.heard; wrote = h.wrote; framed = h.framed; held = h.held }
+negotiation_with m (Failed e) n w events h =
+    record { given = h.given; sent = h.sent; heard = h.heard; wrote = h.wrote; framed = h.framed; held = h.held; cause = h.cause; after = h.after }
 
 at_with : {L X : Type 0} (m : Mechanism X) (s : Bool) (stage : Stage) (n : Negotiating L X) (w : L) (events : List LinkEvent) → HasAt m s stage n events → HasAt m s stage (record n { codec = record n.codec { link = w } }) events
 at_with m s Idle n w events h = absurd h
@@ -165,6 +166,7 @@ intro_moved m true x rest more out out' bytes before after r w o h =
       part = h.part ++ bytes;
       wrote = w ∙ ap (λ (u : List ℕ). u ++ bytes) h.wrote ∙ append_assoc (said h.sent) h.part bytes;
       header = append_assoc h.part bytes out' ∙ ap (λ (u : List ℕ). h.part ++ u) (sym o) ∙ h.header;
+      framed = h.framed;
       held = h.held;
       turn = h.turn;
     }
@@ -181,14 +183,34 @@ awaits_moved m o c before after more bytes stage r i w out h =
     subst (λ (u : List ℕ). HasIntro o.has_sasl m o.negotiation.exchange u c.output after) (sym i)
     (intro_moved m o.has_sasl o.negotiation.exchange o.negotiation.codec.input more o.negotiation.codec.output c.output bytes before after r w out (to_awaits m o before stage h))
 
+-- it failed behind an exchange that has passed
+passed_ended : {X : Type 0} (m : Mechanism X) (x : X) (e : NegotiationError) (rest unwritten : List ℕ) (events : List LinkEvent) (cause : IsSaslCause m x e events) (h : HasPassed m x rest unwritten events)
+    → IsSaslCauseAfter m x e events h.given h.sent cause → HasEnding m true x e events
+passed_ended m x e rest unwritten events cause h about =
+    record {
+      guarded = inr (rest, unwritten, h);
+      cause = cause;
+      exchange = record {
+        given = h.given;
+        sent = h.sent;
+        heard = inr (rest, h.heard);
+        framed = h.framed;
+        out = unwritten;
+        after = amqp_header;
+        wrote = ap (λ (u : List ℕ). u ++ unwritten) h.wrote ∙ append_assoc (said h.sent) h.part unwritten ∙ ap (λ (u : List ℕ). said h.sent ++ u) h.header;
+        behind = inr (h.turn, refl);
+        held = h.held;
+        about = about;
+      };
+    }
+
 -- the link failed
-link_cause : {X : Type 0} (m : Mechanism X) (s : Bool) (x : X) (e : NegotiationError) (events : List LinkEvent) → LinkCause e events → IsOpeningCause m s x e events
-link_cause m true x e events c = in_negotiation (link_failed c)
-link_cause m false x e events c = at_link c
+link_ending : {X : Type 0} (m : Mechanism X) (s : Bool) (x : X) (e : NegotiationError) (rest unwritten : List ℕ) (events : List LinkEvent) → HasIntro s m x rest unwritten events → LinkCause e events → HasEnding m s x e events
+link_ending m true x e rest unwritten events h c = passed_ended m x e rest unwritten events (in_negotiation (link_failed c)) h tt
+link_ending m false x e rest unwritten events h c = record { guarded = (unwritten, h.wrote); cause = at_link c; exchange = tt }
 
 ends_link : {L X : Type 0} (m : Mechanism X) (o : Opened L X) (e : NegotiationError) (events : List LinkEvent) → Awaits m o events → LinkCause e events → HasEnding m o.has_sasl o.negotiation.exchange e events
-ends_link m o e events h c =
-    record { guarded = intro_guarded m o.has_sasl o.negotiation.exchange o.negotiation.codec.input o.negotiation.codec.output events h; cause = link_cause m o.has_sasl o.negotiation.exchange e events c }
+ends_link m o e events h c = link_ending m o.has_sasl o.negotiation.exchange e o.negotiation.codec.input o.negotiation.codec.output events h c
 
 -- bytes came in
 pub moves_read : {L X : Type 0} (link : Ghosts L) (m : Mechanism X) (o : Opened L X) (c : Codec L) (w : Wait) (left k : ℕ) → m.same o.negotiation.exchange o.negotiation.exchange
@@ -299,11 +321,16 @@ ran_exchanged link m o left stage s t =
     }
 
 -- another header was read
-header_cause : {X : Type 0} (m : Mechanism X) (s : Bool) (x : X) (rest unwritten : List ℕ) (events : List LinkEvent) → HasIntro s m x rest unwritten events → 8 ≤ length rest → (take 8 rest ≡ amqp_header → ⊥)
-    → IsOpeningCause m s x NotImplemented events
-header_cause m true x rest unwritten events h l ne = at_amqp_header h.given h.sent rest h.heard h.held h.turn l ne refl
-header_cause m false x rest unwritten events h l ne =
-    at_plain_header (subst (λ (u : List ℕ). 8 ≤ length u) (sym h.heard) l) (λ e. ne (ap (λ (u : List ℕ). take 8 u) (sym h.heard) ∙ e)) refl
+header_ending : {X : Type 0} (m : Mechanism X) (s : Bool) (x : X) (rest unwritten : List ℕ) (events : List LinkEvent) → HasIntro s m x rest unwritten events → 8 ≤ length rest → (take 8 rest ≡ amqp_header → ⊥)
+    → HasEnding m s x NotImplemented events
+header_ending m true x rest unwritten events h l ne =
+    passed_ended m x NotImplemented rest unwritten events (at_amqp_header h.given h.sent rest h.heard h.held h.turn l ne refl) h (refl, refl)
+header_ending m false x rest unwritten events h l ne =
+    record {
+      guarded = (unwritten, h.wrote);
+      cause = at_plain_header (subst (λ (u : List ℕ). 8 ≤ length u) (sym h.heard) l) (λ e. ne (ap (λ (u : List ℕ). take 8 u) (sym h.heard) ∙ e)) refl;
+      exchange = tt;
+    }
 
 pub ran_mismatch : {L X : Type 0} (link : Ghosts L) (m : Mechanism X) (o : Opened L X) (left : ℕ) → o.stage ≡ Header → m.same o.negotiation.exchange o.negotiation.exchange → 8 ≤ length o.negotiation.codec.input
     → (take 8 o.negotiation.codec.input ≡ amqp_header → ⊥) → Ran {E = AllocError} link m o left (Ok (poll.Failed NotImplemented)) (record o { stage = Ended }) left
@@ -313,12 +340,7 @@ ran_mismatch link m o left stage s l ne =
       moves = record { went = refl; counted = omega arith; kept = s; layer = refl };
       comes = (
         refl,
-        λ before h.
-            let n : Awaits m o before = to_awaits m o before stage h in
-            record {
-              guarded = intro_guarded m o.has_sasl o.negotiation.exchange o.negotiation.codec.input o.negotiation.codec.output before n;
-              cause = header_cause m o.has_sasl o.negotiation.exchange o.negotiation.codec.input o.negotiation.codec.output before n l ne;
-            },
+        λ before h. header_ending m o.has_sasl o.negotiation.exchange o.negotiation.codec.input o.negotiation.codec.output before (to_awaits m o before stage h) l ne,
       );
     }
 
@@ -339,6 +361,7 @@ passed_intro {L} {X} m n events p h =
       part = [];
       wrote = sym (append-nil (wrote_of events)) ∙ ap (λ (u : List ℕ). wrote_of events ++ u) (sym p.flushed) ∙ f.wrote ∙ sym (append-nil (said f.sent));
       header = ap (λ (u : List ℕ). u ++ amqp_header) p.flushed;
+      framed = f.framed;
       held = f.held;
       turn = p.turn;
     }
@@ -370,7 +393,23 @@ ran_pending link m o n left k stage p =
 -- it failed
 failed_ending : {L X : Type 0} (m : Mechanism X) (s : Bool) (n : Negotiating L X) (e : NegotiationError) (events : List LinkEvent) → s ≡ true → HasFailure m e n events → HasEnding m s n.exchange e events
 failed_ending m s n e events t f =
-    subst (λ (b : Bool). HasEnding m b n.exchange e events) (sym t) (record { guarded = inl (record { bodies = f.sent; rest = n.codec.output; frames = f.wrote }); cause = in_negotiation f.cause })
+    subst (λ (b : Bool). HasEnding m b n.exchange e events) (sym t)
+    (record {
+      guarded = inl (record { bodies = f.sent; rest = n.codec.output; frames = f.wrote; framed = f.framed });
+      cause = in_negotiation f.cause;
+      exchange = record {
+        given = f.given;
+        sent = f.sent;
+        heard = f.heard;
+        framed = f.framed;
+        out = n.codec.output;
+        after = [];
+        wrote = f.wrote ∙ sym (append-nil (said f.sent));
+        behind = inl refl;
+        held = f.held;
+        about = f.after;
+      };
+    })
 
 pub ran_refused : {L X : Type 0} (link : Ghosts L) (m : Mechanism X) (o : Opened L X) (n : Negotiating L X) (left k : ℕ) (e : NegotiationError) → o.stage ≡ NegotiatingStage → Polled link m o.negotiation left (Err e) n k → n.phase ≡ Failed e
     → Ran {E = AllocError} link m o left (Ok (poll.Failed e)) (record o { negotiation = n; stage = Ended }) k

@@ -3,6 +3,7 @@ use Rattle.std.specs.Prelude.{◌≡◌, ℕ, List, Option, Some, None, if◌the
 use Rattle.std.specs.Str.{bytes_eq}
 use Rattle.amqp_composites.specs.declared.sasl_body.SaslBody.{SaslBody}
 use Rattle.amqp_composites.specs.declared.sasl_code.SaslCode.{SaslCode}
+use Rattle.base64.specs.GeneralPurpose.{IsBytes}
 use Rattle.sha2.specs.Sha256.{sha256}
 use Rattle.sasl_gate.specs.declared.gate.client.SaslProfile.TheVariants as profile
 use Rattle.sasl_gate.specs.declared.gate.error.NegotiationError.{NegotiationError}
@@ -16,7 +17,7 @@ use Rattle.sasl_gate.specs.declared.scram.stored.StoredPassword.{StoredPassword}
 use Rattle.sasl_gate.specs.Check.{stored_of}
 use Rattle.sasl_gate.specs.ClientGate.{ClientEnd, client_holds, client_causes, client_owes, client_turn, client_left, ClientSame, client_refusal, client_same_self, client_same_then}
 use Rattle.sasl_gate.specs.Exchange.{refused_with}
-use Rattle.sasl_gate.specs.Profile.{IsAllowedUser, IsAllowedPassword}
+use Rattle.sasl_gate.specs.Profile.{IsAllowedUser, IsAllowedPassword, IsAllowedCount, IsNonce}
 use Rattle.sasl_gate.specs.ServerGate.{ServerEnd, server_holds, server_causes, server_owes, server_turn, server_left, ServerSame, server_refusal, server_same_self, server_same_then}
 use Rattle.sasl_gate.specs.States.{Account}
 use Rattle.amqp_opening.specs.declared.acceptor.AcceptSasl.TheVariants as accept
@@ -79,17 +80,32 @@ peer_mechanism = record {
 
 -- ---- the calls that begin it
 
--- a client's end for this user, password, nonce and host
+-- user, password and nonce of a client are in the profile (RFC 5802, sections 5.1 and 7)
+abbrev pub IsAskedClient : List ℕ → List ℕ → List ℕ → Type 0
+IsAskedClient user password nonce = IsAllowedUser user × IsAllowedPassword password × IsNonce nonce
+
+-- and so are those of a listener, with the salt and the count (RFC 5802, section 5.1)
+abbrev pub IsAskedListener : List ℕ → List ℕ → List ℕ → ℕ → List ℕ → Type 0
+IsAskedListener user password salt iterations nonce = IsAllowedUser user × IsAllowedPassword password × IsBytes salt × IsAllowedCount iterations × IsNonce nonce
+
+-- user, password, nonce, salt and count of a layer that was asked for are allowed
+abbrev pub IsAskedSo : SaslCall → Type 0
+IsAskedSo (call.Client (profile.ScramSha256 user password nonce) hostname) = IsAskedClient user password nonce
+IsAskedSo (call.Listener (accept.ScramSha256 user password salt iterations nonce)) = IsAskedListener user password salt iterations nonce
+
+-- a client's end for this user, password, nonce and host, all of which are allowed
 pub record IsClientFor (user password nonce : List ℕ) (hostname : Option (List ℕ)) (x : ClientEnd) : Type 0 where
   pub user_is : x.client.user ≡ user
   pub password_is : x.client.password ≡ password
   pub nonce_is : x.client.nonce ≡ nonce
   pub hostname_is : x.hostname ≡ hostname
+  pub asked : IsAskedClient user password nonce
 
--- a listener's end for this user, with what is kept of the password with a salt and a count (RFC 5802, section 3)
+-- a listener's end for this user, with what is kept of the password with a salt and a count (RFC 5802, section 3), all of which are allowed
 pub record IsListenerFor (user password salt : List ℕ) (iterations : ℕ) (nonce : List ℕ) (x : ServerEnd Account) : Type 0 where
   pub account : x.server.provider ≡ record { user = user; password = password; stored = Some (stored_of sha256 64 32 password salt iterations) }
   pub nonce_is : x.server.nonce ≡ nonce
+  pub asked : IsAskedListener user password salt iterations nonce
 
 -- the exchange is the one that a call begins
 abbrev pub MadeFor : SaslCall → Authentication → Type 0
@@ -99,6 +115,15 @@ MadeFor (call.Client (profile.ScramSha256 user password nonce) hostname) (Listen
 MadeFor (call.Listener (accept.ScramSha256 user password salt iterations nonce)) Idle = ⊥
 MadeFor (call.Listener (accept.ScramSha256 user password salt iterations nonce)) (Client x) = ⊥
 MadeFor (call.Listener (accept.ScramSha256 user password salt iterations nonce)) (Listener x) = IsListenerFor user password salt iterations nonce x
+
+-- what was asked for an exchange is allowed
+pub asked_so : (asked : SaslCall) (x : Authentication) → MadeFor asked x → IsAskedSo asked
+asked_so (call.Client (profile.ScramSha256 user password nonce) hostname) Idle m = absurd m
+asked_so (call.Client (profile.ScramSha256 user password nonce) hostname) (Client x) m = m.asked
+asked_so (call.Client (profile.ScramSha256 user password nonce) hostname) (Listener x) m = absurd m
+asked_so (call.Listener (accept.ScramSha256 user password salt iterations nonce)) Idle m = absurd m
+asked_so (call.Listener (accept.ScramSha256 user password salt iterations nonce)) (Client x) m = absurd m
+asked_so (call.Listener (accept.ScramSha256 user password salt iterations nonce)) (Listener x) m = m.asked
 
 -- user and password are in the profile
 abbrev pub HasAllowedTexts : SaslCall → Type 0

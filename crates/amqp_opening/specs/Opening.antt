@@ -1,6 +1,6 @@
 -- The opening of a connection over a link, in words of the bytes that were read and written: the SASL negotiation, where
 -- there is one, and then the AMQP headers (OASIS AMQP 1.0, part 2, section 2.2).
-use Rattle.std.specs.Prelude.{◌≡◌, ◌≢◌, ◌<◌, ◌≤◌, ◌+◌, ◌⊎◌, ℕ, Bool, true, false, List, [], ◌∷◌, ◌++◌, length, take, Option, Some, None, Result, Ok, Err, ⊤}
+use Rattle.std.specs.Prelude.{◌≡◌, ◌≢◌, ◌<◌, ◌≤◌, ◌+◌, ◌⊎◌, ℕ, Bool, true, false, List, [], ◌∷◌, ◌++◌, length, take, All, Option, Some, None, Result, Ok, Err, ⊤}
 use Rattle.std.specs.declared.alloc.AllocError.{AllocError}
 use Rattle.amqp_composites.specs.declared.sasl_body.SaslBody.{SaslBody}
 use Rattle.amqp_wire.specs.declared.link.Link.{Ghosts}
@@ -13,8 +13,8 @@ use Rattle.sasl_gate.specs.declared.gate.error.NegotiationError.{NegotiationErro
 use Rattle.sasl_gate.specs.declared.gate.error.NegotiationError.TheVariants.{Memory, ProtocolHeaderMismatch, NotImplemented, SaslError, ScramError, Io, DecodeError, IllegalState, FramingError}
 use Rattle.sasl_gate.specs.declared.gate.exchange.Exchange.{Ghosts as Mechanism}
 use Rattle.sasl_gate.specs.declared.gate.exchange.Turn.TheVariants.{Pass}
-use Rattle.sasl_gate.specs.Frames.{Heard, said, sasl_header}
-use Rattle.sasl_gate.specs.Negotiation.{Negotiating, LinkCause, IsCaused, IsHeldUp, IsAtRest as IsNegotiationAtRest, Has}
+use Rattle.sasl_gate.specs.Frames.{HasSaslFrame, Heard, said, sasl_header}
+use Rattle.sasl_gate.specs.Negotiation.{Negotiating, LinkCause, IsCaused, IsHeard, IsCauseAfter, IsHeldUp, IsAtRest as IsNegotiationAtRest, Has}
 use Rattle.sasl_gate.specs.ScramBodies.{IsOnlySasl}
 use Rattle.amqp_opening.specs.declared.opening.OpeningPoll.{OpeningPoll}
 use Rattle.amqp_opening.specs.declared.opening.OpeningPoll.TheVariants as poll
@@ -55,8 +55,8 @@ IsUnderWay Header = ⊤
 IsUnderWay Exchanged = ⊥
 IsUnderWay Ended = ⊥
 
--- The exchange has passed: its bodies were read, and then `rest`; its bodies were written, and then the AMQP header but
--- for `unwritten`.
+-- The exchange has passed: its bodies were read, and then `rest`; its bodies were written, each in a frame that spells it, and then
+-- the AMQP header but for `unwritten`.
 pub record HasPassed {X : Type 0} (m : Mechanism X) (x : X) (rest unwritten : List ℕ) (events : List LinkEvent) : Type 0 where
   pub given : List SaslBody
   pub sent : List SaslBody
@@ -64,6 +64,7 @@ pub record HasPassed {X : Type 0} (m : Mechanism X) (x : X) (rest unwritten : Li
   pub part : List ℕ
   pub wrote : wrote_of events ≡ said sent ++ part
   pub header : part ++ unwritten ≡ amqp_header
+  pub framed : All HasSaslFrame sent
   pub held : m.holds x given sent
   pub turn : m.turn_of x ≡ Pass
 
@@ -111,10 +112,35 @@ abbrev pub IsOpeningCause : {X : Type 0} → Mechanism X → Bool → X → Nego
 IsOpeningCause m true x e events = IsSaslCause m x e events
 IsOpeningCause m false x e events = IsPlainCause e events
 
+-- the bodies of which a cause speaks are those that the exchange had taken and sent
+abbrev pub IsSaslCauseAfter : {X : Type 0} (m : Mechanism X) (x : X) (e : NegotiationError) (events : List LinkEvent) → List SaslBody → List SaslBody → IsSaslCause m x e events → Type 0
+IsSaslCauseAfter m x e events given sent (in_negotiation cause) = IsCauseAfter (m.causes x) (m.owes x) (m.turn_of x) e events given sent cause
+IsSaslCauseAfter m x e events given sent (at_amqp_header read told rest heard held turn long other is) = (read ≡ given) × (told ≡ sent)
+
+-- an exchange that has ended by an error: the bodies that it had taken and those that were queued, each in a frame that spells it, and
+-- then nothing, or the AMQP header once it had passed; of all that, `out` was not written
+pub record HasEndedSasl {X : Type 0} (m : Mechanism X) (x : X) (e : NegotiationError) (events : List LinkEvent) (cause : IsSaslCause m x e events) : Type 0 where
+  pub given : List SaslBody
+  pub sent : List SaslBody
+  pub heard : IsHeard (read_of events) given
+  pub framed : All HasSaslFrame sent
+  pub out : List ℕ
+  pub after : List ℕ
+  pub wrote : wrote_of events ++ out ≡ said sent ++ after
+  pub behind : (after ≡ []) ⊎ ((m.turn_of x ≡ Pass) × (after ≡ amqp_header))
+  pub held : m.holds x given sent
+  pub about : IsSaslCauseAfter m x e events given sent cause
+
+-- the exchange of an opening that has ended, if it has one
+abbrev pub HasEnded : {X : Type 0} (m : Mechanism X) (s : Bool) (x : X) (e : NegotiationError) (events : List LinkEvent) → IsOpeningCause m s x e events → Type 0
+HasEnded m true x e events cause = HasEndedSasl m x e events cause
+HasEnded m false x e events cause = ⊤
+
 -- an opening that has ended by an error
 pub record HasEnding {X : Type 0} (m : Mechanism X) (s : Bool) (x : X) (e : NegotiationError) (events : List LinkEvent) : Type 0 where
   pub guarded : IsGuarded m s x events
   pub cause : IsOpeningCause m s x e events
+  pub exchange : HasEnded m s x e events cause
 
 -- An opening went on: what passed at its link is added to its history, and the reads that gave bytes are gone from
 -- those that were left.

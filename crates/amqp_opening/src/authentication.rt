@@ -1,5 +1,10 @@
 //! The SASL exchange of an end: a client's, or a listener's with one user (OASIS AMQP 1.0, part 5, section 5.3).
-ghost use Rattle.std.specs.Prelude.{◌≡◌, List, [], IfOk, IfErr};
+ghost use Rattle.std.specs.Prelude.{◌≡◌, ◌≤◌, List, [], length, IfOk, IfErr};
+ghost use Rattle.base64.specs.GeneralPurpose.{IsBytes};
+ghost use Rattle.sha2.specs.Sha256.{sha256};
+ghost use Rattle.sasl_gate.specs.Check.{stored_of};
+ghost use Rattle.sasl_gate.specs.Profile.{IsAllowedPassword, IsAllowedCount};
+ghost use Rattle.sasl_gate.specs.Refusals.{IsTextRefusal};
 ghost use Rattle.amqp_opening.specs.Authentication.{holds_by, causes_by, owes_by, turn_by, left_by, same_by, peer_refusal, peer_same_self, peer_same_then, MadeFor, IsCallRefusal, IsErrorOf};
 ghost use Rattle.amqp_opening.specs.Permission.{IsAllowedProfile, IsAllowedSasl, IsAllowedSaslCall};
 
@@ -117,6 +122,22 @@ fn client_exchange(
     }
 }
 
+// What a listener keeps of the password, with a salt, which is bytes.
+fn stored_with(
+    alloc: Global,
+    password: &str,
+    salt: &[u8],
+    iterations: u32,
+) -> Result<StoredPassword, ScramErrorKind>
+    requires salt { (1 ≤ length salt.now) × (length salt.now ≤ 64) }
+    requires iterations { IsAllowedCount iterations }
+    ensures ok { IfOk result (λ p. p ≡ stored_of sha256 64 32 password.now salt.now iterations) }
+    ensures bytes { IsBytes salt.now }
+    ensures err { IfErr result (λ e. IsTextRefusal (IsAllowedPassword password.now) e) }
+{
+    StoredPassword::derive::<Sha256Fn>(alloc, password, salt, iterations)
+}
+
 // The one user of a listener, with what it keeps of the password.
 fn listener_exchange(
     alloc: Global,
@@ -134,12 +155,7 @@ fn listener_exchange(
         iterations,
         nonce,
     } = acceptor;
-    let stored = match StoredPassword::derive::<Sha256Fn>(
-        alloc,
-        password.as_str(),
-        salt.as_slice(),
-        iterations,
-    ) {
+    let stored = match stored_with(alloc, password.as_str(), salt.as_slice(), iterations) {
         Ok(stored) => stored,
         Err(kind) => return Err(error_of(kind)),
     };

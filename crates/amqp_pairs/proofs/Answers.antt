@@ -70,12 +70,12 @@ pub record IsClientAnswer (user password nonce own salt : List ℕ) (count : ℕ
 
 pub client_answer : (user password nonce own salt : List ℕ) (count : ℕ) (first final signature : List ℕ)
     → IsNonce nonce → IsNonce own → IsBytes salt → IsAllowedCount count → first ≡ server_first_of (nonce ++ own) salt count
-    → (a : ClientAnswers sha256 64 32 user password nonce first final signature) → IsBytes a.salt
+    → ClientAnswers sha256 64 32 user password nonce first final signature
     → IsClientAnswer user password nonce own salt count first final signature
-client_answer user password nonce own salt count first final signature n o bytes allowed is a narrow =
+client_answer user password nonce own salt count first final signature n o bytes allowed is a =
     let reads = subst (λ (t : List ℕ). IsServerFirst t (nonce ++ own) (encode_of standard salt) (decimal count)) (sym is) (server_first_reads (nonce ++ own) salt count (joined_nonce nonce own n o) allowed) in
     let same = server_first_once first a.whole_nonce (encode_of standard a.salt) (decimal a.count) (nonce ++ own) (encode_of standard salt) (decimal count) a.server_first_is reads in
-    let salts : a.salt ≡ salt = encoded_once a.salt salt narrow bytes same.1 in
+    let salts : a.salt ≡ salt = encoded_once a.salt salt a.salt_is bytes same.1 in
     let counts : a.count ≡ count = decimal_once a.count count a.count_is allowed same.2 in
     let auth : List ℕ → List ℕ = λ (w : List ℕ). auth_of (client_first_bare_of user nonce) first (client_final_bare_of w) in
     record {

@@ -79,7 +79,7 @@ sent_in_order x given sent before rest body (response list first final more s g 
 
 module _ (x : ClientEnd) (y : ServerEnd Account) (salt : List ℕ) (count : ℕ) (gc sc gl sl fc fl : List SaslBody) (j : AreJoined x y salt count gc sc gl sl fc fl) where
   pub sent_by_client : ClientSent x gc sc
-  sent_by_client = client_sent x.stage x gc sc (client_view x.stage x gc sc j.ends.client j.ends.client_salt)
+  sent_by_client = client_sent x.stage x gc sc (client_view x.stage x gc sc j.ends.client)
 
   -- an init that was given, or will be
   pub init_given : (name : List ℕ) (first hostname : Option (List ℕ)) (rest : List SaslBody) → init_body name first hostname ∷ rest ≡ sc
@@ -131,7 +131,7 @@ module _ (x : ClientEnd) (y : ServerEnd Account) (salt : List ℕ) (count : ℕ)
       let theirs = answer_of client_first asked.challenge.user asked.challenge.whole asked.first asked.challenge.keys is asked.challenge.answers in
       let read : told.first ≡ asked.first = same_first told.list told.first asked.first told.more asked.more told.given_is asked.sent_is in
       let c = client_answer x.client.user x.client.password x.client.nonce y.server.nonce salt count told.first told.final told.answered.signature
-      j.ends.nonce_is j.ends.own_is j.ends.salt_is j.ends.count_is (read ∙ theirs.first_is) told.answered.answers told.answered.bytes in
+      j.ends.nonce_is j.ends.own_is j.ends.salt_is j.ends.count_is (read ∙ theirs.first_is) told.answered.answers in
       other_password y.server.provider x.client.user x.client.password x.client.nonce y.server.nonce salt count a.header a.bare name whole first told.first told.final told.answered.signature text keys kind
       j.ends.nonce_is j.ends.own_is mine (read ∙ theirs.first_is ∙ sym mine.first_is) c told.text_is m r
 

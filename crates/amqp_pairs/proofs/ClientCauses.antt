@@ -5,7 +5,6 @@ use Rattle.amqp_composites.specs.declared.sasl_body.SaslBody.{SaslBody}
 use Rattle.amqp_composites.specs.declared.sasl_code.SaslCode.{SaslCode}
 use Rattle.amqp_composites.specs.declared.sasl_code.SaslCode.TheVariants as sasl
 use Rattle.amqp_opening.specs.Authentication.{stored_for}
-use Rattle.base64.specs.GeneralPurpose.{IsBytes}
 use Rattle.sha2.specs.Sha256.{sha256}
 use Rattle.sasl_gate.specs.declared.gate.error.NegotiationError.{NegotiationError}
 use Rattle.sasl_gate.specs.declared.gate.error.NegotiationError.TheVariants.{Memory, ProtocolHeaderMismatch, NotImplemented, SaslError, ScramError, Io, DecodeError, IllegalState, FramingError}
@@ -19,7 +18,7 @@ use Rattle.sasl_gate.specs.Refusals.{IsMemory, IsServerFirstRefusal, IsServerFin
 use Rattle.sasl_gate.specs.ScramBodies.{own_mechanism, challenge_body, init_body, mechanisms_body, outcome_body, response_body}
 use Rattle.sasl_gate.specs.ServerGate.{ServerEnd, IsRefusalCause, server_turn}
 use Rattle.sasl_gate.specs.States.{Account}
-use Rattle.amqp_pairs.specs.Errors.{IsByteCause, IsByteScramCause, IsCollided, IsTold, MayRefuse}
+use Rattle.amqp_pairs.specs.Errors.{IsCollided, IsTold, MayRefuse}
 use Rattle.amqp_pairs.specs.Joined.{AreJoined}
 use Rattle.amqp_pairs.proofs.Answers.{client_answer, other_signature, signature_told}
 use Rattle.amqp_pairs.proofs.Asked.{asked, told_check, IsChecked}
@@ -42,12 +41,19 @@ last_of_three before body a b c e = last_once before (a ∷ b ∷ []) body c e
 own_listed : (names : List (List ℕ)) → names ≡ own_mechanism ∷ [] → Contains names own_mechanism
 own_listed names e = subst (λ (u : List (List ℕ)). Contains u own_mechanism) (sym e) (Contains-push [] own_mechanism)
 
+-- an outcome that refuses may come next
+refusal_next : (front : List SaslBody) → is_next front (outcome_body sasl.Auth None) ≡ true
+refusal_next [] = refl
+refusal_next (a ∷ []) = refl
+refusal_next (a ∷ b ∷ []) = refl
+refusal_next (a ∷ b ∷ c ∷ more) = refl
+
 module _ (x : ClientEnd) (y : ServerEnd Account) (salt : List ℕ) (count : ℕ) (gc sc gl sl fc fl : List SaslBody) (j : AreJoined x y salt count gc sc gl sl fc fl) where
   abbrev stored : List ℕ → Option StoredPassword
   stored = stored_for y.server.provider
 
   pub seen : ListenerView y.stage stored y.server.nonce gl sl
-  seen = listener_view y gl sl j.ends.listener j.ends.waited
+  seen = listener_view y gl sl j.ends.listener
 
   -- what the listener told, if it refuses
   pub told : (body : SaslBody) (code : SaslCode) → body ≡ outcome_body code None → server_turn y ≡ Refuse code → IsRefusalCause stored y.server.nonce code gl → IsTold x y body
@@ -81,8 +87,8 @@ module _ (x : ClientEnd) (y : ServerEnd Account) (salt : List ℕ) (count : ℕ)
         let w = told body other e t c in
         (ap code_in (sym is ∙ w.body_is), ap payload_in (sym is ∙ w.body_is), w)
 
-    -- a body out of order is an outcome that refuses
-    misplaced : is_next front body ≡ false → Place y.stage stored y.server.nonce gl front body more → IsTold x y body
+    -- no body is out of order: an outcome that refuses may come at any time
+    misplaced : is_next front body ≡ false → Place y.stage stored y.server.nonce gl front body more → ⊥
     misplaced not (at_list b e) =
         let at : is_next front body ≡ true = subst (λ (u : List SaslBody). is_next u body ≡ true) (sym b) (subst (λ (u : SaslBody). is_next [] u ≡ true) (sym e) refl) in
         let both : true ≡ false = sym at ∙ not in
@@ -95,7 +101,10 @@ module _ (x : ClientEnd) (y : ServerEnd Account) (salt : List ℕ) (count : ℕ)
         let at : is_next front body ≡ true = subst (λ (u : List SaslBody). is_next u body ≡ true) (sym b) (subst (λ (u : SaslBody). is_next (a ∷ c ∷ []) u ≡ true) (sym e) refl) in
         let both : true ≡ false = sym at ∙ not in
         cc
-    misplaced not (at_refusal code e t c m) = told body code e t c
+    misplaced not (at_refusal code e t c m) =
+        let at : is_next front body ≡ true = subst (λ (u : SaslBody). is_next front u ≡ true) (sym (told body code e t c).body_is) (refusal_next front) in
+        let both : true ≡ false = sym at ∙ not in
+        cc
 
     -- an outcome `Ok` has a signature
     signed_outcome : body ≡ outcome_body sasl.Ok None → Place y.stage stored y.server.nonce gl front body more → ⊥
@@ -123,9 +132,9 @@ module _ (x : ClientEnd) (y : ServerEnd Account) (salt : List ℕ) (count : ℕ)
 
     -- the outcome
     collided : (list : SaslBody) (first final signature text : List ℕ) (kind : ScramErrorKind) → front ++ body ∷ [] ≡ list ∷ challenge_body first ∷ outcome_body sasl.Ok (Some text) ∷ []
-        → sc ≡ client_init x ∷ response_body final ∷ [] → (a : ClientAnswers sha256 64 32 x.client.user x.client.password x.client.nonce first final signature) → IsBytes a.salt
+        → sc ≡ client_init x ∷ response_body final ∷ [] → ClientAnswers sha256 64 32 x.client.user x.client.password x.client.nonce first final signature
         → IsServerFinalRefusal 32 signature text kind → (kind ≡ scram.Signature) × IsCollided x y
-    collided list first final signature text kind e s a narrow r =
+    collided list first final signature text kind e s a r =
         let at = last_of_three front body list (challenge_body first) (outcome_body sasl.Ok (Some text)) e in
         let c : IsChecked stored y.server.nonce y.stage gl first text = told_check stored y.server.nonce y.stage gl sl list first text more seen
         (stream (list ∷ challenge_body first ∷ []) (outcome_body sasl.Ok (Some text)) at.0 at.1) in
@@ -135,20 +144,20 @@ module _ (x : ClientEnd) (y : ServerEnd Account) (salt : List ℕ) (count : ℕ)
         let seconds : response_body c.final ≡ response_body final = cc in
         let finals : c.final ≡ final = ap text_in seconds in
         let mine = answer_of x y salt count gc sc gl sl fc fl j c.client_first c.user c.check.whole_nonce first c.check.keys is c.check.answers in
-        let b = client_answer x.client.user x.client.password x.client.nonce y.server.nonce salt count first final signature j.ends.nonce_is j.ends.own_is j.ends.salt_is j.ends.count_is mine.first_is a narrow in
+        let b = client_answer x.client.user x.client.password x.client.nonce y.server.nonce salt count first final signature j.ends.nonce_is j.ends.own_is j.ends.salt_is j.ends.count_is mine.first_is a in
         let check = subst (λ (t : List ℕ). Rattle.sasl_gate.specs.Check.ServerCheck sha256 64 32 stored y.server.nonce c.user c.client_first first t text) finals c.check in
         let signature_is = signature_told y.server.provider x.client.user x.client.password x.client.nonce y.server.nonce salt count c.client_first c.user first final text first signature
         j.ends.stored_is j.ends.nonce_is j.ends.own_is is check refl b in
         let why = other_signature y.server.provider x.client.user x.client.password x.client.nonce y.server.nonce salt count first final text first signature kind signature_is refl b r in
         (why.0, record { passes = c.passes; user = sym mine.user_is; password = why.1 })
 
-    scram_cause : (kind : ScramErrorKind) (c : IsScramCause x kind (front ++ body ∷ []) sc) → IsByteScramCause x kind (front ++ body ∷ []) sc c → (kind ≡ scram.Signature) × IsCollided x y
-    scram_cause kind (by_challenge names text e m r) b = absurd (taken (mechanisms_body names) text kind e m r)
-    scram_cause kind (by_outcome names first final signature text e s a r) b = collided (mechanisms_body names) first final signature text kind e s a b r
-    scram_cause kind (by_no_signature names first e k) b =
+    scram_cause : (kind : ScramErrorKind) → IsScramCause x kind (front ++ body ∷ []) sc → (kind ≡ scram.Signature) × IsCollided x y
+    scram_cause kind (by_challenge names text e m r) = absurd (taken (mechanisms_body names) text kind e m r)
+    scram_cause kind (by_outcome names first final signature text e s a r) = collided (mechanisms_body names) first final signature text kind e s a r
+    scram_cause kind (by_no_signature names first e k) =
         absurd (signed_outcome (last_of_three front body (mechanisms_body names) (challenge_body first) (outcome_body sasl.Ok None) e).1 here)
 
-    disorder : IsDisorder (front ++ body ∷ []) → IsTold x y body
+    disorder : IsDisorder (front ++ body ∷ []) → ⊥
     disorder d =
         let at = last_once front d.before body d.body d.given_is in
         let not : is_next front body ≡ false =
@@ -156,13 +165,13 @@ module _ (x : ClientEnd) (y : ServerEnd Account) (salt : List ℕ) (count : ℕ)
         misplaced not here
 
     -- the client refuses only what a listener tells that refuses another account, or the signature of another password
-    pub client_cause : (e : NegotiationError) (c : client_causes x e (front ++ body ∷ []) sc) → IsByteCause x e (front ++ body ∷ []) sc c → MayRefuse x y body e
-    client_cause (Memory a) c b = c
-    client_cause (ProtocolHeaderMismatch h) c b = c
-    client_cause NotImplemented (names, is, not) b = not (listed names (last_of_one front body (mechanisms_body names) is).1 here)
-    client_cause (SaslError code payload) (before, is, ne) b = refusing code payload (last_once front before body (outcome_body code payload) is).1 ne here
-    client_cause (ScramError kind) c b = scram_cause kind c b
-    client_cause (Io kind) c b = c
-    client_cause DecodeError c b = c
-    client_cause IllegalState c b = disorder c
-    client_cause FramingError c b = c
+    pub client_cause : (e : NegotiationError) → client_causes x e (front ++ body ∷ []) sc → MayRefuse x y body e
+    client_cause (Memory a) c = c
+    client_cause (ProtocolHeaderMismatch h) c = c
+    client_cause NotImplemented (names, is, not) = not (listed names (last_of_one front body (mechanisms_body names) is).1 here)
+    client_cause (SaslError code payload) (before, is, ne) = refusing code payload (last_once front before body (outcome_body code payload) is).1 ne here
+    client_cause (ScramError kind) c = scram_cause kind c
+    client_cause (Io kind) c = c
+    client_cause DecodeError c = c
+    client_cause IllegalState c = disorder c
+    client_cause FramingError c = c

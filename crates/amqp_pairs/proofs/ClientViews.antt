@@ -3,7 +3,7 @@ use Rattle.std.proofs.Common.{◌≡◌, ℕ, List, [], ◌∷◌, Some, refl}
 use Rattle.amqp_composites.specs.declared.sasl_body.SaslBody.{SaslBody}
 use Rattle.amqp_composites.specs.declared.sasl_code.SaslCode.TheVariants as sasl
 use Rattle.base64.specs.Engines.{standard}
-use Rattle.base64.specs.GeneralPurpose.{IsBytes, encode_of}
+use Rattle.base64.specs.GeneralPurpose.{encode_of}
 use Rattle.sha2.specs.Sha256.{sha256}
 use Rattle.sasl_gate.specs.declared.gate.client.ClientStage.{ClientStage}
 use Rattle.sasl_gate.specs.declared.gate.client.ClientStage.TheVariants.{AwaitsMechanisms, OwesInit, AwaitsChallenge, OwesResponse, AwaitsOutcome, Passed}
@@ -15,13 +15,11 @@ use Rattle.sasl_gate.specs.ClientGate.{ClientEnd, HasAnswer, client_init, holds_
 use Rattle.sasl_gate.specs.ScramBodies.{challenge_body, mechanisms_body, outcome_body, response_body}
 use Rattle.sasl_gate.specs.States.{ForAnswered}
 use Rattle.sasl_gate.specs.Texts.{IsServerFinal}
-use Rattle.amqp_pairs.specs.Joined.{IsByteAnswer, IsByteHeld}
 
--- an answer to a server first, with a salt of bytes
+-- an answer to a server first
 pub record IsAnswered (x : ClientEnd) (first final : List ℕ) : Type 0 where
   pub signature : List ℕ
   pub answers : ClientAnswers sha256 64 32 x.client.user x.client.password x.client.nonce first final signature
-  pub bytes : IsBytes answers.salt
 
 pub data ClientView (stage : ClientStage) (x : ClientEnd) (given sent : List SaslBody) : Type 0 where
   awaits_mechanisms : turn_in stage ≡ Receive → given ≡ [] → sent ≡ [] → ClientView stage x given sent
@@ -36,12 +34,11 @@ pub data ClientView (stage : ClientStage) (x : ClientEnd) (given sent : List Sas
       → sent ≡ client_init x ∷ response_body final ∷ [] → (a : IsAnswered x first final) → IsServerFinal told (encode_of standard a.signature) → ClientView stage x given sent
 
 answered_in : (phase : ClientPhase) (stage : ClientStage) (x : ClientEnd) (given sent : List SaslBody) → turn_in stage ≡ Receive
-    → (h : ForAnswered phase (λ a. HasAnswer x a given sent (client_init x ∷ response_body a.client_final ∷ []))) → IsByteAnswer phase x given sent h
-    → ClientView stage x given sent
-answered_in Unanswered stage x given sent t h b = absurd h
-answered_in (Answered a) stage x given sent t h b =
-    awaits_outcome h.names a.server_first a.client_final t h.given_is h.sent_is (record { signature = a.signature; answers = h.answers; bytes = b })
-answered_in Verified stage x given sent t h b = absurd h
+    → ForAnswered phase (λ a. HasAnswer x a given sent (client_init x ∷ response_body a.client_final ∷ [])) → ClientView stage x given sent
+answered_in Unanswered stage x given sent t h = absurd h
+answered_in (Answered a) stage x given sent t h =
+    awaits_outcome h.names a.server_first a.client_final t h.given_is h.sent_is (record { signature = a.signature; answers = h.answers })
+answered_in Verified stage x given sent t h = absurd h
 
 owed_in : (phase : ClientPhase) (text : List ℕ) (x : ClientEnd) (given sent : List SaslBody)
     → ForAnswered phase (λ a. (a.client_final ≡ text) × HasAnswer x a given sent (client_init x ∷ [])) → ClientView (OwesResponse text) x given sent
@@ -49,16 +46,15 @@ owed_in Unanswered text x given sent h = absurd h
 owed_in (Answered a) text x given sent h = owes_response h.1.names a.server_first refl h.1.given_is h.1.sent_is
 owed_in Verified text x given sent h = absurd h
 
-pub client_view : (stage : ClientStage) (x : ClientEnd) (given sent : List SaslBody) (h : holds_in stage x given sent) → IsByteHeld stage x given sent h
-    → ClientView stage x given sent
-client_view AwaitsMechanisms x given sent h b = awaits_mechanisms refl h.0 h.1
-client_view OwesInit x given sent h b = owes_init h.names refl h.given_is h.sent_is
-client_view AwaitsChallenge x given sent h b = awaits_challenge h.names refl h.given_is h.sent_is
-client_view (OwesResponse text) x given sent h b = owed_in x.client.phase text x given sent h
-client_view AwaitsOutcome x given sent h b = answered_in x.client.phase AwaitsOutcome x given sent refl h b
-client_view Passed x given sent h b =
+pub client_view : (stage : ClientStage) (x : ClientEnd) (given sent : List SaslBody) → holds_in stage x given sent → ClientView stage x given sent
+client_view AwaitsMechanisms x given sent h = awaits_mechanisms refl h.0 h.1
+client_view OwesInit x given sent h = owes_init h.names refl h.given_is h.sent_is
+client_view AwaitsChallenge x given sent h = awaits_challenge h.names refl h.given_is h.sent_is
+client_view (OwesResponse text) x given sent h = owed_in x.client.phase text x given sent h
+client_view AwaitsOutcome x given sent h = answered_in x.client.phase AwaitsOutcome x given sent refl h
+client_view Passed x given sent h =
     passed h.names h.server_first h.client_final h.server_final refl h.given_is h.sent_is
-    (record { signature = h.check.signature; answers = h.check.answers; bytes = b }) h.check.server_final_is
+    (record { signature = h.check.signature; answers = h.check.answers }) h.check.server_final_is
 
 -- ---- what it sent, and what it was given before that
 

@@ -13,10 +13,11 @@ use Rattle.sasl_gate.specs.declared.scram.stored.StoredPassword.{StoredPassword}
 use Rattle.sasl_gate.specs.ClientGate.{ClientEnd, client_causes, client_turn}
 use Rattle.sasl_gate.specs.Exchange.{refused_with}
 use Rattle.sasl_gate.specs.ScramBodies.{outcome_body}
-use Rattle.sasl_gate.specs.ServerGate.{ServerEnd, IsRefusalCause, holds_in, server_turn}
+use Rattle.sasl_gate.specs.ServerGate.{ServerEnd, IsRefusalCause, Waited, holds_in, server_turn}
 use Rattle.sasl_gate.specs.States.{Account, ServerState}
-use Rattle.amqp_pairs.specs.Errors.{IsByteCause, MayRefuse}
-use Rattle.amqp_pairs.specs.Joined.{AreJoined, IsOtherAccount, IsRefusing, IsSameAccount, Waited}
+use Rattle.sasl_gate.proofs.ServerGates.{awaited}
+use Rattle.amqp_pairs.specs.Errors.{MayRefuse}
+use Rattle.amqp_pairs.specs.Joined.{AreJoined, IsOtherAccount, IsRefusing, IsSameAccount}
 use Rattle.amqp_pairs.proofs.Asked.{asked, asking_asked}
 use Rattle.amqp_pairs.proofs.Causes.{refusal_cause}
 use Rattle.amqp_pairs.proofs.ClientCauses.{client_cause, last_of_one, seen}
@@ -25,9 +26,21 @@ use Rattle.amqp_pairs.proofs.ListenerViews.{ListenerView, owes_mechanisms, await
 use Rattle.amqp_pairs.proofs.Rest.{both_pass, took_no_refusal}
 
 -- no account is the same and another
-apart : (x : ClientEnd) (account : Account) → IsSameAccount x account → IsOtherAccount x account → ⊥
+pub apart : (x : ClientEnd) (account : Account) → IsSameAccount x account → IsOtherAccount x account → ⊥
 apart x account same (inl user) = user same.0
 apart x account same (inr password) = password same.1
+
+-- no error is one with which a client can refuse the same account
+pub impossible : (x : ClientEnd) (y : ServerEnd Account) → IsSameAccount x y.server.provider → (e : NegotiationError) (body : SaslBody) → MayRefuse x y body e → ⊥
+impossible x y same (Memory a) body m = m
+impossible x y same (ProtocolHeaderMismatch h) body m = m
+impossible x y same NotImplemented body m = m
+impossible x y same (SaslError code payload) body m = apart x y.server.provider same m.2.other
+impossible x y same (ScramError kind) body m = m.1.password same.1
+impossible x y same (Io kind) body m = m
+impossible x y same DecodeError body m = m
+impossible x y same IllegalState body m = m
+impossible x y same FramingError body m = m
 
 cause_in : (stage : ServerStage) (s : ServerState Account) (given sent : List SaslBody) → IsRefusing stage → holds_in stored_for stage s given sent
     → (code : SaslCode) × IsRefusalCause (stored_for s.provider) s.nonce code given
@@ -56,7 +69,7 @@ module _ (x : ClientEnd) (y : ServerEnd Account) (salt : List ℕ) (count : ℕ)
   stored = stored_for y.server.provider
 
   abbrev far : ClientView x.stage x gc sc
-  far = client_view x.stage x gc sc j.ends.client j.ends.client_salt
+  far = client_view x.stage x gc sc j.ends.client
 
   abbrev seen_now : ListenerView y.stage stored y.server.nonce gl sl
   seen_now = seen x y salt count gc sc gl sl fc fl j
@@ -69,16 +82,15 @@ module _ (x : ClientEnd) (y : ServerEnd Account) (salt : List ℕ) (count : ℕ)
   pub refused_next : (code : SaslCode) (body : SaslBody) (more : List SaslBody) → server_turn y ≡ Receive → fl ≡ body ∷ more → IsRefusalCause stored y.server.nonce code (gl ++ body ∷ [])
       → (code ≡ sasl.Auth) × IsOtherAccount x y.server.provider
   refused_next code body more turn next cause =
-      let w : Waited y (gl ++ body ∷ []) sl = record { old = y; before = gl; body = body; same = record { provider = refl; nonce = refl }; waits = turn; held = j.ends.listener; given_is = refl } in
-      let a = asking_asked stored y.server.nonce (gl ++ body ∷ []) sl [] (asking y (gl ++ body ∷ []) sl w) in
+      let w : Waited stored y.server.nonce (gl ++ body ∷ []) sl = awaited stored_for y gl sl body turn j.ends.listener in
+      let a = asking_asked stored y.server.nonce (gl ++ body ∷ []) sl [] (asking stored y.server.nonce (gl ++ body ∷ []) sl w) in
       refusal_cause x y salt count gc sc gl sl fc fl j code (gl ++ body ∷ []) more
       (append_assoc gl (body ∷ []) more ∙ ap (λ (u : List SaslBody). gl ++ u) (sym next) ∙ j.reads_client)
       (subst (λ (u : List SaslBody). Rattle.amqp_pairs.proofs.Asked.Asked stored y.server.nonce (gl ++ body ∷ []) u) (append-nil sl) a) cause
 
-  pub client_next : (e : NegotiationError) (body : SaslBody) (more : List SaslBody) → fc ≡ body ∷ more → (c : client_causes x e (gc ++ body ∷ []) sc)
-      → IsByteCause x e (gc ++ body ∷ []) sc c → MayRefuse x y body e
-  client_next e body more next c b =
-      client_cause x y salt count gc sc gl sl fc fl j gc body more (ap (λ (u : List SaslBody). gc ++ u) (sym next) ∙ j.reads_listener) e c b
+  pub client_next : (e : NegotiationError) (body : SaslBody) (more : List SaslBody) → fc ≡ body ∷ more → client_causes x e (gc ++ body ∷ []) sc → MayRefuse x y body e
+  client_next e body more next c =
+      client_cause x y salt count gc sc gl sl fc fl j gc body more (ap (λ (u : List SaslBody). gc ++ u) (sym next) ∙ j.reads_listener) e c
 
   -- ---- the same account
 
@@ -92,20 +104,8 @@ module _ (x : ClientEnd) (y : ServerEnd Account) (salt : List ℕ) (count : ℕ)
     pub no_next : (code : SaslCode) (body : SaslBody) (more : List SaslBody) → server_turn y ≡ Receive → fl ≡ body ∷ more → IsRefusalCause stored y.server.nonce code (gl ++ body ∷ []) → ⊥
     no_next code body more turn next cause = apart x y.server.provider same (refused_next code body more turn next cause).1
 
-    impossible : (e : NegotiationError) (body : SaslBody) → MayRefuse x y body e → ⊥
-    impossible (Memory a) body m = m
-    impossible (ProtocolHeaderMismatch h) body m = m
-    impossible NotImplemented body m = m
-    impossible (SaslError code payload) body m = apart x y.server.provider same m.2.other
-    impossible (ScramError kind) body m = m.1.password same.1
-    impossible (Io kind) body m = m
-    impossible DecodeError body m = m
-    impossible IllegalState body m = apart x y.server.provider same m.other
-    impossible FramingError body m = m
-
-    pub no_client_cause : (e : NegotiationError) (body : SaslBody) (more : List SaslBody) → fc ≡ body ∷ more → (c : client_causes x e (gc ++ body ∷ []) sc)
-        → IsByteCause x e (gc ++ body ∷ []) sc c → ⊥
-    no_client_cause e body more next c b = impossible e body (client_next e body more next c b)
+    pub no_client_cause : (e : NegotiationError) (body : SaslBody) (more : List SaslBody) → fc ≡ body ∷ more → client_causes x e (gc ++ body ∷ []) sc → ⊥
+    no_client_cause e body more next c = impossible x y same e body (client_next e body more next c)
 
   -- ---- a listener that refused
 
@@ -159,7 +159,7 @@ pub at_rest : (x : ClientEnd) (y : ServerEnd Account) (salt : List ℕ) (count :
 at_rest x y salt count gc sc gl sl fc fl j p q idle ready =
     let heard : gc ≡ sl = sym (append-nil gc) ∙ ap (λ (u : List SaslBody). gc ++ u) (sym p) ∙ j.reads_listener in
     let said : gl ≡ sc = sym (append-nil gl) ∙ ap (λ (u : List SaslBody). gl ++ u) (sym q) ∙ j.reads_client in
-    let v : ClientView x.stage x gc sc = client_view x.stage x gc sc j.ends.client j.ends.client_salt in
+    let v : ClientView x.stage x gc sc = client_view x.stage x gc sc j.ends.client in
     let w : ListenerView y.stage (stored_for y.server.provider) y.server.nonce sc gc =
     subst (λ (u : List SaslBody). ListenerView y.stage (stored_for y.server.provider) y.server.nonce sc u) (sym heard)
     (subst (λ (u : List SaslBody). ListenerView y.stage (stored_for y.server.provider) y.server.nonce u sl) said (seen x y salt count gc sc gl sl fc fl j)) in

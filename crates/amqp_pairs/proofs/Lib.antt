@@ -17,3 +17,6 @@ pub mod Joining
 pub mod OwnCauses
 pub mod Streams
 pub mod Bytes
+pub mod Frames
+pub mod Failures
+pub mod OwnFailures

@@ -1,12 +1,10 @@
 -- How far a listener is, by what it was given and what it sent.
-use Rattle.std.proofs.Common.{◌≡◌, ℕ, List, [], ◌∷◌, ◌++◌, Option, Some, None, refl, ap, sym, subst}
-use Rattle.std.specs.Prelude.{⊤}
+use Rattle.std.proofs.Common.{◌≡◌, ℕ, List, [], ◌∷◌, ◌++◌, Option, Some, None, refl, ap, ◌∙◌}
 use Rattle.amqp_composites.specs.declared.sasl_body.SaslBody.{SaslBody}
 use Rattle.amqp_composites.specs.declared.sasl_code.SaslCode.{SaslCode}
 use Rattle.amqp_composites.specs.declared.sasl_code.SaslCode.TheVariants as sasl
 use Rattle.amqp_opening.specs.Authentication.{stored_for}
 use Rattle.sha2.specs.Sha256.{sha256}
-use Rattle.sasl_gate.specs.declared.gate.exchange.Turn.{Turn}
 use Rattle.sasl_gate.specs.declared.gate.exchange.Turn.TheVariants.{Send, Receive, Refuse, Pass}
 use Rattle.sasl_gate.specs.declared.gate.server.ServerStage.{ServerStage}
 use Rattle.sasl_gate.specs.declared.gate.server.ServerStage.TheVariants.{OwesMechanisms, AwaitsInit, OwesChallenge, AwaitsResponse, OwesOutcome, Passed, OwesRefusal, Refused}
@@ -15,9 +13,8 @@ use Rattle.sasl_gate.specs.declared.scram.server.ServerPhase.TheVariants.{Unaske
 use Rattle.sasl_gate.specs.declared.scram.stored.StoredPassword.{StoredPassword}
 use Rattle.sasl_gate.specs.Check.{ServerAnswers, ServerCheck}
 use Rattle.sasl_gate.specs.ScramBodies.{own_mechanism, challenge_body, init_body, outcome_body, response_body}
-use Rattle.sasl_gate.specs.ServerGate.{ServerEnd, HasChallenge, IsRefusalCause, holds_in, own_mechanisms, turn_in}
+use Rattle.sasl_gate.specs.ServerGate.{ServerEnd, HasChallenge, IsRefusalCause, Waited, for_init, for_response, holds_in, own_mechanisms, turn_in}
 use Rattle.sasl_gate.specs.States.{Account, ForChallenged, ServerState}
-use Rattle.amqp_pairs.specs.Joined.{HasWaited, Waited}
 
 -- a challenge to a client first
 pub record IsChallenge (stored : List ℕ → Option StoredPassword) (own client_first first : List ℕ) : Type 0 where
@@ -52,37 +49,11 @@ pub data ListenerView (stage : ServerStage) (stored : List ℕ → Option Stored
 
 -- ---- what a listener waits for
 
-abbrev Receives : Turn → Type 0
-Receives Send = ⊥
-Receives Receive = ⊤
-Receives (Refuse code) = ⊥
-Receives Pass = ⊥
-
-asking_response : (phase : ServerPhase) (stored : List ℕ → Option StoredPassword) (own : List ℕ) (given sent : List SaslBody) (body : SaslBody)
-    → ForChallenged phase (λ c. HasChallenge stored own c given sent (own_mechanisms ∷ challenge_body c.server_first ∷ [])) → Asking stored own (given ++ body ∷ []) sent
-asking_response Unasked stored own given sent body h = absurd h
-asking_response (Challenged c) stored own given sent body h =
-    at_response c.client_first c.server_first h.hostname body (ap (λ (u : List SaslBody). u ++ body ∷ []) h.given_is) h.sent_is
+pub asking : (stored : List ℕ → Option StoredPassword) (own : List ℕ) (given sent : List SaslBody) → Waited stored own given sent → Asking stored own given sent
+asking stored own given sent (for_init body g s) = at_init body g s
+asking stored own given sent (for_response c before body g h) =
+    at_response c.client_first c.server_first h.hostname body (g ∙ ap (λ (u : List SaslBody). u ++ body ∷ []) h.given_is) h.sent_is
     (record { user = c.user; whole = c.nonce; keys = h.keys; answers = h.answers })
-asking_response Proved stored own given sent body h = absurd h
-
-asking_in : (stage : ServerStage) (s : ServerState Account) (given sent : List SaslBody) (body : SaslBody) → Receives (turn_in stage) → holds_in stored_for stage s given sent
-    → Asking (stored_for s.provider) s.nonce (given ++ body ∷ []) sent
-asking_in OwesMechanisms s given sent body t h = absurd t
-asking_in AwaitsInit s given sent body t h = at_init body (ap (λ (u : List SaslBody). u ++ body ∷ []) h.0) h.1
-asking_in (OwesChallenge text) s given sent body t h = absurd t
-asking_in AwaitsResponse s given sent body t h = asking_response s.phase (stored_for s.provider) s.nonce given sent body h
-asking_in (OwesOutcome text) s given sent body t h = absurd t
-asking_in Passed s given sent body t h = absurd t
-asking_in (OwesRefusal code) s given sent body t h = absurd t
-asking_in (Refused code) s given sent body t h = absurd t
-
-pub asking : (y : ServerEnd Account) (given sent : List SaslBody) → Waited y given sent → Asking (stored_for y.server.provider) y.server.nonce given sent
-asking y given sent w =
-    let a = asking_in w.old.stage w.old.server w.before sent w.body (subst Receives (sym w.waits) tt) w.held in
-    subst (λ (u : List SaslBody). Asking (stored_for y.server.provider) y.server.nonce u sent) (sym w.given_is)
-    (subst (λ (n : List ℕ). Asking (stored_for y.server.provider) n (w.before ++ w.body ∷ []) sent) w.same.nonce
-    (subst (λ (p : Account). Asking (stored_for p) w.old.server.nonce (w.before ++ w.body ∷ []) sent) w.same.provider a))
 
 -- ---- the view
 
@@ -102,17 +73,17 @@ response_in (Challenged c) s given sent h =
     awaits_response c.client_first c.server_first h.hostname refl h.given_is h.sent_is (record { user = c.user; whole = c.nonce; keys = h.keys; answers = h.answers })
 response_in Proved s given sent h = absurd h
 
-view_in : (stage : ServerStage) (y : ServerEnd Account) (given sent : List SaslBody) → holds_in stored_for stage y.server given sent → HasWaited stage y given sent
+view_in : (stage : ServerStage) (y : ServerEnd Account) (given sent : List SaslBody) → holds_in stored_for stage y.server given sent
     → ListenerView stage (stored_for y.server.provider) y.server.nonce given sent
-view_in OwesMechanisms y given sent h w = owes_mechanisms refl h.0 h.1
-view_in AwaitsInit y given sent h w = awaits_init refl h.0 h.1
-view_in (OwesChallenge text) y given sent h w = challenge_in y.server.phase text y.server given sent h
-view_in AwaitsResponse y given sent h w = response_in y.server.phase y.server given sent h
-view_in (OwesOutcome text) y given sent h w = owes_outcome h.user h.client_first h.server_first h.client_final text h.hostname refl h.given_is h.sent_is h.check
-view_in Passed y given sent h w = passed h.1.user h.1.client_first h.1.server_first h.1.client_final h.0 h.1.hostname refl h.1.given_is h.1.sent_is h.1.check
-view_in (OwesRefusal code) y given sent h w = owes_refusal code refl h.cause (asking y given sent w)
-view_in (Refused code) y given sent h w = refused code w.0 refl h.cause w.1 (asking y given w.0 w.2)
+view_in OwesMechanisms y given sent h = owes_mechanisms refl h.0 h.1
+view_in AwaitsInit y given sent h = awaits_init refl h.0 h.1
+view_in (OwesChallenge text) y given sent h = challenge_in y.server.phase text y.server given sent h
+view_in AwaitsResponse y given sent h = response_in y.server.phase y.server given sent h
+view_in (OwesOutcome text) y given sent h = owes_outcome h.user h.client_first h.server_first h.client_final text h.hostname refl h.given_is h.sent_is h.check
+view_in Passed y given sent h = passed h.1.user h.1.client_first h.1.server_first h.1.client_final h.0 h.1.hostname refl h.1.given_is h.1.sent_is h.1.check
+view_in (OwesRefusal code) y given sent h = owes_refusal code refl h.cause (asking (stored_for y.server.provider) y.server.nonce given sent h.waited)
+view_in (Refused code) y given sent h = refused code h.before refl h.cause h.told (asking (stored_for y.server.provider) y.server.nonce given h.before h.waited)
 
-pub listener_view : (y : ServerEnd Account) (given sent : List SaslBody) → holds_in stored_for y.stage y.server given sent → HasWaited y.stage y given sent
+pub listener_view : (y : ServerEnd Account) (given sent : List SaslBody) → holds_in stored_for y.stage y.server given sent
     → ListenerView y.stage (stored_for y.server.provider) y.server.nonce given sent
-listener_view y given sent h w = view_in y.stage y given sent h w
+listener_view y given sent h = view_in y.stage y given sent h

@@ -19,7 +19,7 @@ use Rattle.sasl_gate.specs.ScramBodies.{challenge_body, mechanisms_body, outcome
 use Rattle.sasl_gate.specs.ServerGate.{ServerEnd}
 use Rattle.sasl_gate.specs.States.{Account}
 use Rattle.sasl_gate.specs.Texts.{IsServerFinal}
-use Rattle.amqp_pairs.specs.Errors.{IsByteCause, IsByteScramCause, IsTold, MayRefuse}
+use Rattle.amqp_pairs.specs.Errors.{IsTold, MayRefuse}
 use Rattle.amqp_pairs.specs.Joined.{AreJoined}
 use Rattle.amqp_pairs.proofs.Answers.{client_answer, salted, signed}
 use Rattle.amqp_pairs.proofs.Bodies.{in_none, text_in}
@@ -73,18 +73,18 @@ last_of (g ∷ gs) = elim (last_of gs) as (λ _. (g ∷ gs ≡ []) ⊎ ((front :
 module _ (x : ClientEnd) (y : ServerEnd Account) (salt : List ℕ) (count : ℕ) (gc sc gl sl fc fl : List SaslBody) (j : AreJoined x y salt count gc sc gl sl fc fl) where
   -- two answers to one challenge wait for one signature
   same_signature : (list : SaslBody) (first own final other signature text : List ℕ) (kind : ScramErrorKind) (more : List SaslBody) → gc ≡ list ∷ challenge_body first ∷ more
-      → own ≡ first → (a : ClientAnswers sha256 64 32 x.client.user x.client.password x.client.nonce first final signature) → IsBytes a.salt
+      → own ≡ first → (a : ClientAnswers sha256 64 32 x.client.user x.client.password x.client.nonce first final signature)
       → (b : IsAnswered x own other) → IsServerFinal text (encode_of standard b.signature) → IsServerFinalRefusal 32 signature text kind → ⊥
-  same_signature list first own final other signature text kind more g e a narrow b f r =
+  same_signature list first own final other signature text kind more g e a b f r =
       let sent : list ∷ challenge_body first ∷ (more ++ fc) ≡ sl = sym (ap (λ (u : List SaslBody). u ++ fc) g) ∙ j.reads_listener in
       let c : IsSentChallenge y.stage (stored_for y.server.provider) y.server.nonce gl first =
       challenged y.stage (stored_for y.server.provider) y.server.nonce gl sl list first (more ++ fc) (seen x y salt count gc sc gl sl fc fl j) sent in
       let is = text_given x y salt count gc sc gl sl fc fl j c.client_first c.hostname (c.rest ++ fl) (sym (ap (λ (u : List SaslBody). u ++ fl) c.given_is) ∙ j.reads_client) in
       let to = answer_of x y salt count gc sc gl sl fc fl j c.client_first c.challenge.user c.challenge.whole first c.challenge.keys is c.challenge.answers in
       let theirs = client_answer x.client.user x.client.password x.client.nonce y.server.nonce salt count first final signature
-      j.ends.nonce_is j.ends.own_is j.ends.salt_is j.ends.count_is to.first_is a narrow in
+      j.ends.nonce_is j.ends.own_is j.ends.salt_is j.ends.count_is to.first_is a in
       let mine = client_answer x.client.user x.client.password x.client.nonce y.server.nonce salt count own other b.signature
-      j.ends.nonce_is j.ends.own_is j.ends.salt_is j.ends.count_is (e ∙ to.first_is) b.answers b.bytes in
+      j.ends.nonce_is j.ends.own_is j.ends.salt_is j.ends.count_is (e ∙ to.first_is) b.answers in
       let key : List ℕ = server_key_of sha256 64 (salted x.client.password salt count) in
       let auth : List ℕ = signed x.client.user x.client.nonce y.server.nonce first in
       let waited : b.signature ≡ hmac_of sha256 64 key auth = mine.signature_is ∙ ap (λ (t : List ℕ). hmac_of sha256 64 key (signed x.client.user x.client.nonce y.server.nonce t)) e in
@@ -93,30 +93,30 @@ module _ (x : ClientEnd) (y : ServerEnd Account) (salt : List ℕ) (count : ℕ)
       (subst (λ (s : List ℕ). IsServerFinalRefusal 32 s text kind) same r)
 
   pub own_outcome : (list : SaslBody) (first final signature text : List ℕ) (kind : ScramErrorKind) → gc ≡ list ∷ challenge_body first ∷ outcome_body sasl.Ok (Some text) ∷ []
-      → (a : ClientAnswers sha256 64 32 x.client.user x.client.password x.client.nonce first final signature) → IsBytes a.salt → IsServerFinalRefusal 32 signature text kind
+      → (a : ClientAnswers sha256 64 32 x.client.user x.client.password x.client.nonce first final signature) → IsServerFinalRefusal 32 signature text kind
       → ClientView x.stage x gc sc → ⊥
-  own_outcome list first final signature text kind e a narrow r (awaits_mechanisms t g s) = three_none gc list (challenge_body first) (outcome_body sasl.Ok (Some text)) e g
-  own_outcome list first final signature text kind e a narrow r (owes_init names t g s) = three_one gc list (challenge_body first) (outcome_body sasl.Ok (Some text)) (mechanisms_body names) e g
-  own_outcome list first final signature text kind e a narrow r (awaits_challenge names t g s) = three_one gc list (challenge_body first) (outcome_body sasl.Ok (Some text)) (mechanisms_body names) e g
-  own_outcome list first final signature text kind e a narrow r (owes_response names own t g s) =
+  own_outcome list first final signature text kind e a r (awaits_mechanisms t g s) = three_none gc list (challenge_body first) (outcome_body sasl.Ok (Some text)) e g
+  own_outcome list first final signature text kind e a r (owes_init names t g s) = three_one gc list (challenge_body first) (outcome_body sasl.Ok (Some text)) (mechanisms_body names) e g
+  own_outcome list first final signature text kind e a r (awaits_challenge names t g s) = three_one gc list (challenge_body first) (outcome_body sasl.Ok (Some text)) (mechanisms_body names) e g
+  own_outcome list first final signature text kind e a r (owes_response names own t g s) =
       three_two gc list (challenge_body first) (outcome_body sasl.Ok (Some text)) (mechanisms_body names) (challenge_body own) e g
-  own_outcome list first final signature text kind e a narrow r (awaits_outcome names own other t g s b) =
+  own_outcome list first final signature text kind e a r (awaits_outcome names own other t g s b) =
       three_two gc list (challenge_body first) (outcome_body sasl.Ok (Some text)) (mechanisms_body names) (challenge_body own) e g
-  own_outcome list first final signature text kind e a narrow r (passed names own other told t g s b f) =
+  own_outcome list first final signature text kind e a r (passed names own other told t g s b f) =
       let both : list ∷ challenge_body first ∷ outcome_body sasl.Ok (Some text) ∷ [] ≡ mechanisms_body names ∷ challenge_body own ∷ outcome_body sasl.Ok (Some told) ∷ [] = sym e ∙ g in
       let seconds : challenge_body first ≡ challenge_body own = cc in
       let thirds : outcome_body sasl.Ok (Some text) ≡ outcome_body sasl.Ok (Some told) = cc in
       let told_is : text ≡ told = ap text_in thirds in
-      same_signature list first own final other signature told kind (outcome_body sasl.Ok (Some text) ∷ []) e (sym (ap text_in seconds)) a narrow b f
+      same_signature list first own final other signature told kind (outcome_body sasl.Ok (Some text) ∷ []) e (sym (ap text_in seconds)) a b f
       (subst (λ (u : List ℕ). IsServerFinalRefusal 32 signature u kind) told_is r)
 
   seen_so_far : ClientView x.stage x gc sc
-  seen_so_far = client_view x.stage x gc sc j.ends.client j.ends.client_salt
+  seen_so_far = client_view x.stage x gc sc j.ends.client
 
-  own_scram : (kind : ScramErrorKind) (c : IsScramCause x kind gc sc) → IsByteScramCause x kind gc sc c → kind ≡ scram.Signature → ⊥
-  own_scram kind (by_challenge names text is m r) b k = subst (λ (q : ScramErrorKind). IsServerFirstRefusal x.client.nonce text q) k r
-  own_scram kind (by_outcome names first final signature text is s a r) b k = own_outcome (mechanisms_body names) first final signature text kind is a b r seen_so_far
-  own_scram kind (by_no_signature names first is s) b k =
+  own_scram : (kind : ScramErrorKind) → IsScramCause x kind gc sc → kind ≡ scram.Signature → ⊥
+  own_scram kind (by_challenge names text is m r) k = subst (λ (q : ScramErrorKind). IsServerFirstRefusal x.client.nonce text q) k r
+  own_scram kind (by_outcome names first final signature text is s a r) k = own_outcome (mechanisms_body names) first final signature text kind is a r seen_so_far
+  own_scram kind (by_no_signature names first is s) k =
       took_no_refusal x.stage x gc sc (mechanisms_body names ∷ challenge_body first ∷ []) [] sasl.Ok seen_so_far (sym is)
 
   -- it was told no refusal
@@ -124,28 +124,25 @@ module _ (x : ClientEnd) (y : ServerEnd Account) (salt : List ℕ) (count : ℕ)
   not_told front body is t =
       took_no_refusal x.stage x gc sc front [] sasl.Auth seen_so_far (ap (λ (b : SaslBody). front ++ b ∷ []) (sym t.body_is) ∙ sym is)
 
-  own_cause : (front : List SaslBody) (body : SaslBody) → gc ≡ front ++ body ∷ [] → (e : NegotiationError) (c : client_causes x e gc sc) → IsByteCause x e gc sc c → MayRefuse x y body e → ⊥
-  own_cause front body is (Memory a) c b m = m
-  own_cause front body is (ProtocolHeaderMismatch h) c b m = m
-  own_cause front body is NotImplemented c b m = m
-  own_cause front body is (SaslError code payload) c b m = not_told front body is m.2
-  own_cause front body is (ScramError kind) c b m = own_scram kind c b m.0
-  own_cause front body is (Io kind) c b m = m
-  own_cause front body is DecodeError c b m = m
-  own_cause front body is IllegalState c b m = not_told front body is m
-  own_cause front body is FramingError c b m = m
+  own_cause : (front : List SaslBody) (body : SaslBody) → gc ≡ front ++ body ∷ [] → (e : NegotiationError) → client_causes x e gc sc → MayRefuse x y body e → ⊥
+  own_cause front body is (Memory a) c m = m
+  own_cause front body is (ProtocolHeaderMismatch h) c m = m
+  own_cause front body is NotImplemented c m = m
+  own_cause front body is (SaslError code payload) c m = not_told front body is m.2
+  own_cause front body is (ScramError kind) c m = own_scram kind c m.0
+  own_cause front body is (Io kind) c m = m
+  own_cause front body is DecodeError c m = m
+  own_cause front body is IllegalState c m = m
+  own_cause front body is FramingError c m = m
 
   -- why it would have refused the last body
-  last_cause : (e : NegotiationError) (front : List SaslBody) (body : SaslBody) → gc ≡ front ++ body ∷ [] → (c : client_causes x e gc sc) → IsByteCause x e gc sc c → MayRefuse x y body e
-  last_cause e front body is c b =
+  last_cause : (e : NegotiationError) (front : List SaslBody) (body : SaslBody) → gc ≡ front ++ body ∷ [] → client_causes x e gc sc → MayRefuse x y body e
+  last_cause e front body is c =
       client_cause x y salt count gc sc gl sl fc fl j front body fc
-      (sym (append_assoc front (body ∷ []) fc) ∙ ap (λ (u : List SaslBody). u ++ fc) (sym is) ∙ j.reads_listener) e moved.0 moved.1
-    where
-      moved : (d : client_causes x e (front ++ body ∷ []) sc) × IsByteCause x e (front ++ body ∷ []) sc d
-      moved = subst (λ (u : List SaslBody). (d : client_causes x e u sc) × IsByteCause x e u sc d) is (c, b)
+      (sym (append_assoc front (body ∷ []) fc) ∙ ap (λ (u : List SaslBody). u ++ fc) (sym is) ∙ j.reads_listener) e (subst (λ (u : List SaslBody). client_causes x e u sc) is c)
 
-  pub nothing_refused : (e : NegotiationError) (c : client_causes x e gc sc) → IsByteCause x e gc sc c → ⊥
-  nothing_refused e c b = elim (last_of gc) as (λ _. ⊥) [
+  pub nothing_refused : (e : NegotiationError) → client_causes x e gc sc → ⊥
+  nothing_refused e c = elim (last_of gc) as (λ _. ⊥) [
     | inl none ↦ no_cause_yet x e gc sc none c
-    | inr some ↦ own_cause some.0 some.1 some.2 e c b (last_cause e some.0 some.1 some.2 c b)
+    | inr some ↦ own_cause some.0 some.1 some.2 e c (last_cause e some.0 some.1 some.2 c)
   ]

@@ -1,5 +1,5 @@
 -- Two joined ends of which neither has anything to send.
-use Rattle.std.proofs.Common.{◌≡◌, ◌≢◌, inl, inr, ℕ, ◌≤◌, List, [], ◌∷◌, ◌++◌, length, Option, Some, None, refl, ap, sym, ◌∙◌, subst, append-nil, arith}
+use Rattle.std.proofs.Common.{◌≡◌, ◌≢◌, inl, inr, ℕ, List, [], ◌∷◌, ◌++◌, Option, Some, None, sym, ◌∙◌}
 use Rattle.amqp_composites.specs.declared.sasl_body.SaslBody.{SaslBody}
 use Rattle.amqp_composites.specs.declared.sasl_code.SaslCode.{SaslCode}
 use Rattle.amqp_composites.specs.declared.sasl_code.SaslCode.TheVariants as sasl
@@ -71,7 +71,7 @@ module _ (stage : ClientStage) (x : ClientEnd) (given sent : List SaslBody) (idl
   no_response i c (passed names first final told t g s a f) p q = let both : client_init x ∷ response_body final ∷ [] ≡ i ∷ [] = sym s ∙ q in cc
 
   -- the listener passes
-  all_given : (c o : SaslBody) → ClientView stage x given sent → given ≡ own_mechanisms ∷ c ∷ o ∷ [] → client_turn_in stage ≡ Pass
+  pub all_given : (c o : SaslBody) → ClientView stage x given sent → given ≡ own_mechanisms ∷ c ∷ o ∷ [] → client_turn_in stage ≡ Pass
   all_given c o (awaits_mechanisms t g s) p = let both : [] ≡ own_mechanisms ∷ c ∷ o ∷ [] = sym g ∙ p in cc
   all_given c o (owes_init names t g s) p = absurd (idle t)
   all_given c o (awaits_challenge names t g s) p = let both : mechanisms_body names ∷ [] ≡ own_mechanisms ∷ c ∷ o ∷ [] = sym g ∙ p in cc

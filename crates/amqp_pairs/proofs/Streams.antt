@@ -12,13 +12,13 @@ use Rattle.amqp_value.proofs.Complete.{begins_no_other}
 use Rattle.amqp_wire.specs.Frame.{frame_of}
 use Rattle.amqp_wire.specs.Size.{size_of}
 use Rattle.amqp_wire.proofs.Cuts.{size_of-append}
-use Rattle.sasl_gate.specs.Frames.{Carries, IsSaslFrame, canonical_of, sasl_frame, sasl_header}
-use Rattle.amqp_pairs.specs.Streams.{AreFirstSent, HasSaslFrame, IsAfterSasl, IsPart, IsRead}
+use Rattle.sasl_gate.specs.Frames.{Carries, HasSaslFrame, IsSaslFrame, canonical_of, sasl_frame, sasl_header}
+use Rattle.amqp_pairs.specs.Streams.{AreFirstSent, IsAfterSasl, IsPart, IsRead}
 
 -- ---- one frame
 
 -- the size in front of a frame is its length
-frame_size : (piece more : List ℕ) (x : SaslBody) → IsSaslFrame piece x → (size_of (piece ++ more) ≡ length piece) × (8 ≤ length piece) × (length piece ≤ 512)
+pub frame_size : (piece more : List ℕ) (x : SaslBody) → IsSaslFrame piece x → (size_of (piece ++ more) ≡ length piece) × (8 ≤ length piece) × (length piece ≤ 512)
 frame_size piece more x f =
     let least : 8 ≤ length piece = omega (arith, f.body.size_is, f.body.whole.size.least) in
     let most : length piece ≤ 512 = omega (arith, f.body.size_is, f.body.whole.size.most) in
@@ -72,7 +72,7 @@ frame_is body x l s =
     }
 
 -- what is written of a body is a frame of it
-written : (x : SaslBody) → HasSaslFrame x → IsSaslFrame (sasl_frame x) x
+pub written : (x : SaslBody) → HasSaslFrame x → IsSaslFrame (sasl_frame x) x
 written x h = frame_is (canonical_of x) x h.fits h.spelled
 
 -- ---- what follows
@@ -92,7 +92,7 @@ after_size after (rest, inr e) l =
     omega arith
 
 -- so no frame begins there
-no_frame_after : (piece more after : List ℕ) (x : SaslBody) → IsSaslFrame piece x → IsAfterSasl after → piece ++ more ≡ after → ⊥
+pub no_frame_after : (piece more after : List ℕ) (x : SaslBody) → IsSaslFrame piece x → IsAfterSasl after → piece ++ more ≡ after → ⊥
 no_frame_after piece more after x f a e =
     let size = frame_size piece more x f in
     let long : 4 ≤ length after = omega (arith, size.1, ap length e, length-append piece more) in
@@ -138,7 +138,7 @@ none_left [] rest after a p e = refl
 none_left (y ∷ ys) rest after a p e =
     absurd (part_not (sasl_frame y) (flat_map sasl_frame ys ++ after) rest y (written y (All-head HasSaslFrame y ys a)) p (e ∙ append_assoc (sasl_frame y) (flat_map sasl_frame ys) after))
 
-all_behind : (first others : List SaslBody) → All HasSaslFrame (first ++ others) → All HasSaslFrame others
+pub all_behind : (first others : List SaslBody) → All HasSaslFrame (first ++ others) → All HasSaslFrame others
 all_behind [] others a = a
 all_behind (y ∷ ys) others a = all_behind ys others (All-tail HasSaslFrame y (ys ++ others) a)
 

@@ -1,64 +1,16 @@
 -- The two ends of a SASL exchange with SCRAM-SHA-256, joined by a stream of bodies each way.
-use Rattle.std.specs.Prelude.{◌≡◌, ◌≢◌, ◌⊎◌, ℕ, List, [], ◌∷◌, ◌++◌, Some, None, ⊤}
+use Rattle.std.specs.Prelude.{◌≡◌, ◌≢◌, ◌⊎◌, ℕ, List, ◌++◌, Some, ⊤}
 use Rattle.amqp_composites.specs.declared.sasl_body.SaslBody.{SaslBody}
 use Rattle.base64.specs.GeneralPurpose.{IsBytes}
 use Rattle.sha2.specs.Sha256.{sha256}
 use Rattle.amqp_opening.specs.Authentication.{stored_for}
-use Rattle.sasl_gate.specs.declared.gate.client.ClientStage.{ClientStage}
-use Rattle.sasl_gate.specs.declared.gate.client.ClientStage.TheVariants as client_stage
-use Rattle.sasl_gate.specs.declared.gate.exchange.Turn.TheVariants.{Receive}
 use Rattle.sasl_gate.specs.declared.gate.server.ServerStage.{ServerStage}
 use Rattle.sasl_gate.specs.declared.gate.server.ServerStage.TheVariants as server_stage
-use Rattle.sasl_gate.specs.declared.scram.client.ClientPhase.{ClientPhase}
-use Rattle.sasl_gate.specs.declared.scram.client.ClientPhase.TheVariants.{Unanswered, Answered, Verified}
 use Rattle.sasl_gate.specs.Check.{stored_of}
-use Rattle.sasl_gate.specs.ClientGate.{ClientEnd, HasAnswer, client_holds, client_init, holds_in}
+use Rattle.sasl_gate.specs.ClientGate.{ClientEnd, client_holds}
 use Rattle.sasl_gate.specs.Profile.{IsAllowedUser, IsAllowedCount, IsNonce}
-use Rattle.sasl_gate.specs.ScramBodies.{outcome_body, response_body}
-use Rattle.sasl_gate.specs.ServerGate.{ServerEnd, ServerSame, server_holds, server_turn}
-use Rattle.sasl_gate.specs.States.{Account, ForAnswered}
-
--- ---- what is asked of the ends beside what they hold
-
--- the salt of a client's answer is bytes
-abbrev pub IsByteAnswer : (phase : ClientPhase) (x : ClientEnd) (given sent : List SaslBody)
-    → ForAnswered phase (λ a. HasAnswer x a given sent (client_init x ∷ response_body a.client_final ∷ [])) → Type 0
-IsByteAnswer Unanswered x given sent held = ⊥
-IsByteAnswer (Answered a) x given sent held = IsBytes held.answers.salt
-IsByteAnswer Verified x given sent held = ⊥
-
--- the same of the answer that a client sent, where it sent one
-abbrev pub IsByteHeld : (stage : ClientStage) (x : ClientEnd) (given sent : List SaslBody) → holds_in stage x given sent → Type 0
-IsByteHeld client_stage.AwaitsMechanisms x given sent held = ⊤
-IsByteHeld client_stage.OwesInit x given sent held = ⊤
-IsByteHeld client_stage.AwaitsChallenge x given sent held = ⊤
-IsByteHeld (client_stage.OwesResponse text) x given sent held = ⊤
-IsByteHeld client_stage.AwaitsOutcome x given sent held = IsByteAnswer x.client.phase x given sent held
-IsByteHeld client_stage.Passed x given sent held = IsBytes held.check.answers.salt
-
--- the last body given is one for which a listener waited, that had sent this
-pub record Waited (y : ServerEnd Account) (given sent : List SaslBody) : Type 0 where
-  pub old : ServerEnd Account
-  pub before : List SaslBody
-  pub body : SaslBody
-  pub same : ServerSame old y
-  pub waits : server_turn old ≡ Receive
-  pub held : server_holds stored_for old before sent
-  pub given_is : given ≡ before ++ body ∷ []
-
--- a listener that refuses, or owes that, waited for the body that it refuses
-abbrev pub HasWaited : ServerStage → ServerEnd Account → List SaslBody → List SaslBody → Type 0
-HasWaited server_stage.OwesMechanisms y given sent = ⊤
-HasWaited server_stage.AwaitsInit y given sent = ⊤
-HasWaited (server_stage.OwesChallenge text) y given sent = ⊤
-HasWaited server_stage.AwaitsResponse y given sent = ⊤
-HasWaited (server_stage.OwesOutcome text) y given sent = ⊤
-HasWaited server_stage.Passed y given sent = ⊤
-HasWaited (server_stage.OwesRefusal code) y given sent = Waited y given sent
-HasWaited (server_stage.Refused code) y given sent =
-    (before : List SaslBody) × (sent ≡ before ++ outcome_body code None ∷ []) × Waited y given before
-
--- ---- two ends
+use Rattle.sasl_gate.specs.ServerGate.{ServerEnd, server_holds}
+use Rattle.sasl_gate.specs.States.{Account}
 
 -- a client in the profile and a listener with one user, of whose password it keeps what RFC 5802, section 3 says, with a salt and a
 -- count; and what each was given, and what it sent
@@ -71,9 +23,7 @@ pub record AreEnds (x : ClientEnd) (y : ServerEnd Account) (salt : List ℕ) (co
   pub salt_is : IsBytes salt
   pub count_is : IsAllowedCount count
   pub client : client_holds x client_given client_sent
-  pub client_salt : IsByteHeld x.stage x client_given client_sent client
   pub listener : server_holds stored_for y listener_given listener_sent
-  pub waited : HasWaited y.stage y listener_given listener_sent
 
 -- two such ends, and the bodies in flight: those that the one sent and the other has not taken. A body that a client refuses is not
 -- taken

@@ -1,3 +1,4 @@
 pub mod Joined
 pub mod Errors
 pub mod Streams
+pub mod Failures

@@ -1,15 +1,9 @@
 -- What one end wrote of a SASL layer and what the other read of it (OASIS AMQP 1.0, part 5, section 5.3; part 2, section 2.3).
-use Rattle.std.specs.Prelude.{◌≡◌, ◌⊎◌, ◌<◌, ◌≤◌, ℕ, List, ◌++◌, length, flat_map, All}
+use Rattle.std.specs.Prelude.{◌≡◌, ◌⊎◌, ◌<◌, ℕ, List, ◌++◌, length, flat_map, All}
 use Rattle.amqp_composites.specs.declared.sasl_body.SaslBody.{SaslBody}
-use Rattle.amqp_frames.specs.Sasl.{SpellsSasl}
 use Rattle.amqp_opening.specs.Opening.{amqp_header}
 use Rattle.amqp_wire.specs.Size.{size_of}
-use Rattle.sasl_gate.specs.Frames.{Heard, canonical_of, said, sasl_frame}
-
--- a frame of at most 512 bytes (part 5, section 5.3.1) has room for the bytes that are written of a body, and they spell it
-pub record HasSaslFrame (x : SaslBody) : Type 0 where
-  pub fits : length (canonical_of x) ≤ 504
-  pub spelled : SpellsSasl (canonical_of x) x
+use Rattle.sasl_gate.specs.Frames.{HasSaslFrame, Heard, said, sasl_frame}
 
 -- what follows the SASL layer: the front of the AMQP header, or the whole of it and then anything
 abbrev pub IsAfterSasl : List ℕ → Type 0
@@ -24,6 +18,13 @@ pub record AreFirstSent (given sent : List SaslBody) (left after : List ℕ) : T
   pub others : List SaslBody
   pub sent_is : sent ≡ given ++ others
   pub left_is : left ≡ flat_map sasl_frame others ++ after
+
+-- What one end wrote, with what is queued there, is this SASL layer and what follows; the other read so much of it, and these bytes are to
+-- come
+pub record IsSaid (read coming after : List ℕ) (sent : List SaslBody) : Type 0 where
+  pub frames : All HasSaslFrame sent
+  pub after_is : IsAfterSasl after
+  pub stream : read ++ coming ≡ said sent ++ after
 
 -- What one end wrote, with what is queued there, is this SASL layer and what follows; the other read so much of it, was given these bodies
 -- and has this rest, and these bytes are to come.

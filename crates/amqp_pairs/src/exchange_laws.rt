@@ -11,7 +11,7 @@ ghost use Rattle.sasl_gate.specs.Exchange.{refused_with};
 ghost use Rattle.sasl_gate.specs.ScramBodies.{outcome_body};
 ghost use Rattle.sasl_gate.specs.ServerGate.{IsRefusalCause, server_turn};
 ghost use Rattle.amqp_pairs.specs.Joined.{ForJoined, IsSameAccount, IsOtherAccount, IsRefusing};
-ghost use Rattle.amqp_pairs.specs.Errors.{IsByteCause, MayRefuse};
+ghost use Rattle.amqp_pairs.specs.Errors.{MayRefuse};
 
 /// Where user and password are the same at both ends, the listener neither refuses nor owes a refusal, has no cause to refuse what
 /// it was given, and neither end has a cause to refuse the next body in flight.
@@ -28,7 +28,7 @@ pub fn same_accounts_are_not_refused()
     ensures next_at_client { ForJoined (λ x y gc sc gl sl fc fl.
         IsSameAccount x y.server.provider
         → (e : NegotiationError) (body : SaslBody) (more : List SaslBody) → fc ≡ body ∷ more
-        → (cause : client_causes x e (gc ++ body ∷ []) sc) → IsByteCause x e (gc ++ body ∷ []) sc cause → ⊥) }
+        → client_causes x e (gc ++ body ∷ []) sc → ⊥) }
 {}
 
 /// The listener refuses with `Auth` alone, and only another account. The client refuses only that outcome, or the signature of
@@ -42,10 +42,10 @@ pub fn only_other_accounts_are_refused()
         → IsRefusalCause (stored_for y.server.provider) y.server.nonce code (gl ++ body ∷ [])
         → (code ≡ sasl.Auth) × IsOtherAccount x y.server.provider) }
     ensures client { ForJoined (λ x y gc sc gl sl fc fl.
-        (e : NegotiationError) (cause : client_causes x e gc sc) → IsByteCause x e gc sc cause → ⊥) }
+        (e : NegotiationError) → client_causes x e gc sc → ⊥) }
     ensures next_at_client { ForJoined (λ x y gc sc gl sl fc fl.
         (e : NegotiationError) (body : SaslBody) (more : List SaslBody) → fc ≡ body ∷ more
-        → (cause : client_causes x e (gc ++ body ∷ []) sc) → IsByteCause x e (gc ++ body ∷ []) sc cause → MayRefuse x y body e) }
+        → client_causes x e (gc ++ body ∷ []) sc → MayRefuse x y body e) }
 {}
 
 /// Where nothing is in flight and neither end has anything to send, both pass. A listener that refused has its outcome in

@@ -5,13 +5,12 @@ ghost use Rattle.amqp_opening.specs.Authentication.{stored_for};
 ghost use Rattle.base64.specs.GeneralPurpose.{IsBytes};
 ghost use Rattle.sha2.specs.Sha256.{sha256};
 ghost use Rattle.sasl_gate.specs.declared.gate.client.SaslProfile.{SaslProfile};
-ghost use Rattle.sasl_gate.specs.declared.gate.exchange.Turn.TheVariants.{Receive};
 ghost use Rattle.sasl_gate.specs.Check.{stored_of};
 ghost use Rattle.sasl_gate.specs.ClientGate.{ClientEnd, ClientSame, client_begun, client_holds, nonce_of, username_of};
 ghost use Rattle.sasl_gate.specs.Profile.{IsAllowedUser, IsAllowedCount, IsNonce};
-ghost use Rattle.sasl_gate.specs.ServerGate.{ServerEnd, ServerSame, server_begun, server_holds, server_turn};
+ghost use Rattle.sasl_gate.specs.ServerGate.{ServerEnd, ServerSame, server_begun, server_holds};
 ghost use Rattle.sasl_gate.specs.States.{Account};
-ghost use Rattle.amqp_pairs.specs.Joined.{AreJoined, HasWaited, IsByteHeld};
+ghost use Rattle.amqp_pairs.specs.Joined.{AreJoined};
 
 /// Two ends that have read and written nothing are joined.
 pub fn begun_ends_are_joined()
@@ -21,23 +20,22 @@ pub fn begun_ends_are_joined()
         → AreJoined (client_begun profile hostname) (server_begun account own) salt count [] [] [] [] [] [] }
 {}
 
-/// They stay joined where one sends a body, which is then in flight, or takes the next one. A listener that is given a body waited
-/// for it.
+/// They stay joined where one sends a body, which is then in flight, or takes the next one.
 pub fn joined_ends_stay_joined()
     ensures client_sends { (x x' : ClientEnd) (y : ServerEnd Account) (salt : List ℕ) (count : ℕ) (gc sc gl sl fc fl : List SaslBody)
         (body : SaslBody) → AreJoined x y salt count gc sc gl sl fc fl → ClientSame x x'
-        → (held : client_holds x' gc (sc ++ body ∷ [])) → IsByteHeld x'.stage x' gc (sc ++ body ∷ []) held
+        → client_holds x' gc (sc ++ body ∷ [])
         → AreJoined x' y salt count gc (sc ++ body ∷ []) gl sl fc (fl ++ body ∷ []) }
     ensures client_takes { (x x' : ClientEnd) (y : ServerEnd Account) (salt : List ℕ) (count : ℕ) (gc sc gl sl fc fl : List SaslBody)
         (body : SaslBody) → AreJoined x y salt count gc sc gl sl (body ∷ fc) fl → ClientSame x x'
-        → (held : client_holds x' (gc ++ body ∷ []) sc) → IsByteHeld x'.stage x' (gc ++ body ∷ []) sc held
+        → client_holds x' (gc ++ body ∷ []) sc
         → AreJoined x' y salt count (gc ++ body ∷ []) sc gl sl fc fl }
     ensures listener_sends { (x : ClientEnd) (y y' : ServerEnd Account) (salt : List ℕ) (count : ℕ) (gc sc gl sl fc fl : List SaslBody)
         (body : SaslBody) → AreJoined x y salt count gc sc gl sl fc fl → ServerSame y y'
-        → server_holds stored_for y' gl (sl ++ body ∷ []) → HasWaited y'.stage y' gl (sl ++ body ∷ [])
+        → server_holds stored_for y' gl (sl ++ body ∷ [])
         → AreJoined x y' salt count gc sc gl (sl ++ body ∷ []) (fc ++ body ∷ []) fl }
     ensures listener_takes { (x : ClientEnd) (y y' : ServerEnd Account) (salt : List ℕ) (count : ℕ) (gc sc gl sl fc fl : List SaslBody)
-        (body : SaslBody) → AreJoined x y salt count gc sc gl sl fc (body ∷ fl) → server_turn y ≡ Receive → ServerSame y y'
+        (body : SaslBody) → AreJoined x y salt count gc sc gl sl fc (body ∷ fl) → ServerSame y y'
         → server_holds stored_for y' (gl ++ body ∷ []) sl
         → AreJoined x y' salt count gc sc (gl ++ body ∷ []) sl fc fl }
 {}

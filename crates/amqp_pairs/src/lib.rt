@@ -4,5 +4,6 @@
 #![tactic(auto)]
 
 pub mod exchange_laws;
+pub mod failure_laws;
 pub mod joining_laws;
 pub mod stream_laws;

@@ -1,12 +1,14 @@
 //! Laws over the bytes of a SASL layer (OASIS AMQP 1.0, part 5, section 5.3).
 ghost use Rattle.std.specs.Prelude.{◌≡◌, ◌≢◌, ℕ, List, [], ◌++◌};
 ghost use Rattle.amqp_composites.specs.declared.sasl_body.SaslBody.{SaslBody};
+ghost use Rattle.sasl_gate.specs.declared.gate.error.NegotiationError.{NegotiationError};
 ghost use Rattle.sasl_gate.specs.declared.gate.exchange.Turn.TheVariants.{Send, Pass};
 ghost use Rattle.sasl_gate.specs.ClientGate.{ClientEnd, client_turn};
+ghost use Rattle.sasl_gate.specs.Negotiation.{FrameCause, HeaderCause};
 ghost use Rattle.sasl_gate.specs.ServerGate.{ServerEnd, server_turn};
 ghost use Rattle.sasl_gate.specs.States.{Account};
 ghost use Rattle.amqp_pairs.specs.Joined.{AreEnds, AreJoined};
-ghost use Rattle.amqp_pairs.specs.Streams.{IsPart, IsRead, AreFirstSent};
+ghost use Rattle.amqp_pairs.specs.Streams.{IsPart, IsRead, IsSaid, AreFirstSent};
 
 /// The bodies that an end was given are the first of those that the other sent; what is left of the bytes that were read, with
 /// those to come, is the frames of the others and what the other writes after its SASL layer.
@@ -19,6 +21,14 @@ pub fn hears_what_was_said()
 pub fn hears_all_that_was_said()
     ensures { (read rest after : List ℕ) (given sent : List SaslBody) → IsRead read rest [] after given sent
         → IsPart rest → (given ≡ sent) × (rest ≡ after) }
+{}
+
+/// Of the bytes of a SASL layer no header is refused, and no frame before all bodies were given.
+pub fn no_bytes_of_it_are_refused()
+    ensures header { (read coming after : List ℕ) (sent : List SaslBody) (e : NegotiationError) → IsSaid read coming after sent
+        → HeaderCause e read → ⊥ }
+    ensures frame { (read rest coming after : List ℕ) (given sent : List SaslBody) (e : NegotiationError)
+        → IsRead read rest coming after given sent → FrameCause e rest → (given ≡ sent) × (rest ++ coming ≡ after) }
 {}
 
 /// Two ends that read one another's bytes are joined.

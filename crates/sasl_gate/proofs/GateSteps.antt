@@ -30,10 +30,10 @@ use Rattle.sasl_gate.specs.declared.gate.negotiation.Phase.TheVariants.{Header, 
 use Rattle.sasl_gate.specs.declared.gate.negotiation.Step.{Step}
 use Rattle.sasl_gate.specs.declared.gate.negotiation.Step.TheVariants.{Goes, Waits, Ends}
 use Rattle.sasl_gate.specs.Exchange.{refused_with}
-use Rattle.sasl_gate.specs.Frames.{sasl_header, Heard, sasl_frame}
+use Rattle.sasl_gate.specs.Frames.{sasl_header, HasSaslFrame, Heard, sasl_frame}
 use Rattle.sasl_gate.specs.Negotiation.{Negotiating, IsCaused, at_link, at_header, at_frame, by_body, too_long, HeaderCause, FrameCause, IsOverlong, HasHeader, HasFrames, HasIn, IsAtRestIn, IsAtRest, IsPollAnswer, Polled}
 use Rattle.sasl_gate.specs.Steps.{IsStepEnd, Stepped, IsAlive, IsStopAnswer, IsWaitAnswer, IsEndAnswer, ArrivesIn}
-use Rattle.sasl_gate.proofs.Negotiations.{goes_none, stepped_then, goes_flushed, flush_events, goes_read, goes_failed, goes_header, goes_taken, goes_sent, heard_push, frame_cut}
+use Rattle.sasl_gate.proofs.Negotiations.{goes_none, stepped_then, goes_flushed, flush_events, goes_read, goes_failed, goes_refused, Failing, goes_header, goes_taken, goes_sent, heard_push, frame_cut}
 
 pub alive_header : (p : Phase) → p ≡ Header → IsAlive p
 alive_header p e = subst IsAlive (sym e) tt
@@ -63,49 +63,44 @@ header_mismatch link m a left h phase same l e ne =
     record {
       events = [];
       goes = goes_failed link m a a left left [] (ProtocolHeaderMismatch h) (alive_header a.phase phase)
-          (λ before n. let k : HasHeader m a before = subst (λ (p : Phase). HasIn m p a before) phase n in
-          at_header (subst (λ (u : List ℕ). HeaderCause (ProtocolHeaderMismatch h) u) (sym k.read) (l, e, ne)))
+          (λ before n given sent. let k : HasHeader m a before = subst (λ (p : Phase). HasIn m p a before) phase n in
+          (at_header (subst (λ (u : List ℕ). HeaderCause (ProtocolHeaderMismatch h) u) (sym k.read) (l, e, ne)), tt))
           (goes_none link m a left same);
       end = tt;
     }
 
 -- it failed while frames are read and written
 pub failed_frames : {L X : Type 0} (link : Ghosts L) (m : Mechanism X) (a : Negotiating L X) (left : ℕ) (e : NegotiationError) → a.phase ≡ Frames → m.same a.exchange a.exchange
-    → ((before : List LinkEvent) → HasFrames m a before → IsCaused (m.causes a.exchange) (m.owes a.exchange) e before)
+    → ((before : List LinkEvent) (n : HasFrames m a before) → Failing m a e before n.given n.sent)
     → Stepped link m a left Ends (record a { phase = Failed e }) left
-failed_frames link m a left e phase same cause =
-    record {
-      events = [];
-      goes = goes_failed link m a a left left [] e (alive_frames a.phase phase)
-          (λ before n. cause before (subst (λ (p : Phase). HasIn m p a before) phase n))
-          (goes_none link m a left same);
-      end = tt;
-    }
+failed_frames link m a left e phase same cause = record { events = []; goes = goes_refused link m a left e phase same cause; end = tt }
 
 -- the frame at the front of the input is refused
-pub failed_front : {L X : Type 0} (link : Ghosts L) (m : Mechanism X) (a : Negotiating L X) (left : ℕ) (e : NegotiationError) → a.phase ≡ Frames → m.same a.exchange a.exchange → FrameCause e a.codec.input
+pub failed_front : {L X : Type 0} (link : Ghosts L) (m : Mechanism X) (a : Negotiating L X) (left : ℕ) (e : NegotiationError) → a.phase ≡ Frames → m.same a.exchange a.exchange → m.turn_of a.exchange ≡ Receive → FrameCause e a.codec.input
     → Stepped link m a left Ends (record a { phase = Failed e }) left
-failed_front link m a left e phase same c = failed_frames link m a left e phase same (λ before n. at_frame n.given a.codec.input n.heard c)
+failed_front link m a left e phase same turn c = failed_frames link m a left e phase same (λ before n. (at_frame n.given a.codec.input n.heard c, (refl, turn)))
 
 pub failed_overlong : {L X : Type 0} (link : Ghosts L) (m : Mechanism X) (a : Negotiating L X) (left : ℕ) (body : SaslBody) → a.phase ≡ Frames → m.same a.exchange a.exchange → m.owes a.exchange body → IsOverlong body
     → Stepped link m a left Ends (record a { phase = Failed FramingError }) left
-failed_overlong link m a left body phase same o long = failed_frames link m a left FramingError phase same (λ before n. too_long body o long refl)
+failed_overlong link m a left body phase same o long = failed_frames link m a left FramingError phase same (λ before n. (too_long body o long refl, tt))
 
 pub failed_body : {L X : Type 0} (link : Ghosts L) (m : Mechanism X) (a : Negotiating L X) (left : ℕ) (e : NegotiationError) (body : SaslBody) (size start channel : ℕ) → a.phase ≡ Frames → m.same a.exchange a.exchange
-    → HasBody 1 512 a.codec.input size start channel → SpellsSasl (drop start (take size a.codec.input)) body
+    → m.turn_of a.exchange ≡ Receive → HasBody 1 512 a.codec.input size start channel → SpellsSasl (drop start (take size a.codec.input)) body
     → ((given sent : List SaslBody) → m.holds a.exchange given sent → m.causes a.exchange e (given ++ body ∷ []) sent)
     → Stepped link m a left Ends (record a { phase = Failed e }) left
-failed_body link m a left e body size start channel phase same b s c =
+failed_body link m a left e body size start channel phase same turn b s c =
     failed_frames link m a left e phase same (λ before n.
-    let cut : Heard (read_of before) n.given (take size a.codec.input ++ drop size a.codec.input) = subst (λ (u : List ℕ). Heard (read_of before) n.given u) (sym (take-append-drop size a.codec.input)) n.heard in
-    by_body (n.given ++ body ∷ []) n.sent (drop size a.codec.input)
-    (heard_push (read_of before) (take size a.codec.input) (drop size a.codec.input) n.given body cut (frame_cut a.codec.input size start channel body b s))
-    (c n.given n.sent n.held))
+    let cut : Heard (read_of before) n.given (take size a.codec.input ++ drop size a.codec.input) = subst (λ (u : List ℕ). Heard (read_of before) n.given u) (sym (take-append-drop size a.codec.input)) n.heard in (
+      by_body (n.given ++ body ∷ []) n.sent (drop size a.codec.input)
+          (heard_push (read_of before) (take size a.codec.input) (drop size a.codec.input) n.given body cut (frame_cut a.codec.input size start channel body b s))
+          (c n.given n.sent n.held),
+      (refl, inr (body, refl, turn)),
+    ))
 
 pub failed_refusal : {L X : Type 0} (link : Ghosts L) (m : Mechanism X) (a : Negotiating L X) (left : ℕ) (code : SaslCode) → a.phase ≡ Frames → m.same a.exchange a.exchange
     → ((given sent : List SaslBody) → m.holds a.exchange given sent → m.causes a.exchange (refused_with code) given sent)
     → Stepped link m a left Ends (record a { phase = Failed (refused_with code) }) left
-failed_refusal link m a left code phase same c = failed_frames link m a left (refused_with code) phase same (λ before n. by_body n.given n.sent a.codec.input n.heard (c n.given n.sent n.held))
+failed_refusal link m a left code phase same c = failed_frames link m a left (refused_with code) phase same (λ before n. (by_body n.given n.sent a.codec.input n.heard (c n.given n.sent n.held), (refl, inl refl)))
 
 -- a step after reads
 pub read_then : {L X : Type 0} (link : Ghosts L) (m : Mechanism X) (a : Negotiating L X) (c : Codec L) (b : Negotiating L X) (w : Wait) (left k n : ℕ) (s : Step) → IsAlive a.phase → m.same a.exchange a.exchange → m.same a.exchange b.exchange
@@ -128,14 +123,14 @@ stopped_in {L} {X} link m a c End left k s new alive same rests r e =
     subst (λ (t : Step). Stepped link m a left t new k) (sym e.0) (subst (λ (b : Negotiating L X). Stepped link m a left Ends b k) (sym e.1)
     (record {
       events = r.events;
-      goes = goes_failed link m a (record a { codec = c }) left k r.events (Io InputEnd) alive (λ before n. at_link (includes_left r.events before (NotRead End) r.end)) (goes_read link m a c (Stopped End) left k alive same r);
+      goes = goes_failed link m a (record a { codec = c }) left k r.events (Io InputEnd) alive (λ before n given sent. (at_link (includes_left r.events before (NotRead End) r.end), tt)) (goes_read link m a c (Stopped End) left k alive same r);
       end = tt;
     }))
 stopped_in {L} {X} link m a c FailedRead left k s new alive same rests r e =
     subst (λ (t : Step). Stepped link m a left t new k) (sym e.0) (subst (λ (b : Negotiating L X). Stepped link m a left Ends b k) (sym e.1)
     (record {
       events = r.events;
-      goes = goes_failed link m a (record a { codec = c }) left k r.events (Io Fault) alive (λ before n. at_link (inl (includes_left r.events before (NotRead FailedRead) r.end))) (goes_read link m a c (Stopped FailedRead) left k alive same r);
+      goes = goes_failed link m a (record a { codec = c }) left k r.events (Io Fault) alive (λ before n given sent. (at_link (inl (includes_left r.events before (NotRead FailedRead) r.end)), tt)) (goes_read link m a c (Stopped FailedRead) left k alive same r);
       end = tt;
     }))
 
@@ -161,10 +156,10 @@ body_taken link m a x left size start channel body phase same b s g = record { e
 
 -- a body was sent
 pub body_sent : {L X : Type 0} (link : Ghosts L) (m : Mechanism X) (a : Negotiating L X) (x : X) (c : Codec L) (left : ℕ) (body : SaslBody) → a.phase ≡ Frames → m.same a.exchange x
-    → c ≡ record a.codec { output = a.codec.output ++ sasl_frame body }
+    → c ≡ record a.codec { output = a.codec.output ++ sasl_frame body } → HasSaslFrame body
     → ((given sent : List SaslBody) → m.holds a.exchange given sent → m.holds x given (sent ++ body ∷ []))
     → Stepped link m a left Goes (record { codec = c; phase = a.phase; exchange = x }) left
-body_sent link m a x c left body phase same e g = record { events = []; goes = goes_sent link m a x c left body phase same e g; end = tt }
+body_sent link m a x c left body phase same e f g = record { events = []; goes = goes_sent link m a x c left body phase same e f g; end = tt }
 
 -- what was queued went out, and a step followed
 pub flushed_then : {L X : Type 0} (link : Ghosts L) (m : Mechanism X) (a : Negotiating L X) (c : Codec L) (b : Negotiating L X) (left n : ℕ) (s : Step) → IsAlive a.phase → m.same a.exchange a.exchange → m.same a.exchange b.exchange
@@ -182,7 +177,7 @@ pub flushed_failed : {L X : Type 0} (link : Ghosts L) (m : Mechanism X) (a : Neg
 flushed_failed link m a c left alive same f =
     record {
       events = flush_events f.bytes (Some FailedWrite);
-      goes = goes_failed link m a (record a { codec = c }) left left (flush_events f.bytes (Some FailedWrite)) (Io Fault) alive (λ before n. at_link (inr (inl refl))) (goes_flushed link m a c (Some FailedWrite) left alive same f);
+      goes = goes_failed link m a (record a { codec = c }) left left (flush_events f.bytes (Some FailedWrite)) (Io Fault) alive (λ before n given sent. (at_link (inr (inl refl)), tt)) (goes_flushed link m a c (Some FailedWrite) left alive same f);
       end = tt;
     }
 

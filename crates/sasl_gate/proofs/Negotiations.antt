@@ -2,6 +2,7 @@
 use Rattle.std.proofs.Common.{◌≡◌, ◌<◌, ◌≤◌, ◌+◌, ◌-◌, inl, inr, ℕ, List, [], ◌∷◌, ◌++◌, length, take, drop, Option, Some, None, refl, sym, ap, ◌∙◌, subst, append_assoc, arith}
 use Rattle.std.specs.Prelude.{flat_map, slice_index}
 use Rattle.std.proofs.lemmas.List.{append-nil, take-append-drop, length-take-le, drop-take}
+use Rattle.std.proofs.lemmas.List.Elements.{All-nil, All-push}
 use Rattle.std.proofs.lemmas.Grind.{flat_map-append, common_steps}
 use Rattle.amqp_composites.specs.declared.sasl_body.SaslBody.{SaslBody}
 use Rattle.amqp_frames.specs.Sasl.{SpellsSasl}
@@ -21,8 +22,8 @@ use Rattle.sasl_gate.specs.declared.gate.negotiation.Phase.{Phase}
 use Rattle.sasl_gate.specs.declared.gate.negotiation.Phase.TheVariants.{Header, Frames, Failed}
 use Rattle.sasl_gate.specs.declared.gate.negotiation.Step.{Step}
 use Rattle.sasl_gate.specs.declared.gate.negotiation.Step.TheVariants.{Goes, Waits, Ends}
-use Rattle.sasl_gate.specs.Frames.{sasl_header, IsSaslFrame, Carries, Heard, sasl_frame, said}
-use Rattle.sasl_gate.specs.Negotiation.{Negotiating, IsCaused, HasHeader, HasFrames, HasFailure, HasIn, Has, IsHeldUp, IsAtRestOrFull, GoesOn}
+use Rattle.sasl_gate.specs.Frames.{sasl_header, IsSaslFrame, Carries, HasSaslFrame, Heard, sasl_frame, said}
+use Rattle.sasl_gate.specs.Negotiation.{Negotiating, IsCaused, IsCauseAfter, HasHeader, HasFrames, HasFailure, HasIn, Has, IsHeldUp, IsAtRestOrFull, GoesOn}
 use Rattle.sasl_gate.specs.Steps.{IsStepEnd, Stepped, IsAlive}
 
 -- nothing happened
@@ -94,6 +95,7 @@ has_moved m Frames a c before after more alive r i w h =
       sent = h.sent;
       heard = subst (λ (u : List ℕ). Heard u h.given c.input) (sym r) (subst (λ (u : List ℕ). Heard (read_of before ++ more) h.given u) (sym i) (heard_more (read_of before) more a.codec.input h.given h.heard));
       wrote = w ∙ h.wrote;
+      framed = h.framed;
       held = h.held;
     }
 has_moved m (Failed e) a c before after more alive r i w h = absurd alive
@@ -142,25 +144,65 @@ goes_read link m a c w left left' alive s r =
           (ap (λ (u : List ℕ). wrote_of (r.events ++ before) ++ u) r.output ∙ ap (λ (u : List ℕ). u ++ a.codec.output) (wrote_of-append r.events before ∙ ap (λ (u : List ℕ). wrote_of before ++ u) r.silent ∙ append-nil (wrote_of before))) h;
     }
 
-failed_in : {L X : Type 0} (m : Mechanism X) (p : Phase) (b : Negotiating L X) (e : NegotiationError) (events : List LinkEvent) → IsAlive p → IsCaused (m.causes b.exchange) (m.owes b.exchange) e events → HasIn m p b events → HasFailure m e b events
-failed_in m Header b e events alive c h = record { sent = []; wrote = h.wrote; cause = c }
-failed_in m Frames b e events alive c h = record { sent = h.sent; wrote = h.wrote; cause = c }
+-- why it fails, after it was given these bodies and sent those
+abbrev pub Failing : {L X : Type 0} → Mechanism X → Negotiating L X → NegotiationError → List LinkEvent → List SaslBody → List SaslBody → Type 0
+Failing m b e events given sent = (c : IsCaused (m.causes b.exchange) (m.owes b.exchange) e events) × IsCauseAfter (m.causes b.exchange) (m.owes b.exchange) (m.turn_of b.exchange) e events given sent c
+
+failed_in : {L X : Type 0} (m : Mechanism X) (p : Phase) (b : Negotiating L X) (e : NegotiationError) (events : List LinkEvent) → IsAlive p
+    → ((given sent : List SaslBody) → Failing m b e events given sent) → HasIn m p b events → HasFailure m e b events
+failed_in m Header b e events alive c h =
+    record { given = []; sent = []; heard = inl refl; wrote = h.wrote; framed = All-nil HasSaslFrame; held = h.held; cause = (c [] []).0; after = (c [] []).1 }
+failed_in m Frames b e events alive c h = record {
+  given = h.given;
+  sent = h.sent;
+  heard = inr (b.codec.input, h.heard);
+  wrote = h.wrote;
+  framed = h.framed;
+  held = h.held;
+  cause = (c h.given h.sent).0;
+  after = (c h.given h.sent).1;
+}
 failed_in m (Failed x) b e events alive c h = absurd alive
 
--- it failed after that
+-- what was heard, said and held does not depend on the phase
+pub failed_as : {L X : Type 0} (m : Mechanism X) (b : Negotiating L X) (e : NegotiationError) (events : List LinkEvent) → HasFailure m e b events → HasFailure m e (record b { phase = Failed e }) events
+failed_as m b e events f =
+    record { given = f.given; sent = f.sent; heard = f.heard; wrote = f.wrote; framed = f.framed; held = f.held; cause = f.cause; after = f.after }
+
+-- it failed after that, not by a body
 pub goes_failed : {L X : Type 0} (link : Ghosts L) (m : Mechanism X) (a b : Negotiating L X) (l k : ℕ) (es : List LinkEvent) (e : NegotiationError) → IsAlive b.phase
-    → ((before : List LinkEvent) → Has m b (es ++ before) → IsCaused (m.causes b.exchange) (m.owes b.exchange) e (es ++ before))
+    → ((before : List LinkEvent) → Has m b (es ++ before) → (given sent : List SaslBody) → Failing m b e (es ++ before) given sent)
     → GoesOn link m a l es b k → GoesOn link m a l es (record b { phase = Failed e }) k
 goes_failed {L} {X} link m a b l k es e alive cause g =
     record {
       went = g.went;
       counted = g.counted;
       kept = g.kept;
-      grows = λ before h. let n : Has m b (es ++ before) = g.grows before h in again (failed_in m b.phase b e (es ++ before) alive (cause before n) n);
+      grows = λ before h. let n : Has m b (es ++ before) = g.grows before h in failed_as m b e (es ++ before) (failed_in m b.phase b e (es ++ before) alive (cause before n) n);
     }
-  where
-    again : {events : List LinkEvent} → HasFailure m e b events → HasFailure m e (record b { phase = Failed e }) events
-    again f = record { sent = f.sent; wrote = f.wrote; cause = f.cause }
+
+-- it failed while frames are read and written
+pub goes_refused : {L X : Type 0} (link : Ghosts L) (m : Mechanism X) (a : Negotiating L X) (left : ℕ) (e : NegotiationError) → a.phase ≡ Frames → m.same a.exchange a.exchange
+    → ((before : List LinkEvent) (n : HasFrames m a before) → Failing m a e before n.given n.sent) → GoesOn link m a left [] (record a { phase = Failed e }) left
+goes_refused {L} {X} link m a left e phase s cause =
+    record {
+      went = refl;
+      counted = omega arith;
+      kept = s;
+      grows = λ before h.
+          let n : HasFrames m a before = subst (λ (p : Phase). HasIn m p a before) phase h in
+          let c = cause before n in
+          record {
+            given = n.given;
+            sent = n.sent;
+            heard = inr (a.codec.input, n.heard);
+            wrote = n.wrote;
+            framed = n.framed;
+            held = n.held;
+            cause = c.0;
+            after = c.1;
+          };
+    }
 
 -- the SASL header was read
 pub goes_header : {L X : Type 0} (link : Ghosts L) (m : Mechanism X) (a : Negotiating L X) (left : ℕ) → a.phase ≡ Header → m.same a.exchange a.exchange → take 8 a.codec.input ≡ sasl_header
@@ -177,6 +219,7 @@ goes_header {L} {X} link m a left phase s t =
             sent = [];
             heard = record { tail = drop 8 a.codec.input; header = n.read ∙ sym (take-append-drop 8 a.codec.input) ∙ ap (λ (u : List ℕ). u ++ drop 8 a.codec.input) t; frames = refl };
             wrote = n.wrote;
+            framed = All-nil HasSaslFrame;
             held = n.held;
           };
     }
@@ -235,6 +278,7 @@ goes_taken {L} {X} link m a x left size start channel body phase s b spelled g =
             sent = n.sent;
             heard = heard_push (read_of before) (take size a.codec.input) (drop size a.codec.input) n.given body (subst (λ (u : List ℕ). Heard (read_of before) n.given u) (sym (take-append-drop size a.codec.input)) n.heard) (frame_cut a.codec.input size start channel body b spelled);
             wrote = n.wrote;
+            framed = n.framed;
             held = g n.given n.sent n.held;
           } in
           subst (λ (p : Phase). HasIn m p new before) (sym phase) result;
@@ -242,10 +286,10 @@ goes_taken {L} {X} link m a x left size start channel body phase s b spelled g =
 
 -- a body was sent
 pub goes_sent : {L X : Type 0} (link : Ghosts L) (m : Mechanism X) (a : Negotiating L X) (x : X) (c : Codec L) (left : ℕ) (body : SaslBody) → a.phase ≡ Frames → m.same a.exchange x
-    → c ≡ record a.codec { output = a.codec.output ++ sasl_frame body }
+    → c ≡ record a.codec { output = a.codec.output ++ sasl_frame body } → HasSaslFrame body
     → ((given sent : List SaslBody) → m.holds a.exchange given sent → m.holds x given (sent ++ body ∷ []))
     → GoesOn link m a left [] (record { codec = c; phase = a.phase; exchange = x }) left
-goes_sent {L} {X} link m a x c left body phase s e g =
+goes_sent {L} {X} link m a x c left body phase s e f g =
     record {
       went = ap (λ (k : Codec L). k.link) e;
       counted = omega arith;
@@ -258,6 +302,7 @@ goes_sent {L} {X} link m a x c left body phase s e g =
             sent = n.sent ++ body ∷ [];
             heard = subst (λ (u : List ℕ). Heard (read_of before) n.given u) (sym (ap (λ (k : Codec L). k.input) e)) n.heard;
             wrote = ap (λ (u : List ℕ). wrote_of before ++ u) (ap (λ (k : Codec L). k.output) e) ∙ sym (append_assoc (wrote_of before) a.codec.output (sasl_frame body)) ∙ ap (λ (u : List ℕ). u ++ sasl_frame body) n.wrote ∙ sym (said-push n.sent body);
+            framed = All-push HasSaslFrame n.sent body n.framed f;
             held = g n.given n.sent n.held;
           } in
           subst (λ (p : Phase). HasIn m p new before) (sym phase) result;

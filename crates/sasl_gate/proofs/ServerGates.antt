@@ -31,7 +31,7 @@ use Rattle.sasl_gate.specs.Frames.{Heard, said, sasl_header}
 use Rattle.sasl_gate.specs.Negotiation.{Negotiating, HasFrames, HasIn, Has, IsPassed, IsPollAnswer, Polled}
 use Rattle.sasl_gate.specs.Refusals.{IsMemory, IsClientFirstRefusal, IsClientFinalRefusal}
 use Rattle.sasl_gate.specs.ScramBodies.{IsOnlySasl, own_mechanism, init_body, challenge_body, outcome_body, Received}
-use Rattle.sasl_gate.specs.ServerGate.{ServerEnd, turn_in, server_turn, left_in, own_mechanisms, holds_in, server_holds, owes_in, server_owes, is_of_client, HasChallenge, HasProof, HasToRefuse, HasRefused, is_next, IsRefusalCause, by_client_first, by_client_final, by_mechanism, by_no_response, by_order, by_other_body, IsTextAnswer, ServerSame, server_mechanism, server_start, ServerPassed, HasServerPassed, ServerPolled}
+use Rattle.sasl_gate.specs.ServerGate.{ServerEnd, turn_in, server_turn, left_in, own_mechanisms, holds_in, server_holds, owes_in, server_owes, is_of_client, HasChallenge, HasProof, HasToRefuse, HasRefused, Waited, for_init, for_response, is_next, IsRefusalCause, by_client_first, by_client_final, by_mechanism, by_no_response, by_order, by_other_body, IsTextAnswer, ServerSame, server_mechanism, server_start, ServerPassed, HasServerPassed, ServerPolled}
 use Rattle.sasl_gate.specs.States.{ServerState, ForChallenged}
 use Rattle.sasl_gate.proofs.Gates.{only_sasl}
 
@@ -98,13 +98,37 @@ module _ {P : Type 0} (stored : P → List ℕ → Option StoredPassword) where
   pub server_few : (x : ServerEnd P) (given sent : List SaslBody) → server_holds stored x given sent → length sent ≤ 3
   server_few x given sent h = server_few_in x.stage x.server given sent h
 
+-- ---- bodies for which a listener waits
+
+response_awaited : (p : ServerPhase) (stored : List ℕ → Option StoredPassword) (own : List ℕ) (given sent : List SaslBody) (body : SaslBody)
+    → ForChallenged p (λ c. HasChallenge stored own c given sent (own_mechanisms ∷ challenge_body c.server_first ∷ [])) → Waited stored own (given ++ body ∷ []) sent
+response_awaited Unasked stored own given sent body h = absurd h
+response_awaited (Challenged c) stored own given sent body h = for_response c given body refl h
+response_awaited Proved stored own given sent body h = absurd h
+
+awaited_in : {P : Type 0} (stored : P → List ℕ → Option StoredPassword) (stage : ServerStage) (s : ServerState P) (given sent : List SaslBody) (body : SaslBody)
+    → Receives (turn_in stage) → holds_in stored stage s given sent → Waited (stored s.provider) s.nonce (given ++ body ∷ []) sent
+awaited_in stored OwesMechanisms s given sent body t h = absurd t
+awaited_in stored AwaitsInit s given sent body t h = for_init body (ap (λ (u : List SaslBody). u ++ body ∷ []) h.0) h.1
+awaited_in stored (OwesChallenge text) s given sent body t h = absurd t
+awaited_in stored AwaitsResponse s given sent body t h = response_awaited s.phase (stored s.provider) s.nonce given sent body h
+awaited_in stored (OwesOutcome text) s given sent body t h = absurd t
+awaited_in stored Passed s given sent body t h = absurd t
+awaited_in stored (OwesRefusal code) s given sent body t h = absurd t
+awaited_in stored (Refused code) s given sent body t h = absurd t
+
+-- a listener that waits, and a body more
+pub awaited : {P : Type 0} (stored : P → List ℕ → Option StoredPassword) (x : ServerEnd P) (given sent : List SaslBody) (body : SaslBody) → server_turn x ≡ Receive
+    → server_holds stored x given sent → Waited (stored x.server.provider) x.server.nonce (given ++ body ∷ []) sent
+awaited stored x given sent body turn h = awaited_in stored x.stage x.server given sent body (receives x.stage turn) h
+
 module _ {P : Type 0} (stored : P → List ℕ → Option StoredPassword) (x : ServerEnd P) where
   -- a body is not taken
   pub received_refused : (body : SaslBody) (code : SaslCode) → server_turn x ≡ Receive
       → ((given sent : List SaslBody) → server_holds stored x given sent → IsRefusalCause (stored x.server.provider) x.server.nonce code (given ++ body ∷ []))
       → Received (server_mechanism stored) x body (Ok Taken) (record x { stage = OwesRefusal code })
   received_refused body code turn cause = record {
-    taken = λ given sent h. record { few = few_in stored x.stage x.server given sent (receives x.stage turn) h; cause = cause given sent h };
+    taken = λ given sent h. record { few = few_in stored x.stage x.server given sent (receives x.stage turn) h; waited = awaited stored x given sent body turn h; cause = cause given sent h };
     less = less_in x.stage (receives x.stage turn);
     same = record { provider = refl; nonce = refl };
     refused = tt;
@@ -209,6 +233,7 @@ module _ {P : Type 0} (stored : P → List ℕ → Option StoredPassword) (x : S
       record {
         before = sent;
         few = h.few;
+        waited = h.waited;
         told = ap (λ (b : SaslBody). sent ++ b ∷ []) (subst (λ (s : ServerStage). owes_in s body) stage owed);
         cause = h.cause;
       }

@@ -2,7 +2,7 @@
 use Rattle.std.specs.Prelude.{◌≡◌, ℕ, List, ◌++◌, length, Option, decimal}
 use Rattle.std.specs.declared.option.Option.TheVariants.{Some}
 use Rattle.base64.specs.Engines.{standard}
-use Rattle.base64.specs.GeneralPurpose.{encode_of}
+use Rattle.base64.specs.GeneralPurpose.{IsBytes, encode_of}
 use Rattle.kdf_core.specs.Hmac.{hmac_of}
 use Rattle.sasl_gate.specs.declared.scram.stored.StoredPassword.{StoredPassword}
 use Rattle.sasl_gate.specs.Keys.{salted_of, server_key_of, stored_key_of, proof_of, ProofHolds, SignatureHolds}
@@ -18,8 +18,9 @@ stored_of hash block output password salt count = record {
   iterations = count;
 }
 
--- the client's answer to a server first that it took: the nonce read extends the own one and is repeated, the proof is
--- that of the password with the salt and the count read; and the signature that the client then waits for
+-- the client's answer to a server first that it took: the nonce read extends the own one and is repeated, the salt read is the
+-- base64 of bytes, the proof is that of the password with the salt and the count read; and the signature that the client then waits
+-- for (RFC 5802, sections 3 and 5.1)
 pub record ClientAnswers (hash : List ℕ → List ℕ) (block output : ℕ) (user password nonce : List ℕ)
     (server_first client_final signature : List ℕ) : Type 0 where
   pub whole_nonce : List ℕ
@@ -27,6 +28,7 @@ pub record ClientAnswers (hash : List ℕ → List ℕ) (block output : ℕ) (us
   pub count : ℕ
   pub server_first_is : IsServerFirst server_first whole_nonce (encode_of standard salt) (decimal count)
   pub extends : Extends nonce whole_nonce
+  pub salt_is : IsBytes salt
   pub count_is : IsAllowedCount count
   pub client_final_is : client_final ≡ client_final_of whole_nonce
       (proof_of hash block (salted_of hash block output password salt count)

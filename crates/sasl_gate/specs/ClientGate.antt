@@ -146,12 +146,21 @@ pub record ClientSame (x y : ClientEnd) : Type 0 where
   pub nonce : x.client.nonce ≡ y.client.nonce
   pub hostname : x.hostname ≡ y.hostname
 
--- whether a body is the next one for a client that was given those before: mechanisms, challenge, outcome. An outcome
--- other than `Ok` comes at any time
+-- whether an outcome refuses (OASIS AMQP 1.0, part 5, section 5.3.3.6)
+abbrev pub is_refusal : SaslCode → Bool
+is_refusal sasl.Ok = false
+is_refusal sasl.Auth = true
+is_refusal sasl.Sys = true
+is_refusal sasl.SysPerm = true
+is_refusal sasl.SysTemp = true
+
+-- whether a body may be the next one for a client that was given those before: mechanisms, challenge, outcome, and at any time an
+-- outcome other than `Ok` (part 5, section 5.3.3.6)
 abbrev pub is_next : List SaslBody → SaslBody → Bool
 is_next [] (Mechanisms m) = true
 is_next (a ∷ []) (Challenge c) = true
 is_next (a ∷ b ∷ []) (Outcome o) = true
+is_next before (Outcome o) = is_refusal o.code
 is_next before body = false
 
 -- the last body given is out of order

@@ -37,6 +37,11 @@ canonical_of x = canonical_items (item (of_sasl_body x) no_items) ++ []
 abbrev pub IsOversized : SaslBody → Type 0
 IsOversized x = AreSized (item (of_sasl_body x) no_items) → items_depth (item (of_sasl_body x) no_items) ≤ 34 → ⊥
 
+-- a frame of at most 512 bytes (part 5, section 5.3.1) has room for the bytes that are written of a body, and they spell it
+pub record HasSaslFrame (x : SaslBody) : Type 0 where
+  pub fits : length (canonical_of x) ≤ 504
+  pub spelled : SpellsSasl (canonical_of x) x
+
 -- the frame that is written of a body
 abbrev pub sasl_frame : SaslBody → List ℕ
 sasl_frame x = frame_of 1 0 (canonical_of x)

@@ -1,5 +1,5 @@
 -- A negotiation over a link, in words of the bytes that were read and written.
-use Rattle.std.specs.Prelude.{◌≡◌, ◌≢◌, ◌<◌, ◌≤◌, ◌+◌, ◌⊎◌, ℕ, List, [], ◌++◌, length, take, drop, Result, Ok, Err, ⊤}
+use Rattle.std.specs.Prelude.{◌≡◌, ◌≢◌, ◌<◌, ◌≤◌, ◌+◌, ◌⊎◌, ℕ, List, [], ◌∷◌, ◌++◌, length, take, drop, All, Result, Ok, Err, ⊤}
 use Rattle.amqp_composites.specs.declared.sasl_body.SaslBody.{SaslBody}
 use Rattle.amqp_frames.specs.Sasl.{SpellsSasl}
 use Rattle.amqp_wire.specs.declared.link.Link.{Ghosts}
@@ -13,12 +13,13 @@ use Rattle.amqp_wire.specs.Frame.{IsFront, HasBody}
 use Rattle.sasl_gate.specs.declared.gate.error.NegotiationError.{NegotiationError}
 use Rattle.sasl_gate.specs.declared.gate.exchange.Exchange.{Ghosts as Mechanism}
 use Rattle.sasl_gate.specs.declared.gate.error.NegotiationError.TheVariants.{Memory, ProtocolHeaderMismatch, NotImplemented, SaslError, ScramError, Io, DecodeError, IllegalState, FramingError}
+use Rattle.sasl_gate.specs.declared.gate.exchange.Turn.{Turn}
 use Rattle.sasl_gate.specs.declared.gate.exchange.Turn.TheVariants.{Receive, Pass}
 use Rattle.sasl_gate.specs.declared.gate.negotiation.Phase.{Phase}
 use Rattle.sasl_gate.specs.declared.gate.negotiation.Phase.TheVariants.{Header, Frames, Failed}
 use Rattle.sasl_gate.specs.declared.gate.negotiation.GatePoll.{GatePoll}
 use Rattle.sasl_gate.specs.declared.gate.negotiation.GatePoll.TheVariants.{Pending, Passed}
-use Rattle.sasl_gate.specs.Frames.{sasl_header, Heard, canonical_of, IsOversized, said}
+use Rattle.sasl_gate.specs.Frames.{sasl_header, Heard, HasSaslFrame, canonical_of, IsOversized, said}
 
 -- a negotiation: its codec, how far it is, and the exchange of its mechanism
 pub record Negotiating (L X : Type 0) : Type 0 where
@@ -95,25 +96,46 @@ pub data IsCaused (causes : NegotiationError → List SaslBody → List SaslBody
   by_body : (given sent : List SaslBody) (rest : List ℕ) → Heard (read_of events) given rest → causes e given sent → IsCaused causes owes e events
   too_long : (x : SaslBody) → owes x → IsOverlong x → e ≡ FramingError → IsCaused causes owes e events
 
+-- these bodies were read: none, or behind the SASL header (part 5, section 5.3.2)
+abbrev pub IsHeard : List ℕ → List SaslBody → Type 0
+IsHeard read given = (given ≡ []) ⊎ ((rest : List ℕ) × Heard read given rest)
+
+-- The bodies of which a cause speaks are those that the mechanism had taken and sent, and at most one more that it refused. Where a
+-- frame or a body was refused, it waited for one
+abbrev pub IsCauseAfter : (causes : NegotiationError → List SaslBody → List SaslBody → Type 0) (owes : SaslBody → Type 0) (turn : Turn) (e : NegotiationError)
+    (events : List LinkEvent) → List SaslBody → List SaslBody → IsCaused causes owes e events → Type 0
+IsCauseAfter causes owes turn e events given sent (at_link cause) = ⊤
+IsCauseAfter causes owes turn e events given sent (at_header cause) = ⊤
+IsCauseAfter causes owes turn e events given sent (at_frame read rest is cause) = (read ≡ given) × (turn ≡ Receive)
+IsCauseAfter causes owes turn e events given sent (by_body read told rest is cause) =
+    (told ≡ sent) × ((read ≡ given) ⊎ ((body : SaslBody) × (read ≡ given ++ body ∷ []) × (turn ≡ Receive)))
+IsCauseAfter causes owes turn e events given sent (too_long x owed long is) = ⊤
+
 -- before the SASL header was read
 pub record HasHeader {L X : Type 0} (mechanism : Mechanism X) (n : Negotiating L X) (events : List LinkEvent) : Type 0 where
   pub read : read_of events ≡ n.codec.input
   pub wrote : wrote_of events ++ n.codec.output ≡ sasl_header
   pub held : mechanism.holds n.exchange [] []
 
--- while frames are read and written
+-- while frames are read and written: each body that was queued has a frame that spells it
 pub record HasFrames {L X : Type 0} (mechanism : Mechanism X) (n : Negotiating L X) (events : List LinkEvent) : Type 0 where
   pub given : List SaslBody
   pub sent : List SaslBody
   pub heard : Heard (read_of events) given n.codec.input
   pub wrote : wrote_of events ++ n.codec.output ≡ said sent
+  pub framed : All HasSaslFrame sent
   pub held : mechanism.holds n.exchange given sent
 
--- after it failed
+-- after it failed: the mechanism is as it was before, with the bodies that it had taken and those that were queued
 pub record HasFailure {L X : Type 0} (mechanism : Mechanism X) (e : NegotiationError) (n : Negotiating L X) (events : List LinkEvent) : Type 0 where
+  pub given : List SaslBody
   pub sent : List SaslBody
+  pub heard : IsHeard (read_of events) given
   pub wrote : wrote_of events ++ n.codec.output ≡ said sent
+  pub framed : All HasSaslFrame sent
+  pub held : mechanism.holds n.exchange given sent
   pub cause : IsCaused (mechanism.causes n.exchange) (mechanism.owes n.exchange) e events
+  pub after : IsCauseAfter (mechanism.causes n.exchange) (mechanism.owes n.exchange) (mechanism.turn_of n.exchange) e events given sent cause
 
 abbrev pub HasIn : {L X : Type 0} → Mechanism X → Phase → Negotiating L X → List LinkEvent → Type 0
 HasIn mechanism Header n events = HasHeader mechanism n events

@@ -1,5 +1,5 @@
 -- The SASL bodies of an exchange with SCRAM-SHA-256 (OASIS AMQP 1.0, part 5, section 5.3.3; RFC 7677).
-use Rattle.std.specs.Prelude.{◌≡◌, ◌<◌, ℕ, List, [], ◌∷◌, ◌++◌, Option, Result, OnErr, codes}
+use Rattle.std.specs.Prelude.{◌≡◌, ◌<◌, ℕ, List, [], ◌∷◌, ◌++◌, All, Option, Result, OnErr, codes}
 use Rattle.std.specs.declared.alloc.AllocError.{AllocError}
 use Rattle.amqp_composites.specs.declared.sasl_body.SaslBody.{SaslBody}
 use Rattle.amqp_composites.specs.declared.sasl_body.SaslBody.TheVariants.{Mechanisms, Init, Challenge, Response, Outcome}
@@ -7,7 +7,7 @@ use Rattle.amqp_composites.specs.declared.sasl_code.SaslCode.{SaslCode}
 use Rattle.sasl_gate.specs.declared.gate.exchange.Exchange.{Ghosts as Mechanism}
 use Rattle.sasl_gate.specs.declared.gate.exchange.Verdict.{Verdict}
 use Rattle.sasl_gate.specs.Exchange.{OnTaken, OnRefused}
-use Rattle.sasl_gate.specs.Frames.{said}
+use Rattle.sasl_gate.specs.Frames.{HasSaslFrame, said}
 
 -- the mechanism's name
 abbrev pub own_mechanism : List ℕ
@@ -28,11 +28,12 @@ response_body text = Response (record { response = text })
 abbrev pub outcome_body : SaslCode → Option (List ℕ) → SaslBody
 outcome_body code payload = Outcome (record { code = code; additional_data = payload })
 
--- what was written is the SASL header and whole SASL frames, the last of which may be cut off
+-- what was written is the SASL header and whole SASL frames of at most 512 bytes (part 5, section 5.3.1), the last of which may be cut off
 pub record IsOnlySasl (wrote : List ℕ) : Type 0 where
   pub bodies : List SaslBody
   pub rest : List ℕ
   pub frames : wrote ++ rest ≡ said bodies
+  pub framed : All HasSaslFrame bodies
 
 -- what became of a body that an end of a mechanism read
 pub record Received {X : Type 0} (mechanism : Mechanism X) (old : X) (body : SaslBody) (result : Result Verdict AllocError) (new : X) : Type 0 where

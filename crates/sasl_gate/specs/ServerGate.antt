@@ -147,15 +147,24 @@ pub data IsRefusalCause (stored : List ℕ → Option StoredPassword) (own : Lis
   by_other_body : (before : List SaslBody) (body : SaslBody) → given ≡ before ++ body ∷ [] → is_of_client body ≡ false
       → code ≡ sasl.Sys → IsRefusalCause stored own code given
 
--- an end that owes the other an outcome with a code, and sent two bodies at most
+-- a listener waited for the last of these bodies, after it had sent those: for the init after its list of mechanisms, or for the
+-- response after its challenge (OASIS AMQP 1.0, part 5, section 5.3.2)
+pub data Waited (stored : List ℕ → Option StoredPassword) (own : List ℕ) (given sent : List SaslBody) : Type 0 where
+  for_init : (body : SaslBody) → given ≡ body ∷ [] → sent ≡ own_mechanisms ∷ [] → Waited stored own given sent
+  for_response : (c : ServerChallenge) (before : List SaslBody) (body : SaslBody) → given ≡ before ++ body ∷ []
+      → HasChallenge stored own c before sent (own_mechanisms ∷ challenge_body c.server_first ∷ []) → Waited stored own given sent
+
+-- an end that owes the other an outcome with a code, for a body for which it waited, and sent two bodies at most
 pub record HasToRefuse (stored : List ℕ → Option StoredPassword) (own : List ℕ) (code : SaslCode) (given sent : List SaslBody) : Type 0 where
   pub few : length sent ≤ 2
+  pub waited : Waited stored own given sent
   pub cause : IsRefusalCause stored own code given
 
--- an end that told the other this outcome, after two bodies at most
+-- an end that told the other this outcome, for a body for which it waited, after two bodies at most
 pub record HasRefused (stored : List ℕ → Option StoredPassword) (own : List ℕ) (code : SaslCode) (given sent : List SaslBody) : Type 0 where
   pub before : List SaslBody
   pub few : length before ≤ 2
+  pub waited : Waited stored own given before
   pub told : sent ≡ before ++ outcome_body code None ∷ []
   pub cause : IsRefusalCause stored own code given
 

@@ -2,7 +2,7 @@
 use Rattle.std.specs.Prelude.{◌≡◌, ◌+◌, ◌≤◌, ℕ, List, length, Option, Some, None, Result, Ok, Err, ⊤, ◌⊎◌}
 use Rattle.amqp_composites.specs.declared.sasl_body.SaslBody.{SaslBody}
 use Rattle.amqp_frames.specs.Sasl.{SpellsSasl}
-use Rattle.sasl_gate.specs.Frames.{canonical_of}
+use Rattle.sasl_gate.specs.Frames.{HasSaslFrame, canonical_of}
 use Rattle.amqp_wire.specs.declared.link.Link.{Ghosts}
 use Rattle.amqp_wire.specs.Events.{LinkEvent}
 use Rattle.sasl_gate.specs.declared.gate.exchange.Exchange.{Ghosts as Mechanism}
@@ -91,10 +91,10 @@ abbrev pub IsDecoded : List ℕ → Option SaslBody → Type 0
 IsDecoded bytes None = (x : SaslBody) → SpellsSasl bytes x → ⊥
 IsDecoded bytes (Some body) = SpellsSasl bytes body
 
--- the bytes of the body that is owed, if a frame has room for them
+-- the bytes of the body that is owed, which spell it, if a frame has room for them
 abbrev pub IsOwed : (SaslBody → Type 0) → Option (List ℕ) → Type 0
 IsOwed owes None = (body : SaslBody) × owes body × IsOverlong body
-IsOwed owes (Some bytes) = (body : SaslBody) × owes body × (bytes ≡ canonical_of body) × (length bytes ≤ 504)
+IsOwed owes (Some bytes) = (body : SaslBody) × owes body × (bytes ≡ canonical_of body) × HasSaslFrame body
 
 -- what a negotiation that has ended answers
 abbrev pub IsEndAnswer : {L X : Type 0} → Mechanism X → Negotiating L X → Result GatePoll NegotiationError → Type 0

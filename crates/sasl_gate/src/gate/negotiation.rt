@@ -5,7 +5,7 @@ ghost use Rattle.amqp_wire.specs.declared.frame.Front.TheVariants.{Refused, Fore
 ghost use Rattle.amqp_wire.specs.declared.reading.Wait.{Wait};
 ghost use Rattle.amqp_wire.specs.Events.{LinkEvent};
 ghost use Rattle.amqp_composites.specs.declared.sasl_body.SaslBody.{SaslBody};
-ghost use Rattle.sasl_gate.specs.Frames.{canonical_of};
+ghost use Rattle.sasl_gate.specs.Frames.{HasSaslFrame, canonical_of};
 ghost use Rattle.amqp_frames.specs.Sasl.{SpellsSasl};
 ghost use Rattle.amqp_wire.specs.Frame.{HasBody, IsFront};
 ghost use Rattle.amqp_wire.specs.contracts.codec.FramedCodec.{the_row as codec_row};
@@ -345,7 +345,7 @@ impl<L: Link, X: Exchange> Negotiation<L, X> {
     fn queue_body(&mut self, bytes: Binary) -> Result<Step, AllocError>
         requires phase { self.old.phase ≡ Frames }
         requires turn { X.turn_of self.old.exchange ≡ Send }
-        requires owed { (body : SaslBody) × X.owes self.old.exchange body × (bytes ≡ canonical_of body) × (length bytes ≤ 504) }
+        requires owed { (body : SaslBody) × X.owes self.old.exchange body × (bytes ≡ canonical_of body) × HasSaslFrame body }
         ensures stepped { (left : ℕ) → Stepped L.Link X.Exchange self.old left (step_in result) self.new left }
         ensures less { result ≡ Ok Step.Goes → measure_of X.Exchange self.new < measure_of X.Exchange self.old }
         ensures ended { result ≡ Ok Step.Ends → ⊥ }

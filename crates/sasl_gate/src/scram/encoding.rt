@@ -18,6 +18,7 @@ const MAX_SYMBOLS: usize = 88;
 /// The bytes that a base64 text spells: `Base64` exactly where it is none.
 pub fn decode(alloc: Global, text: &[u8]) -> Result<Vec<u8>, ScramErrorKind>
     ensures ok { IfOk result (λ v. text.now ≡ encode_of standard v.items) }
+    ensures bytes { IfOk result (λ v. IsBytes v.items) }
     ensures err { IfErr result (λ e. IsDecodeRefusal text.now e) }
 {
     match STANDARD.decode(alloc, text) {

@@ -12,5 +12,5 @@ returns-in-Ok-clause-stepped g c =
     let bytes : c.as_slice.result.now ≡ canonical_of owed.0 = c.as_slice.ensures ∙ owed.2 in
     let queued : c.queue_frame.new.self ≡ record c.self.inside.codec { output = c.self.inside.codec.output ++ sasl_frame owed.0 } =
     c.in-Ok.ensures.ok ∙ ap (λ (u : List ℕ). record c.self.inside.codec { output = c.self.inside.codec.output ++ frame_of 1 0 u }) bytes in
-    λ left. rw (← c.self.view_is) (body_sent g.L.Link g.X.Exchange _ c.on_sent.new.self c.queue_frame.new.self left owed.0 phase c.on_sent.ensures.same queued
+    λ left. rw (← c.self.view_is) (body_sent g.L.Link g.X.Exchange _ c.on_sent.new.self c.queue_frame.new.self left owed.0 phase c.on_sent.ensures.same queued owed.3
     (λ given sent h. c.on_sent.ensures.grows owed.0 given sent owed.1 h))
