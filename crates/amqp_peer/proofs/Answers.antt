@@ -55,13 +55,13 @@ open_over h reason u k (inr (inl o)) = absurd (k o)
 open_over h reason u k (inr (inr o)) = absurd (u (answered_begins reason (given_in h) o))
 
 open_fault : {L : Type 0} (e : ConnectionFault) (s : State L) (h : List Local) → IsUnmadeAt (Some e) s h → HasCause h (reply.OpenError (open_failure (Some e)))
-open_fault (connection.Memory a) s h u = absurd u.0.held
-open_fault (connection.TransportError t) s h u = record { later = u.0.later; earlier = u.0.earlier; split = u.0.split; held = u.0.held }
-open_fault connection.IllegalState s h u = record { later = u.0.later; earlier = u.0.earlier; split = u.0.split; held = u.0.held }
-open_fault connection.NotImplemented s h u = absurd u.0.held
-open_fault connection.NotFound s h u = absurd u.0.held
-open_fault connection.RemoteClosed s h u = absurd u.0.held
-open_fault (connection.RemoteClosedWithError x) s h u = absurd u.0.held
+open_fault (connection.Memory a) s h u = absurd u.0
+open_fault (connection.TransportError t) s h u = u.0.1
+open_fault connection.IllegalState s h u = u.0
+open_fault connection.NotImplemented s h u = absurd u.0
+open_fault connection.NotFound s h u = absurd u.0
+open_fault connection.RemoteClosed s h u = absurd u.0
+open_fault (connection.RemoteClosedWithError x) s h u = absurd u.0
 
 -- why an open or accept fails whose connection has stopped
 pub open_cause : {L : Type 0} (call : Call) (fault : Option ConnectionFault) (s : State L) (h : List Local) → IsRunning call s h → is_stopped s.phase ≡ true → IsUnmadeAt fault s h → HasCause h (open_reply (error_by fault (stop_reason_of s)))
@@ -85,10 +85,10 @@ close_body channel front (b.End x) xs c e = absurd c
 close_body channel front (b.Close x) xs c e = record { front = front; channel = channel; last = x; is = e }
 close_body channel front b.Empty xs c e = absurd c
 
-ends_with_close : (xs : List Frame) → IsClosed xs → EndsWithClose xs
+pub ends_with_close : (xs : List Frame) → IsClosed xs → EndsWithClose xs
 ends_with_close xs c = close_body c.last.channel c.front c.last.body xs c.close c.is
 
-said_close : (q : Phase) (sent : List Frame) → is_stopped q ≡ true → has_failed q ≡ false → IsSaid q sent → EndsWithClose sent
+pub said_close : (q : Phase) (sent : List Frame) → is_stopped q ≡ true → has_failed q ≡ false → IsSaid q sent → EndsWithClose sent
 said_close p.OpenSent sent s f h = absurd (cc s)
 said_close p.Opened sent s f h = absurd (cc s)
 said_close p.CloseReceived sent s f h = absurd (cc s)
@@ -125,13 +125,13 @@ close_over h reason g c out (inr (inr o)) =
     (answered_cause h o.own o.last.error l (record { error = o.last.error; heard = l; said = c; out = out }))
 
 close_fault : {L : Type 0} (e : ConnectionFault) (s : State L) (h : List Local) → IsFaultIn (Some e) s h → HasCause h (close_reply (Some e))
-close_fault (connection.Memory a) s h u = absurd u.0.held
-close_fault (connection.TransportError t) s h u = record { later = u.0.later; earlier = u.0.earlier; split = u.0.split; held = u.0.held }
-close_fault connection.IllegalState s h u = record { later = u.0.later; earlier = u.0.earlier; split = u.0.split; held = u.0.held }
-close_fault connection.NotImplemented s h u = record { later = u.0.later; earlier = u.0.earlier; split = u.0.split; held = u.0.held }
-close_fault connection.NotFound s h u = record { later = u.0.later; earlier = u.0.earlier; split = u.0.split; held = u.0.held }
-close_fault connection.RemoteClosed s h u = absurd u.0.held
-close_fault (connection.RemoteClosedWithError x) s h u = absurd u.0.held
+close_fault (connection.Memory a) s h u = absurd u.0
+close_fault (connection.TransportError t) s h u = u.0.1
+close_fault connection.IllegalState s h u = u.0
+close_fault connection.NotImplemented s h u = u.0
+close_fault connection.NotFound s h u = u.0
+close_fault connection.RemoteClosed s h u = absurd u.0
+close_fault (connection.RemoteClosedWithError x) s h u = absurd u.0
 
 -- why a close is answered so whose connection has stopped
 pub close_cause : {L : Type 0} (call : Call) (fault : Option ConnectionFault) (s : State L) (h : List Local) → IsRunning call s h → is_stopped s.phase ≡ true → (has_failed s.phase ≡ true) ⊎ (Includes (link_in h) (NotWritten Full) ⊎ (s.wire.codec.output ≡ []))

@@ -7,7 +7,8 @@ use Rattle.amqp_engine.specs.declared.error.Error.{Error as ConnectionFault}
 use Rattle.amqp_engine.specs.declared.error.Error.TheVariants as connection
 use Rattle.amqp_engine.specs.declared.phase.Phase.{Phase}
 use Rattle.amqp_engine.specs.declared.phase.Phase.TheVariants as p
-use Rattle.amqp_engine.specs.Heard.{IsHeard}
+use Rattle.amqp_engine.specs.declared.phase.Rejection.{Rejection}
+use Rattle.amqp_engine.specs.Heard.{IsRejected, IsHeard}
 use Rattle.amqp_engine.specs.Outcomes.{IsMoment, IsOnward, IsRefusal, Stepped}
 use Rattle.amqp_engine.specs.Phases.{state_of, has_failed}
 use Rattle.amqp_engine.specs.Sentence.{Ran}
@@ -17,15 +18,17 @@ use Rattle.amqp_peer.specs.declared.held.Held.{Held}
 use Rattle.amqp_peer.specs.declared.held.Held.TheVariants.{Late}
 use Rattle.amqp_peer.specs.declared.peer.Progress.{Progress}
 use Rattle.amqp_peer.specs.declared.peer.Progress.TheVariants as progress
-use Rattle.amqp_peer.specs.Causes.{BeginsWithOpen, IsOther, TransportCause, IsBroken, prepared_in}
-use Rattle.amqp_peer.specs.Held.{is_made_state}
-use Rattle.amqp_peer.specs.History.{Local, made_in, given_in, moment_in, Once}
-use Rattle.amqp_peer.specs.Peering.{Peering, IsHeld, IsRunning, HasCalled, IsFaultless, IsUnheard, IsBrokenIn, IsUnmadeAt, IsUnmade, IsFaultIn, IsMadeIn, EarlyFault, LateFault, IsWaiting, IsOpen, IsClosing, HasFailedOpen, HasClosed, HasIn}
+use Rattle.amqp_peer.specs.Causes.{BeginsWithOpen, IsOther, prepared_in}
+use Rattle.amqp_peer.specs.Held.{IsLeaving, IsLeavingIn, is_made_state}
+use Rattle.amqp_peer.specs.History.{Local, made_in, given_in, moment_in}
+use Rattle.amqp_peer.specs.Peering.{Peering, IsHeld, IsRunning, HasCalled, IsFaultless, IsUnheard, IsBrokenIn, IsBrokenHeld, IsUnmadeAt, IsUnmade, IsFaultIn, IsMadeIn, EarlyFault, LateFault, IsWaiting, IsOpen, IsClosing, HasFailedOpen, HasClosed, HasIn}
 use Rattle.amqp_peer.specs.Prepared.{prepared_of}
 use Rattle.amqp_peer.specs.Runs.{first_fault}
-use Rattle.amqp_peer.proofs.Faulty.{transport_once}
+use Rattle.amqp_peer.proofs.Faulty.{broken_after, broken_more}
 use Rattle.amqp_peer.proofs.Hears.{IsCloseAlone, greeted_begins, mistaken_other, made_begins, heard_length, begins_front, other_front, other_then, parted_short, close_begins_not, close_other_not}
 use Rattle.amqp_peer.proofs.Histories.{once_now, once_more, given_in-append}
+use Rattle.amqp_peer.proofs.Said.{IsDue}
+use Rattle.amqp_peer.proofs.Stays.{failed_stops}
 use Rattle.amqp_peer.proofs.Moved.{moved, passed, made_after, given_after, replied_after, running_grows, begins_more}
 
 -- ---- what was heard
@@ -149,25 +152,52 @@ still_kept link call s s' h r k f e u o = elim (still_in link call s s' h r k f 
 -- ---- an open or accept that waits, and a connection that is made
 
 -- where the transport had failed before
-broken_more : (es h : List Local) → IsBroken h → IsBroken (es ++ h)
-broken_more es h b = record { fault = b.fault; cause = once_more (TransportCause b.fault) es h b.cause }
+-- a fault stays while the connection reads and queues nothing where its transport has failed
+early_more : {L : Type 0} {link : Ghosts L} (e : ConnectionFault) (s s' : State L) (h : List Local) (r : Ran link s s') → (has_failed s.phase ≡ true → (r.given ≡ []) × (has_failed s'.phase ≡ true)) → EarlyFault e s h → EarlyFault e s' (moved r ++ h)
+early_more (connection.Memory a) s s' h r n u = u
+early_more (connection.TransportError t) s s' h r n u = ((n u.0).1, broken_more t (moved r) h ((passed r).heard ∙ (n u.0).0) ((passed r).said ∙ (r.stays (failed_stops s.phase u.0)).none) u.1)
+early_more connection.IllegalState s s' h r n u = once_more (λ g. IsOther (given_in g)) (moved r) h u
+early_more connection.NotImplemented s s' h r n u = u
+early_more connection.NotFound s s' h r n u = u
+early_more connection.RemoteClosed s s' h r n u = u
+early_more (connection.RemoteClosedWithError x) s s' h r n u = u
 
-broken_same : {L : Type 0} {link : Ghosts L} (s s' : State L) (h : List Local) (r : Ran link s s') → s'.phase ≡ s.phase → IsBrokenIn s h → IsBrokenIn s' (moved r ++ h)
-broken_same s s' h r e b z = broken_more (moved r) h (b (sym (ap has_failed e) ∙ z))
+pub late_more : {L : Type 0} {link : Ghosts L} (e : ConnectionFault) (s s' : State L) (h : List Local) (r : Ran link s s') → (has_failed s.phase ≡ true → (r.given ≡ []) × (has_failed s'.phase ≡ true)) → LateFault e s h → LateFault e s' (moved r ++ h)
+late_more (connection.Memory a) s s' h r n u = u
+late_more (connection.TransportError t) s s' h r n u = ((n u.0).1, broken_more t (moved r) h ((passed r).heard ∙ (n u.0).0) ((passed r).said ∙ (r.stays (failed_stops s.phase u.0)).none) u.1)
+late_more connection.IllegalState s s' h r n u = once_more (λ g. IsRejected (given_in g)) (moved r) h u
+late_more connection.NotImplemented s s' h r n u = once_more (λ g. IsRejected (given_in g)) (moved r) h u
+late_more connection.NotFound s s' h r n u = once_more (λ g. IsRejected (given_in g)) (moved r) h u
+late_more connection.RemoteClosed s s' h r n u = u
+late_more (connection.RemoteClosedWithError x) s s' h r n u = u
+
+pub broken_same : {L : Type 0} {link : Ghosts L} (s s' : State L) (h : List Local) (r : Ran link s s') → (has_failed s.phase ≡ true → r.given ≡ []) → s'.phase ≡ s.phase → IsBrokenIn s h → IsBrokenIn s' (moved r ++ h)
+broken_same s s' h r n e b z =
+    let y = sym (ap has_failed e) ∙ z in
+    let i = b y in
+    record { fault = i.fault; how = broken_more i.fault (moved r) h ((passed r).heard ∙ n y) ((passed r).said ∙ (r.stays (failed_stops s.phase y)).none) i.how }
 
 pub broken_sound : {L : Type 0} (s : State L) (h : List Local) → has_failed s.phase ≡ false → IsBrokenIn s h
 broken_sound s h e z = absurd (cc (e, z))
 
--- where the phase stays
-pub unmade_same : {L : Type 0} (link : Ghosts L) (call : Call) (fault : Option ConnectionFault) (s s' : State L) (h : List Local) (r : Ran link s s') → IsRunning call s h → s'.phase ≡ s.phase → IsUnmadeAt fault s h → IsUnmadeAt fault s' (moved r ++ h)
-unmade_same link call None s s' h r k e u =
-    record { unheard = still_unheard link call s s' h r k u.sound e u.unheard; kept = still_kept link call s s' h r k u.sound e u.kept; sound = ap has_failed e ∙ u.sound }
-unmade_same link call (Some f) s s' h r k e u =
-    (once_more (EarlyFault f) (moved r) h u.0, (λ z. let y = sym (ap has_failed e) ∙ z in still_unheard link call s s' h r k y e (u.1.0 y), broken_same s s' h r e u.1.1))
+pub broken_unmade : {L : Type 0} (fault : Option ConnectionFault) (s : State L) (h : List Local) → IsUnmadeAt fault s h → IsBrokenIn s h
+broken_unmade None s h u = broken_sound s h u.sound
+broken_unmade (Some e) s h u = u.1.1
 
-pub fault_same : {L : Type 0} {link : Ghosts L} (fault : Option ConnectionFault) (s s' : State L) (h : List Local) (r : Ran link s s') → s'.phase ≡ s.phase → IsFaultIn fault s h → IsFaultIn fault s' (moved r ++ h)
-fault_same None s s' h r e f = ap has_failed e ∙ f
-fault_same (Some x) s s' h r e f = (once_more (LateFault x) (moved r) h f.0, broken_same s s' h r e f.1)
+pub broken_made : {L : Type 0} (fault : Option ConnectionFault) (s : State L) (h : List Local) → IsFaultIn fault s h → IsBrokenIn s h
+broken_made None s h f = broken_sound s h f
+broken_made (Some e) s h f = f.1
+
+-- where the phase stays
+pub unmade_same : {L : Type 0} (link : Ghosts L) (call : Call) (fault : Option ConnectionFault) (s s' : State L) (h : List Local) (r : Ran link s s') → (has_failed s.phase ≡ true → r.given ≡ []) → IsRunning call s h → s'.phase ≡ s.phase → IsUnmadeAt fault s h → IsUnmadeAt fault s' (moved r ++ h)
+unmade_same link call None s s' h r n k e u =
+    record { unheard = still_unheard link call s s' h r k u.sound e u.unheard; kept = still_kept link call s s' h r k u.sound e u.kept; sound = ap has_failed e ∙ u.sound }
+unmade_same link call (Some f) s s' h r n k e u =
+    (early_more f s s' h r (λ z. (n z, ap has_failed e ∙ z)) u.0, (λ z. let y = sym (ap has_failed e) ∙ z in still_unheard link call s s' h r k y e (u.1.0 y), broken_same s s' h r n e u.1.1))
+
+pub fault_same : {L : Type 0} {link : Ghosts L} (fault : Option ConnectionFault) (s s' : State L) (h : List Local) (r : Ran link s s') → (has_failed s.phase ≡ true → r.given ≡ []) → s'.phase ≡ s.phase → IsFaultIn fault s h → IsFaultIn fault s' (moved r ++ h)
+fault_same None s s' h r n e f = ap has_failed e ∙ f
+fault_same (Some x) s s' h r n e f = (late_more x s s' h r (λ z. (n z, ap has_failed e ∙ z)) f.0, broken_same s s' h r n e f.1)
 
 -- where a step worked
 pub unmade_worked : {L : Type 0} (link : Ghosts L) (at : ℕ) (call : Call) (fault : Option ConnectionFault) (s s' : State L) (h : List Local) (r : Ran link s s') → IsMoment at s r.given s' → IsRunning call s h → IsOnward s.phase s'.phase → is_made_state (state_of s'.phase) ≡ false → IsUnmadeAt fault s h → IsUnmadeAt fault s' (moved r ++ h)
@@ -175,31 +205,31 @@ unmade_worked link at call None s s' h r m k o n u =
     let b = behind_in link at call s.phase s s' h r m k refl o n in
     record { unheard = behind_unheard h r b u.unheard; kept = behind_kept h r b u.kept; sound = onward_sound s.phase s'.phase o }
 unmade_worked link at call (Some f) s s' h r m k o n u =
-    (once_more (EarlyFault f) (moved r) h u.0, (λ z. behind_unheard h r (behind_in link at call s.phase s s' h r m k refl o n) (u.1.0 (onward_from s.phase s'.phase o)), broken_sound s' (moved r ++ h) (onward_sound s.phase s'.phase o)))
+    (early_more f s s' h r (λ z. absurd (cc (onward_from s.phase s'.phase o, z))) u.0, (λ z. behind_unheard h r (behind_in link at call s.phase s s' h r m k refl o n) (u.1.0 (onward_from s.phase s'.phase o)), broken_sound s' (moved r ++ h) (onward_sound s.phase s'.phase o)))
 
 pub fault_worked : {L : Type 0} {link : Ghosts L} (fault : Option ConnectionFault) (s s' : State L) (h : List Local) (r : Ran link s s') → IsOnward s.phase s'.phase → IsFaultIn fault s h → IsFaultIn fault s' (moved r ++ h)
 fault_worked None s s' h r o f = onward_sound s.phase s'.phase o
-fault_worked (Some x) s s' h r o f = (once_more (LateFault x) (moved r) h f.0, broken_sound s' (moved r ++ h) (onward_sound s.phase s'.phase o))
+fault_worked (Some x) s s' h r o f = (late_more x s s' h r (λ z. absurd (cc (onward_from s.phase s'.phase o, z))) f.0, broken_sound s' (moved r ++ h) (onward_sound s.phase s'.phase o))
 
 -- where the connection is made by it: a fault from before is one of a made connection
-late_of_early : (e : ConnectionFault) (h : List Local) → BeginsWithOpen (given_in h) → Once (EarlyFault e) h → Once (LateFault e) h
-late_of_early (connection.Memory a) h o u = absurd u.held
-late_of_early (connection.TransportError t) h o u = record { later = u.later; earlier = u.earlier; split = u.split; held = u.held }
-late_of_early connection.IllegalState h o u =
+late_of_early : {L : Type 0} (e : ConnectionFault) (s : State L) (h : List Local) → BeginsWithOpen (given_in h) → EarlyFault e s h → LateFault e s h
+late_of_early (connection.Memory a) s h o u = u
+late_of_early (connection.TransportError t) s h o u = u
+late_of_early connection.IllegalState s h o u =
     absurd (other_then (given_in u.earlier) (given_in u.later) u.held (subst BeginsWithOpen (ap given_in u.split ∙ given_in-append u.later u.earlier) o))
-late_of_early connection.NotImplemented h o u = absurd u.held
-late_of_early connection.NotFound h o u = absurd u.held
-late_of_early connection.RemoteClosed h o u = absurd u.held
-late_of_early (connection.RemoteClosedWithError e) h o u = absurd u.held
+late_of_early connection.NotImplemented s h o u = absurd u
+late_of_early connection.NotFound s h o u = absurd u
+late_of_early connection.RemoteClosed s h o u = u
+late_of_early (connection.RemoteClosedWithError e) s h o u = u
 
 pub made_worked : {L : Type 0} (link : Ghosts L) (call : Call) (fault : Option ConnectionFault) (s s' : State L) (h : List Local) (r : Ran link s s') → IsRunning call s h → IsOnward s.phase s'.phase → is_made_state (state_of s'.phase) ≡ true → IsUnmadeAt fault s h → BeginsWithOpen (given_in (moved r ++ h)) × IsFaultIn fault s' (moved r ++ h)
 made_worked link call None s s' h r k o e u = (made_begins s'.phase s'.reason (given_in (moved r ++ h)) e (heard_after link call s s' h r k), onward_sound s.phase s'.phase o)
 made_worked link call (Some f) s s' h r k o e u =
     let b = made_begins s'.phase s'.reason (given_in (moved r ++ h)) e (heard_after link call s s' h r k) in
-    (b, (late_of_early f (moved r ++ h) b (once_more (EarlyFault f) (moved r) h u.0), broken_sound s' (moved r ++ h) (onward_sound s.phase s'.phase o)))
+    (b, (late_of_early f s' (moved r ++ h) b (early_more f s s' h r (λ z. absurd (cc (onward_from s.phase s'.phase o, z))) u.0), broken_sound s' (moved r ++ h) (onward_sound s.phase s'.phase o)))
 
 -- the frame that made it came in this step
-unheard_of : {L : Type 0} (fault : Option ConnectionFault) (s : State L) (h : List Local) → IsUnmadeAt fault s h → has_failed s.phase ≡ false → BeginsWithOpen (given_in h) → ⊥
+pub unheard_of : {L : Type 0} (fault : Option ConnectionFault) (s : State L) (h : List Local) → IsUnmadeAt fault s h → has_failed s.phase ≡ false → BeginsWithOpen (given_in h) → ⊥
 unheard_of None s h u e = u.unheard
 unheard_of (Some f) s h u e = u.1.0 e
 
@@ -232,10 +262,10 @@ refusal_other link call p.Discarding e s s' h r k f z c = absurd c
 refusal_other link call p.Ended e s s' h r k f z c = absurd c
 refusal_other link call p.Failed e s s' h r k f z c = absurd c
 
-early_cause : {L : Type 0} (link : Ghosts L) (at : ℕ) (call : Call) (e : ConnectionFault) (s s' : State L) (h : List Local) (st : Stepped link at s (Err e) s') → IsRunning call s h → IsFaultless s h → prepared_in (made_in h) ≡ prepared_of call → moment_in h ≡ at → (a : (x : _) → e ≡ connection.Memory x → ⊥) → Once (EarlyFault e) (moved st.run ++ h)
+early_cause : {L : Type 0} (link : Ghosts L) (at : ℕ) (call : Call) (e : ConnectionFault) (s s' : State L) (h : List Local) (st : Stepped link at s (Err e) s') → IsRunning call s h → IsFaultless s h → prepared_in (made_in h) ≡ prepared_of call → moment_in h ≡ at → (a : (x : _) → e ≡ connection.Memory x → ⊥) → EarlyFault e s' (moved st.run ++ h)
 early_cause link at call (connection.Memory x) s s' h st k f prep m a = absurd (a x refl)
-early_cause link at call (connection.TransportError t) s s' h st k f prep m a = transport_once link at call s s' h st.run (EarlyFault (connection.TransportError t)) t (λ g c. c) k prep m (st.told.1 k.calm)
-early_cause link at call connection.IllegalState s s' h st k f prep m a = once_now (EarlyFault connection.IllegalState) (moved st.run ++ h) (refusal_other link call s.phase connection.IllegalState s s' h st.run k f refl st.told.1).1
+early_cause link at call (connection.TransportError t) s s' h st k f prep m a = (st.told.0, broken_after link at call s s' h st.run t k prep m st.told.2 (st.told.1 k.calm))
+early_cause link at call connection.IllegalState s s' h st k f prep m a = once_now (λ g. IsOther (given_in g)) (moved st.run ++ h) (refusal_other link call s.phase connection.IllegalState s s' h st.run k f refl st.told.1).1
 early_cause link at call connection.NotImplemented s s' h st k f prep m a = absurd (cc (refusal_other link call s.phase connection.NotImplemented s s' h st.run k f refl st.told.1).0)
 early_cause link at call connection.NotFound s s' h st k f prep m a = absurd (cc (refusal_other link call s.phase connection.NotFound s s' h st.run k f refl st.told.1).0)
 early_cause link at call connection.RemoteClosed s s' h st k f prep m a = absurd st.told
@@ -274,9 +304,30 @@ refusal_sound e p.Discarding r c = absurd c
 refusal_sound e p.Ended r c = absurd c
 refusal_sound e p.Failed r c = absurd c
 
-breaks : {L : Type 0} (link : Ghosts L) (at : ℕ) (call : Call) (e : ConnectionFault) (s s' : State L) (h : List Local) (st : Stepped link at s (Err e) s') → IsRunning call s h → prepared_in (made_in h) ≡ prepared_of call → moment_in h ≡ at → (a : (x : _) → e ≡ connection.Memory x → ⊥) → IsBrokenIn s' (moved st.run ++ h)
+-- where it had failed before
+refusal_from : (e : ConnectionFault) (q r : Phase) → IsRefusal q e r → has_failed q ≡ false
+refusal_from e p.OpenSent r c = refl
+refusal_from e p.Opened r c = refl
+refusal_from e p.CloseReceived r c = refl
+refusal_from e p.Refused r c = refl
+refusal_from e (p.Rejected why) r c = refl
+refusal_from e p.CloseSent r c = refl
+refusal_from e p.Discarding r c = refl
+refusal_from e p.Ended r c = refl
+refusal_from e p.Failed r c = absurd c
+
+failed_again : {L : Type 0} (link : Ghosts L) (at : ℕ) (e : ConnectionFault) (s s' : State L) (st : Stepped link at s (Err e) s') → (a : (x : _) → e ≡ connection.Memory x → ⊥) → has_failed s.phase ≡ true → (st.run.given ≡ []) × (has_failed s'.phase ≡ true)
+failed_again link at (connection.Memory x) s s' st a z = absurd (a x refl)
+failed_again link at (connection.TransportError t) s s' st a z = (st.told.2, st.told.0)
+failed_again link at connection.IllegalState s s' st a z = absurd (cc (refusal_from connection.IllegalState s.phase s'.phase st.told.1, z))
+failed_again link at connection.NotImplemented s s' st a z = absurd (cc (refusal_from connection.NotImplemented s.phase s'.phase st.told.1, z))
+failed_again link at connection.NotFound s s' st a z = absurd (cc (refusal_from connection.NotFound s.phase s'.phase st.told.1, z))
+failed_again link at connection.RemoteClosed s s' st a z = absurd st.told
+failed_again link at (connection.RemoteClosedWithError x) s s' st a z = absurd st.told
+
+pub breaks : {L : Type 0} (link : Ghosts L) (at : ℕ) (call : Call) (e : ConnectionFault) (s s' : State L) (h : List Local) (st : Stepped link at s (Err e) s') → IsRunning call s h → prepared_in (made_in h) ≡ prepared_of call → moment_in h ≡ at → (a : (x : _) → e ≡ connection.Memory x → ⊥) → IsBrokenIn s' (moved st.run ++ h)
 breaks link at call (connection.Memory x) s s' h st k prep m a = absurd (a x refl)
-breaks link at call (connection.TransportError t) s s' h st k prep m a = λ z. record { fault = t; cause = transport_once link at call s s' h st.run (TransportCause t) t (λ g c. c) k prep m (st.told.1 k.calm) }
+breaks link at call (connection.TransportError t) s s' h st k prep m a = λ z. record { fault = t; how = broken_after link at call s s' h st.run t k prep m st.told.2 (st.told.1 k.calm) }
 breaks link at call connection.IllegalState s s' h st k prep m a = broken_sound s' (moved st.run ++ h) (refusal_sound connection.IllegalState s.phase s'.phase st.told.1)
 breaks link at call connection.NotImplemented s s' h st k prep m a = broken_sound s' (moved st.run ++ h) (refusal_sound connection.NotImplemented s.phase s'.phase st.told.1)
 breaks link at call connection.NotFound s s' h st k prep m a = broken_sound s' (moved st.run ++ h) (refusal_sound connection.NotFound s.phase s'.phase st.told.1)
@@ -286,21 +337,39 @@ breaks link at call (connection.RemoteClosedWithError x) s s' h st k prep m a = 
 pub unmade_failed : {L : Type 0} (link : Ghosts L) (at : ℕ) (call : Call) (fault : Option ConnectionFault) (e : ConnectionFault) (s s' : State L) (h : List Local) (st : Stepped link at s (Err e) s') → IsRunning call s h → prepared_in (made_in h) ≡ prepared_of call → moment_in h ≡ at → (a : (x : _) → e ≡ connection.Memory x → ⊥)
     → IsUnmadeAt fault s h → IsUnmadeAt (first_fault fault e) s' (moved st.run ++ h)
 unmade_failed link at call None e s s' h st k prep m a u = (early_cause link at call e s s' h st k u prep m a, (refused_unheard link at call e s s' h st a k (λ z. u.unheard), breaks link at call e s s' h st k prep m a))
-unmade_failed link at call (Some f) e s s' h st k prep m a u = (once_more (EarlyFault f) (moved st.run) h u.0, (refused_unheard link at call e s s' h st a k u.1.0, breaks link at call e s s' h st k prep m a))
+unmade_failed link at call (Some f) e s s' h st k prep m a u = (early_more f s s' h st.run (failed_again link at e s s' st a) u.0, (refused_unheard link at call e s s' h st a k u.1.0, breaks link at call e s s' h st k prep m a))
 
-late_cause : {L : Type 0} (link : Ghosts L) (at : ℕ) (call : Call) (e : ConnectionFault) (s s' : State L) (h : List Local) (st : Stepped link at s (Err e) s') → IsRunning call s h → BeginsWithOpen (given_in h) → prepared_in (made_in h) ≡ prepared_of call → moment_in h ≡ at → (a : (x : _) → e ≡ connection.Memory x → ⊥) → Once (LateFault e) (moved st.run ++ h)
+-- a frame that is refused behind Open
+rejected_stray : {L : Type 0} (link : Ghosts L) (call : Call) (why : Rejection) (s s' : State L) (h : List Local) (r : Ran link s s') → IsRunning call s h → s'.phase ≡ p.Rejected why → IsRejected (given_in (moved r ++ h))
+rejected_stray link call why s s' h r k e = (subst (λ (q : Phase). IsHeard q s'.reason (given_in (moved r ++ h))) e (heard_after link call s s' h r k)).0
+
+unheard_yet : {L : Type 0} (call : Call) (s : State L) (h : List Local) → IsRunning call s h → s.phase ≡ p.OpenSent → BeginsWithOpen (given_in h) → ⊥
+unheard_yet call s h k e o = begins_not_nil (given_in h) (subst (λ (q : Phase). IsHeard q s.reason (given_in h)) e k.runs.heard).0 o
+
+refusal_stray : {L : Type 0} (link : Ghosts L) (call : Call) (q : Phase) (e : ConnectionFault) (s s' : State L) (h : List Local) (r : Ran link s s') → IsRunning call s h → BeginsWithOpen (given_in h) → s.phase ≡ q → IsRefusal q e s'.phase → IsRejected (given_in (moved r ++ h))
+refusal_stray link call p.OpenSent e s s' h r k o z c = absurd (unheard_yet call s h k z o)
+refusal_stray link call p.Opened e s s' h r k o z c = rejected_stray link call c.0 s s' h r k c.2
+refusal_stray link call p.CloseReceived e s s' h r k o z c = absurd c
+refusal_stray link call p.Refused e s s' h r k o z c = absurd c
+refusal_stray link call (p.Rejected why) e s s' h r k o z c = absurd c
+refusal_stray link call p.CloseSent e s s' h r k o z c = absurd c
+refusal_stray link call p.Discarding e s s' h r k o z c = absurd c
+refusal_stray link call p.Ended e s s' h r k o z c = absurd c
+refusal_stray link call p.Failed e s s' h r k o z c = absurd c
+
+late_cause : {L : Type 0} (link : Ghosts L) (at : ℕ) (call : Call) (e : ConnectionFault) (s s' : State L) (h : List Local) (st : Stepped link at s (Err e) s') → IsRunning call s h → BeginsWithOpen (given_in h) → prepared_in (made_in h) ≡ prepared_of call → moment_in h ≡ at → (a : (x : _) → e ≡ connection.Memory x → ⊥) → LateFault e s' (moved st.run ++ h)
 late_cause link at call (connection.Memory x) s s' h st k o prep m a = absurd (a x refl)
-late_cause link at call (connection.TransportError t) s s' h st k o prep m a = transport_once link at call s s' h st.run (LateFault (connection.TransportError t)) t (λ g c. c) k prep m (st.told.1 k.calm)
-late_cause link at call connection.IllegalState s s' h st k o prep m a = once_now (LateFault connection.IllegalState) (moved st.run ++ h) (heard_open_more h st.run o)
-late_cause link at call connection.NotImplemented s s' h st k o prep m a = once_now (LateFault connection.NotImplemented) (moved st.run ++ h) (heard_open_more h st.run o)
-late_cause link at call connection.NotFound s s' h st k o prep m a = once_now (LateFault connection.NotFound) (moved st.run ++ h) (heard_open_more h st.run o)
+late_cause link at call (connection.TransportError t) s s' h st k o prep m a = (st.told.0, broken_after link at call s s' h st.run t k prep m st.told.2 (st.told.1 k.calm))
+late_cause link at call connection.IllegalState s s' h st k o prep m a = once_now (λ g. IsRejected (given_in g)) (moved st.run ++ h) (refusal_stray link call s.phase connection.IllegalState s s' h st.run k o refl st.told.1)
+late_cause link at call connection.NotImplemented s s' h st k o prep m a = once_now (λ g. IsRejected (given_in g)) (moved st.run ++ h) (refusal_stray link call s.phase connection.NotImplemented s s' h st.run k o refl st.told.1)
+late_cause link at call connection.NotFound s s' h st k o prep m a = once_now (λ g. IsRejected (given_in g)) (moved st.run ++ h) (refusal_stray link call s.phase connection.NotFound s s' h st.run k o refl st.told.1)
 late_cause link at call connection.RemoteClosed s s' h st k o prep m a = absurd st.told
 late_cause link at call (connection.RemoteClosedWithError x) s s' h st k o prep m a = absurd st.told
 
 pub fault_failed : {L : Type 0} (link : Ghosts L) (at : ℕ) (call : Call) (fault : Option ConnectionFault) (e : ConnectionFault) (s s' : State L) (h : List Local) (st : Stepped link at s (Err e) s') → IsRunning call s h → BeginsWithOpen (given_in h) → prepared_in (made_in h) ≡ prepared_of call → moment_in h ≡ at → (a : (x : _) → e ≡ connection.Memory x → ⊥)
     → IsFaultIn fault s h → IsFaultIn (first_fault fault e) s' (moved st.run ++ h)
 fault_failed link at call None e s s' h st k o prep m a u = (late_cause link at call e s s' h st k o prep m a, breaks link at call e s s' h st k prep m a)
-fault_failed link at call (Some f) e s s' h st k o prep m a u = (once_more (LateFault f) (moved st.run) h u.0, breaks link at call e s s' h st k prep m a)
+fault_failed link at call (Some f) e s s' h st k o prep m a u = (late_more f s s' h st.run (failed_again link at e s s' st a) u.0, breaks link at call e s s' h st k prep m a)
 
 -- ---- an end whose connection went on
 
@@ -308,40 +377,40 @@ fault_failed link at call (Some f) e s s' h st k o prep m a u = (once_more (Late
 pub is_running : {L : Type 0} (call : Call) (held : Held L) (s : State L) (h : List Local) → held ≡ Late s → HasCalled call held h → IsRunning call s h
 is_running {L} call held s h e c = subst (λ (x : Held L). IsHeld call x h) e c.holds
 
-pub called_moves : {L : Type 0} (link : Ghosts L) (at : ℕ) (call : Call) (held : Held L) (s s' : State L) (h : List Local) (r : Ran link s s') → IsMoment at s r.given s' → moment_in h ≡ at → held ≡ Late s → HasCalled call held h → HasCalled call (Late s') (moved r ++ h)
-called_moves link at call held s s' h r m t e c = record { holds = running_grows link at call s s' h r m t (is_running call held s h e c); caused = (passed r).caused h c.caused }
+pub called_moves : {L : Type 0} (link : Ghosts L) (at : ℕ) (call : Call) (held : Held L) (s s' : State L) (h : List Local) (r : Ran link s s') → IsMoment at s r.given s' → IsDue (made_in h) s.phase r.queued → moment_in h ≡ at → held ≡ Late s → HasCalled call held h → HasCalled call (Late s') (moved r ++ h)
+called_moves link at call held s s' h r m d t e c = record { holds = running_grows link at call s s' h r m d t (is_running call held s h e c); caused = (passed r).caused h c.caused }
 
 -- Whatever becomes of its fault: the same calls, the same replies.
-pub waiting_moves : {L : Type 0} (link : Ghosts L) (at : ℕ) (old : Peering L) (s s' : State L) (fault : Option ConnectionFault) (h : List Local) (r : Ran link s s') → IsMoment at s r.given s' → moment_in h ≡ at → old.held ≡ Late s
+pub waiting_moves : {L : Type 0} (link : Ghosts L) (at : ℕ) (old : Peering L) (s s' : State L) (fault : Option ConnectionFault) (h : List Local) (r : Ran link s s') → IsMoment at s r.given s' → IsDue (made_in h) s.phase r.queued → moment_in h ≡ at → old.held ≡ Late s
     → ((call : Call) → IsRunning call s h → prepared_in (made_in h) ≡ prepared_of call → IsUnmadeAt old.fault s h → IsUnmadeAt fault s' (moved r ++ h))
     → IsWaiting old h → IsWaiting (record old { held = Late s'; fault = fault }) (moved r ++ h)
-waiting_moves {L} link at old s s' fault h r m t e f w =
+waiting_moves {L} link at old s s' fault h r m d t e f w =
     record {
       call = w.call;
       made = made_after h (passed r) ∙ w.made;
       replied = replied_after h (passed r) ∙ w.replied;
-      called = called_moves link at w.call old.held s s' h r m t e w.called;
+      called = called_moves link at w.call old.held s s' h r m d t e w.called;
       unmade = f w.call (is_running w.call old.held s h e w.called) (ap prepared_in w.made) (subst (λ (x : Held L). IsUnmade old.fault x h) e w.unmade);
     }
 
-pub open_moves : {L : Type 0} (link : Ghosts L) (at : ℕ) (old : Peering L) (s s' : State L) (fault : Option ConnectionFault) (h : List Local) (r : Ran link s s') → IsMoment at s r.given s' → moment_in h ≡ at → old.held ≡ Late s
+pub open_moves : {L : Type 0} (link : Ghosts L) (at : ℕ) (old : Peering L) (s s' : State L) (fault : Option ConnectionFault) (h : List Local) (r : Ran link s s') → IsMoment at s r.given s' → IsDue (made_in h) s.phase r.queued → moment_in h ≡ at → old.held ≡ Late s
     → ((call : Call) → IsRunning call s h → prepared_in (made_in h) ≡ prepared_of call → BeginsWithOpen (given_in h) → IsFaultIn old.fault s h → IsFaultIn fault s' (moved r ++ h))
     → IsOpen old h → IsOpen (record old { held = Late s'; fault = fault }) (moved r ++ h)
-open_moves {L} link at old s s' fault h r m t e g w =
+open_moves {L} link at old s s' fault h r m d t e g w =
     let i : BeginsWithOpen (given_in h) × IsFaultIn old.fault s h = subst (λ (x : Held L). IsMadeIn old.fault x h) e w.is_made in
     record {
       call = w.call;
       name = w.name;
       made = made_after h (passed r) ∙ w.made;
       replied = replied_after h (passed r) ∙ w.replied;
-      called = called_moves link at w.call old.held s s' h r m t e w.called;
+      called = called_moves link at w.call old.held s s' h r m d t e w.called;
       is_made = (heard_open_more h r i.0, g w.call (is_running w.call old.held s h e w.called) (ap prepared_in w.made) i.0 i.1);
     }
 
-pub closing_moves : {L : Type 0} (link : Ghosts L) (at : ℕ) (old : Peering L) (s s' : State L) (fault : Option ConnectionFault) (h : List Local) (r : Ran link s s') → IsMoment at s r.given s' → moment_in h ≡ at → old.held ≡ Late s
+pub closing_moves : {L : Type 0} (link : Ghosts L) (at : ℕ) (old : Peering L) (s s' : State L) (fault : Option ConnectionFault) (h : List Local) (r : Ran link s s') → IsMoment at s r.given s' → IsDue (made_in h) s.phase r.queued → moment_in h ≡ at → old.held ≡ Late s
     → ((call : Call) → IsRunning call s h → prepared_in (made_in h) ≡ prepared_of call → BeginsWithOpen (given_in h) → IsFaultIn old.fault s h → IsFaultIn fault s' (moved r ++ h))
-    → IsClosing old h → IsClosing (record old { held = Late s'; fault = fault }) (moved r ++ h)
-closing_moves {L} link at old s s' fault h r m t e g w =
+    → (IsLeaving s.phase → IsLeaving s'.phase) → IsClosing old h → IsClosing (record old { held = Late s'; fault = fault }) (moved r ++ h)
+closing_moves {L} link at old s s' fault h r m d t e g l w =
     let i : BeginsWithOpen (given_in h) × IsFaultIn old.fault s h = subst (λ (x : Held L). IsMadeIn old.fault x h) e w.is_made in
     record {
       call = w.call;
@@ -349,23 +418,25 @@ closing_moves {L} link at old s s' fault h r m t e g w =
       error = w.error;
       made = made_after h (passed r) ∙ w.made;
       replied = replied_after h (passed r) ∙ w.replied;
-      called = called_moves link at w.call old.held s s' h r m t e w.called;
+      called = called_moves link at w.call old.held s s' h r m d t e w.called;
       is_made = (heard_open_more h r i.0, g w.call (is_running w.call old.held s h e w.called) (ap prepared_in w.made) i.0 i.1);
+      leaves = l (subst (λ (x : Held L). IsLeavingIn x) e w.leaves);
     }
 
-pub over_moves : {L : Type 0} (link : Ghosts L) (at : ℕ) (old : Peering L) (s s' : State L) (fault : Option ConnectionFault) (h : List Local) (r : Ran link s s') → IsMoment at s r.given s' → moment_in h ≡ at → old.held ≡ Late s
-    → HasFailedOpen old h ⊎ HasClosed old h → HasFailedOpen (record old { held = Late s'; fault = fault }) (moved r ++ h) ⊎ HasClosed (record old { held = Late s'; fault = fault }) (moved r ++ h)
-over_moves link at old s s' fault h r m t e (inl w) =
+pub over_moves : {L : Type 0} (link : Ghosts L) (at : ℕ) (old : Peering L) (s s' : State L) (fault : Option ConnectionFault) (h : List Local) (r : Ran link s s') → IsMoment at s r.given s' → IsDue (made_in h) s.phase r.queued → moment_in h ≡ at → old.held ≡ Late s
+    → ((call : Call) → IsRunning call s h → prepared_in (made_in h) ≡ prepared_of call → IsBrokenIn s h → IsBrokenIn s' (moved r ++ h)) → HasFailedOpen old h ⊎ HasClosed old h → HasFailedOpen (record old { held = Late s'; fault = fault }) (moved r ++ h) ⊎ HasClosed (record old { held = Late s'; fault = fault }) (moved r ++ h)
+over_moves {L} link at old s s' fault h r m d t e b (inl w) =
     inl (record {
       call = w.call;
       name = w.name;
       error = w.error;
       made = made_after h (passed r) ∙ w.made;
       replied = replied_after h (passed r) ∙ w.replied;
-      called = called_moves link at w.call old.held s s' h r m t e w.called;
+      called = called_moves link at w.call old.held s s' h r m d t e w.called;
       done = λ z. z;
+      broken = b w.call (is_running w.call old.held s h e w.called) (ap prepared_in w.made) (subst (λ (x : Held L). IsBrokenHeld x h) e w.broken);
     })
-over_moves link at old s s' fault h r m t e (inr w) =
+over_moves {L} link at old s s' fault h r m d t e b (inr w) =
     inr (record {
       call = w.call;
       name = w.name;
@@ -375,16 +446,18 @@ over_moves link at old s s' fault h r m t e (inr w) =
       made = made_after h (passed r) ∙ w.made;
       end = w.end;
       replied = elim w.replied [ inl z ↦ inl (replied_after h (passed r) ∙ z) | inr z ↦ inr (replied_after h (passed r) ∙ z) ];
-      called = called_moves link at w.call old.held s s' h r m t e w.called;
+      called = called_moves link at w.call old.held s s' h r m d t e w.called;
       done = λ z. z;
+      broken = b w.call (is_running w.call old.held s h e w.called) (ap prepared_in w.made) (subst (λ (x : Held L). IsBrokenHeld x h) e w.broken);
     })
 
-pub moves_in : {L : Type 0} (link : Ghosts L) (at : ℕ) (q : Progress) (old : Peering L) (s s' : State L) (fault : Option ConnectionFault) (h : List Local) (r : Ran link s s') → IsMoment at s r.given s' → moment_in h ≡ at → old.held ≡ Late s
+pub moves_in : {L : Type 0} (link : Ghosts L) (at : ℕ) (q : Progress) (old : Peering L) (s s' : State L) (fault : Option ConnectionFault) (h : List Local) (r : Ran link s s') → IsMoment at s r.given s' → IsDue (made_in h) s.phase r.queued → moment_in h ≡ at → old.held ≡ Late s
     → ((call : Call) → IsRunning call s h → prepared_in (made_in h) ≡ prepared_of call → IsUnmadeAt old.fault s h → IsUnmadeAt fault s' (moved r ++ h))
     → ((call : Call) → IsRunning call s h → prepared_in (made_in h) ≡ prepared_of call → BeginsWithOpen (given_in h) → IsFaultIn old.fault s h → IsFaultIn fault s' (moved r ++ h))
-    → HasIn q old h → HasIn q (record old { held = Late s'; fault = fault }) (moved r ++ h)
-moves_in link at progress.Idle old s s' fault h r m t e f g n = absurd (cc (sym e ∙ n.holds))
-moves_in link at progress.Opening old s s' fault h r m t e f g w = waiting_moves link at old s s' fault h r m t e f w
-moves_in link at progress.Open old s s' fault h r m t e f g w = open_moves link at old s s' fault h r m t e g w
-moves_in link at progress.Closing old s s' fault h r m t e f g w = closing_moves link at old s s' fault h r m t e g w
-moves_in link at progress.Over old s s' fault h r m t e f g w = over_moves link at old s s' fault h r m t e w
+    → ((call : Call) → IsRunning call s h → prepared_in (made_in h) ≡ prepared_of call → IsBrokenIn s h → IsBrokenIn s' (moved r ++ h))
+    → (IsLeaving s.phase → IsLeaving s'.phase) → HasIn q old h → HasIn q (record old { held = Late s'; fault = fault }) (moved r ++ h)
+moves_in link at progress.Idle old s s' fault h r m d t e f g b l n = absurd (cc (sym e ∙ n.holds))
+moves_in link at progress.Opening old s s' fault h r m d t e f g b l w = waiting_moves link at old s s' fault h r m d t e f w
+moves_in link at progress.Open old s s' fault h r m d t e f g b l w = open_moves link at old s s' fault h r m d t e g w
+moves_in link at progress.Closing old s s' fault h r m d t e f g b l w = closing_moves link at old s s' fault h r m d t e g l w
+moves_in link at progress.Over old s s' fault h r m d t e f g b l w = over_moves link at old s s' fault h r m d t e b w

@@ -10,6 +10,7 @@ use Rattle.amqp_engine.specs.declared.phase.BodyKind.TheVariants as kind
 use Rattle.amqp_engine.specs.declared.phase.Phase.{Phase}
 use Rattle.amqp_engine.specs.declared.phase.Phase.TheVariants as p
 use Rattle.amqp_engine.specs.Heard.{IsGreeted, IsParted, IsMistaken, IsAnswered, IsHeard}
+use Rattle.amqp_engine.proofs.Hearing.{rejected_greeted}
 use Rattle.amqp_engine.specs.Phases.{kind_of, state_of, has_failed, IsInner}
 use Rattle.amqp_peer.specs.Causes.{BeginsWithOpen, IsOther}
 use Rattle.amqp_peer.specs.Held.{is_made_state}
@@ -45,7 +46,7 @@ made_begins p.OpenSent reason xs e h = absurd (cc e)
 made_begins p.Opened reason xs e h = greeted_begins xs h.0
 made_begins p.CloseReceived reason xs e h = absurd (cc e)
 made_begins p.Refused reason xs e h = absurd (cc e)
-made_begins (p.Rejected why) reason xs e h = greeted_begins xs h.0
+made_begins (p.Rejected why) reason xs e h = greeted_begins xs (rejected_greeted xs h.0)
 made_begins p.CloseSent reason xs e h = greeted_begins xs h.0
 made_begins p.Discarding reason xs e h = greeted_begins xs h.0
 made_begins p.Ended reason xs e h = absurd (cc e)
@@ -63,7 +64,7 @@ heard_length p.OpenSent reason xs h f n = absurd (n refl)
 heard_length p.Opened reason xs h f n = greeted_length xs h.0
 heard_length p.CloseReceived reason xs h f n = parted_length reason xs h
 heard_length p.Refused reason xs h f n = omega (arith, ap length h.is)
-heard_length (p.Rejected why) reason xs h f n = greeted_length xs h.0
+heard_length (p.Rejected why) reason xs h f n = greeted_length xs (rejected_greeted xs h.0)
 heard_length p.CloseSent reason xs h f n = greeted_length xs h.0
 heard_length p.Discarding reason xs h f n = greeted_length xs h.0
 heard_length p.Ended reason xs (inl h) f n = parted_length reason xs h

@@ -5,7 +5,7 @@ use Rattle.amqp_wire.specs.Events.{LinkEvent}
 use Rattle.amqp_transport.specs.declared.frames.Frame.{Frame}
 use Rattle.amqp_words.specs.declared.call.Call.{Call}
 use Rattle.amqp_words.specs.declared.reply.NamedReply.{NamedReply}
-use Rattle.amqp_peer.specs.History.{Local, Made, Polled, AtLink, Exchanged, Got, Put, Replied, made_in, link_in, given_in, sent_in, replied_in, moment_in, since_in, at_link, got, put, IsInside, Once}
+use Rattle.amqp_peer.specs.History.{Local, Made, Polled, AtLink, Exchanged, Got, Put, Replied, made_in, link_in, latest_in, given_in, sent_in, replied_in, moment_in, since_in, at_link, got, put, IsInside, Once}
 use Rattle.amqp_peer.specs.Causes.{AllCaused}
 
 -- ---- histories, one after another
@@ -90,6 +90,16 @@ moment_in-inside (Exchanged ∷ es) h p = moment_in-inside es h p
 moment_in-inside (Got x ∷ es) h p = moment_in-inside es h p
 moment_in-inside (Put x ∷ es) h p = moment_in-inside es h p
 moment_in-inside (Replied r ∷ es) h p = moment_in-inside es h p
+
+pub latest_in-inside : (es h : List Local) → IsInside es → latest_in (es ++ h) ≡ link_in es ++ latest_in h
+latest_in-inside [] h p = refl
+latest_in-inside (Made at name call ∷ es) h p = absurd p
+latest_in-inside (Polled at ∷ es) h p = absurd p
+latest_in-inside (AtLink x ∷ es) h p = ap (λ (u : List LinkEvent). x ∷ u) (latest_in-inside es h p)
+latest_in-inside (Exchanged ∷ es) h p = latest_in-inside es h p
+latest_in-inside (Got x ∷ es) h p = latest_in-inside es h p
+latest_in-inside (Put x ∷ es) h p = latest_in-inside es h p
+latest_in-inside (Replied r ∷ es) h p = latest_in-inside es h p
 
 pub made_in-keeps : (es h : List Local) → IsInside es → made_in (es ++ h) ≡ made_in h
 made_in-keeps es h p = made_in-append es h ∙ ap (λ (u : List (ℕ × Call)). u ++ made_in h) (made_in-inside es p)

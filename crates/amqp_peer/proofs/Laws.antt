@@ -1,14 +1,17 @@
 -- Laws of one end: what it says of its history, whatever the other end does.
-use Rattle.std.proofs.Common.{◌≡◌, ◌↔◌, ◌⊎◌, inl, inr, ℕ, List, [], ◌∷◌, ◌++◌, Bool, true, false, Option, Some, None, refl, sym, ap, subst}
+use Rattle.std.proofs.Common.{◌≡◌, ◌↔◌, ◌⊎◌, inl, inr, ℕ, List, [], ◌∷◌, ◌++◌, Bool, true, false, Option, Some, None, All, refl, sym, ap, ◌∙◌, subst}
 use Rattle.std.proofs.lemmas.List.{append-nil}
+use Rattle.std.proofs.lemmas.List.Elements.{All-nil}
 use Rattle.amqp_wire.specs.Events.{wrote_of}
 use Rattle.amqp_engine.specs.declared.error.Error.{Error as ConnectionFault}
+use Rattle.amqp_engine.specs.declared.error.Error.TheVariants as connection
 use Rattle.amqp_frames.specs.declared.shared.ConnectionStopReason.{ConnectionStopReason}
+use Rattle.amqp_transport.specs.declared.frames.Frame.{Frame}
 use Rattle.amqp_transport.specs.Stream.{IsPart}
 use Rattle.amqp_engine.specs.Heard.{IsOver}
 use Rattle.amqp_engine.specs.Phases.{is_stopped, has_failed}
-use Rattle.amqp_engine.specs.Sentence.{Has as EngineHas}
-use Rattle.amqp_engine.specs.State.{State}
+use Rattle.amqp_engine.specs.Sentence.{Has as EngineHas, AllWithin, write_limit}
+use Rattle.amqp_engine.specs.State.{State, IsFramed}
 use Rattle.amqp_opening.specs.declared.authentication.Authentication.{Authentication}
 use Rattle.amqp_opening.specs.declared.authentication.SaslCall.{SaslCall}
 use Rattle.amqp_opening.specs.declared.opening.Stage.{Stage}
@@ -29,18 +32,19 @@ use Rattle.amqp_peer.specs.declared.peer.Progress.{Progress}
 use Rattle.amqp_peer.specs.declared.peer.Progress.TheVariants as progress
 use Rattle.amqp_peer.specs.declared.prepared.Prepared.{Prepared}
 use Rattle.amqp_peer.specs.Calls.{IsFirstCall, IsClose, IsValidCall}
-use Rattle.amqp_peer.specs.Causes.{AllCaused, IsTakenUp, IsTied, IsLast, IsSpent, uncalled, answered, left, mistaken, broken}
+use Rattle.amqp_peer.specs.Causes.{prepared_in, AllCaused, IsQueued, IsTakenUp, IsTied, IsLast, IsSpent, uncalled, answered, left, mistaken, broken}
 use Rattle.amqp_peer.specs.Gated.{IsTalk, IsGatedIn, IsGated}
-use Rattle.amqp_peer.specs.Held.{IsMidway, IsReadyWith, IsExchangedWith, IsExchanged, IsBusyWith, IsBusy, IsActive, IsSorted, link_at, with_link}
+use Rattle.amqp_peer.specs.Held.{IsMidway, IsReadyWith, IsExchangedWith, IsExchanged, IsBusyWith, IsBusy, IsLeavingIn, IsActive, IsSorted, link_at, with_link}
 use Rattle.amqp_peer.specs.History.{Local, made_in, link_in, given_in, sent_in, replied_in, read_in, wrote_in}
-use Rattle.amqp_peer.specs.Peering.{Peering, fresh, link_of, with_link_of, Has, HasIn, HasCalled, IsHeld, IsHeldAt, IsKnown, IsExchanging, IsRunning, IsBrokenIn, IsUnmadeAt, IsUnmade, IsFaultIn, IsMadeIn, HasWritten, MayCall, MayCallIn}
+use Rattle.amqp_peer.specs.Peering.{Peering, fresh, link_of, with_link_of, Has, HasIn, HasCalled, IsHeld, IsHeldAt, IsKnown, IsExchanging, IsRunning, IsBrokenIn, IsBrokenHeld, IsUnmadeAt, IsUnmade, IsFaultIn, IsMadeIn, EarlyFault, LateFault, HasWritten, MayCall, MayCallIn}
 use Rattle.amqp_peer.specs.Prepared.{sasl_of}
+use Rattle.amqp_peer.specs.Said.{IsSaidFor, HasSaid}
 use Rattle.amqp_peer.specs.Replies.{pending, connection as made_reply, open_failed, answered as answered_by, IsCloseEnd, AreReplies, IsConnected}
 use Rattle.amqp_peer.proofs.Histories.{made_in-append as made_append, link_in-append as link_append, replied_in-append as replied_append}
 use Rattle.amqp_peer.proofs.Answers.{over_in}
-use Rattle.amqp_peer.proofs.Grows.{broken_sound}
+use Rattle.amqp_peer.proofs.Grows.{broken_unmade, broken_made}
 use Rattle.amqp_peer.proofs.Hears.{mistaken_other}
-use Rattle.amqp_peer.proofs.Written.{written_exchanging, written_running, queued_running, read_running}
+use Rattle.amqp_peer.proofs.Written.{written_exchanging, written_running, queued_idle, queued_exchanging, queued_running, read_running}
 
 -- histories, one after another
 pub made_in-append : (es h : List Local) → made_in (es ++ h) ≡ made_in es ++ made_in h
@@ -63,10 +67,10 @@ taken_in progress.Idle p h n =
     record { made = n.made; link = n.link; replied = n.replied; given = n.given; sent = n.sent; caused = n.caused; fault = n.fault; opening = n.opening; prepared = n.prepared; holds = n.holds; untouched = n.untouched }
 taken_in progress.Opening p h w = record { call = w.call; made = w.made; replied = w.replied; called = w.called; unmade = w.unmade }
 taken_in progress.Open p h w = record { call = w.call; name = w.name; made = w.made; replied = w.replied; called = w.called; is_made = w.is_made }
-taken_in progress.Closing p h w = record { call = w.call; name = w.name; error = w.error; made = w.made; replied = w.replied; called = w.called; is_made = w.is_made }
-taken_in progress.Over p h (inl w) = inl (record { call = w.call; name = w.name; error = w.error; made = w.made; replied = w.replied; called = w.called; done = w.done })
+taken_in progress.Closing p h w = record { call = w.call; name = w.name; error = w.error; made = w.made; replied = w.replied; called = w.called; is_made = w.is_made; leaves = w.leaves }
+taken_in progress.Over p h (inl w) = inl (record { call = w.call; name = w.name; error = w.error; made = w.made; replied = w.replied; called = w.called; done = w.done; broken = w.broken })
 taken_in progress.Over p h (inr w) =
-    inr (record { call = w.call; name = w.name; closing = w.closing; error = w.error; reply = w.reply; made = w.made; end = w.end; replied = w.replied; called = w.called; done = w.done })
+    inr (record { call = w.call; name = w.name; closing = w.closing; error = w.error; reply = w.reply; made = w.made; end = w.end; replied = w.replied; called = w.called; done = w.done; broken = w.broken })
 
 pub has_taken : {L : Type 0} (p : Peering L) (h : List Local) → Has p h → Has (record p { replies = [] }) h
 has_taken p h x = taken_in p.progress p h x
@@ -89,7 +93,7 @@ pub link_of-with_link : {L : Type 0} (d : L) (p : Peering L) (w : L) → link_of
 link_of-with_link d p w = link_at-with d p.held w
 
 exchanging_with : {L : Type 0} (call : Call) (o : Opened L Authentication) (p : Option Prepared) (w : L) (h : List Local) → IsExchanging call o p h → IsExchanging call (record o { negotiation = record o.negotiation { codec = record o.negotiation.codec { link = w } } }) p h
-exchanging_with call o p w h k = record { made = k.made; prepared = k.prepared; known = k.known; opening = opening_with_link peer_mechanism o w (link_in h) k.opening; given = k.given; sent = k.sent }
+exchanging_with call o p w h k = record { made = k.made; asked = k.asked; prepared = k.prepared; known = k.known; opening = opening_with_link peer_mechanism o w (link_in h) k.opening; given = k.given; sent = k.sent }
 
 early_with : {L : Type 0} (s : Stage) (call : Call) (o : Opened L Authentication) (p : Option Prepared) (w : L) (h : List Local) → IsHeldAt s call o p h → IsHeldAt s call (record o { negotiation = record o.negotiation { codec = record o.negotiation.codec { link = w } } }) p h
 early_with stage.Idle call o p w h k = absurd k
@@ -100,7 +104,7 @@ early_with stage.Ended call o p w h k = k
 
 engine_with : {L : Type 0} (before arrived : List ℕ) (s : State L) (w : L) (x : _) → EngineHas before arrived s x → EngineHas before arrived (record s { wire = record s.wire { codec = record s.wire.codec { link = w } } }) x
 engine_with before arrived s w x k =
-    record { out = k.out; joined = k.joined; said = k.said; heard = k.heard; limited = record { told = k.limited.told; least = k.limited.least; first = k.limited.first; reads = k.limited.reads }; sized = k.sized }
+    record { out = k.out; joined = k.joined; said = k.said; heard = k.heard; limited = record { told = k.limited.told; least = k.limited.least; first = k.limited.first; reads = k.limited.reads }; sized = k.sized; framed = k.framed; bounded = record { reads = k.bounded.reads; writes = k.bounded.writes } }
 
 running_with : {L : Type 0} (call : Call) (s : State L) (w : L) (h : List Local) → IsRunning call s h → IsRunning call (record s { wire = record s.wire { codec = record s.wire.codec { link = w } } }) h
 running_with call s w h k =
@@ -108,6 +112,7 @@ running_with call s w h k =
       layer = k.layer;
       x = k.x;
       made = k.made;
+      asked = k.asked;
       p = k.p;
       prepared = k.prepared;
       before = k.before;
@@ -119,7 +124,9 @@ running_with call s w h k =
       runs = engine_with k.unwritten k.arrived s w (record { events = k.since; given = given_in h; sent = sent_in h }) k.runs;
       began = k.began;
       opens = k.opens;
+      says = k.says;
       idle = k.idle;
+      own = k.own;
       start = k.start;
       calm = k.calm;
     }
@@ -133,9 +140,27 @@ held_with call Moving w h k = absurd k
 called_with : {L : Type 0} (call : Call) (held : Held L) (w : L) (h : List Local) → HasCalled call held h → HasCalled call (with_link held w) h
 called_with call held w h c = record { holds = held_with call held w h c.holds; caused = c.caused }
 
+early_fault_with : {L : Type 0} (e : ConnectionFault) (s : State L) (w : L) (h : List Local) → EarlyFault e s h → EarlyFault e (record s { wire = record s.wire { codec = record s.wire.codec { link = w } } }) h
+early_fault_with (connection.Memory a) s w h u = u
+early_fault_with (connection.TransportError t) s w h u = u
+early_fault_with connection.IllegalState s w h u = u
+early_fault_with connection.NotImplemented s w h u = u
+early_fault_with connection.NotFound s w h u = u
+early_fault_with connection.RemoteClosed s w h u = u
+early_fault_with (connection.RemoteClosedWithError x) s w h u = u
+
+late_fault_with : {L : Type 0} (e : ConnectionFault) (s : State L) (w : L) (h : List Local) → LateFault e s h → LateFault e (record s { wire = record s.wire { codec = record s.wire.codec { link = w } } }) h
+late_fault_with (connection.Memory a) s w h u = u
+late_fault_with (connection.TransportError t) s w h u = u
+late_fault_with connection.IllegalState s w h u = u
+late_fault_with connection.NotImplemented s w h u = u
+late_fault_with connection.NotFound s w h u = u
+late_fault_with connection.RemoteClosed s w h u = u
+late_fault_with (connection.RemoteClosedWithError x) s w h u = u
+
 unmade_at_with : {L : Type 0} (fault : Option ConnectionFault) (s : State L) (w : L) (h : List Local) → IsUnmadeAt fault s h → IsUnmadeAt fault (record s { wire = record s.wire { codec = record s.wire.codec { link = w } } }) h
 unmade_at_with None s w h u = record { unheard = u.unheard; kept = u.kept; sound = u.sound }
-unmade_at_with (Some e) s w h u = u
+unmade_at_with (Some e) s w h u = (early_fault_with e s w h u.0, u.1)
 
 unmade_with : {L : Type 0} (fault : Option ConnectionFault) (held : Held L) (w : L) (h : List Local) → IsUnmade fault held h → IsUnmade fault (with_link held w) h
 unmade_with fault (Early o p) w h u = u
@@ -145,13 +170,19 @@ unmade_with fault Moving w h u = absurd u
 
 fault_with : {L : Type 0} (fault : Option ConnectionFault) (s : State L) (w : L) (h : List Local) → IsFaultIn fault s h → IsFaultIn fault (record s { wire = record s.wire { codec = record s.wire.codec { link = w } } }) h
 fault_with None s w h u = u
-fault_with (Some e) s w h u = u
+fault_with (Some e) s w h u = (late_fault_with e s w h u.0, u.1)
 
 made_with : {L : Type 0} (fault : Option ConnectionFault) (held : Held L) (w : L) (h : List Local) → IsMadeIn fault held h → IsMadeIn fault (with_link held w) h
 made_with fault (Early o p) w h u = u
 made_with fault (Late s) w h u = (u.0, fault_with fault s w h u.1)
 made_with fault (Unopened c) w h u = u
 made_with fault Moving w h u = absurd u
+
+leaves_with : {L : Type 0} (held : Held L) (w : L) → IsLeavingIn held → IsLeavingIn (with_link held w)
+leaves_with (Early o p) w l = l
+leaves_with (Late s) w l = l
+leaves_with (Unopened c) w l = l
+leaves_with Moving w l = l
 
 busy_early : {L : Type 0} (o : Opened L Authentication) (p : Option Prepared) (w : L) → IsBusyWith (record o { negotiation = record o.negotiation { codec = record o.negotiation.codec { link = w } } }) p → IsBusyWith o p
 busy_early o None w b = b
@@ -162,6 +193,12 @@ busy_with (Early o p) w b = busy_early o p w b
 busy_with (Late s) w b = b
 busy_with (Unopened c) w b = b
 busy_with Moving w b = b
+
+broken_with : {L : Type 0} (held : Held L) (w : L) (h : List Local) → IsBrokenHeld held h → IsBrokenHeld (with_link held w) h
+broken_with (Early o p) w h b = tt
+broken_with (Late s) w h b = b
+broken_with (Unopened c) w h b = tt
+broken_with Moving w h b = tt
 
 with_in : {L : Type 0} (q : Progress) (p : Peering L) (w : L) (h : List Local) → HasIn q p h → HasIn q (with_link_of p w) h
 with_in {L} progress.Idle p w h n =
@@ -181,11 +218,11 @@ with_in {L} progress.Idle p w h n =
 with_in progress.Opening p w h x = record { call = x.call; made = x.made; replied = x.replied; called = called_with x.call p.held w h x.called; unmade = unmade_with p.fault p.held w h x.unmade }
 with_in progress.Open p w h x = record { call = x.call; name = x.name; made = x.made; replied = x.replied; called = called_with x.call p.held w h x.called; is_made = made_with p.fault p.held w h x.is_made }
 with_in progress.Closing p w h x =
-    record { call = x.call; name = x.name; error = x.error; made = x.made; replied = x.replied; called = called_with x.call p.held w h x.called; is_made = made_with p.fault p.held w h x.is_made }
+    record { call = x.call; name = x.name; error = x.error; made = x.made; replied = x.replied; called = called_with x.call p.held w h x.called; is_made = made_with p.fault p.held w h x.is_made; leaves = leaves_with p.held w x.leaves }
 with_in progress.Over p w h (inl x) =
-    inl (record { call = x.call; name = x.name; error = x.error; made = x.made; replied = x.replied; called = called_with x.call p.held w h x.called; done = λ b. x.done (busy_with p.held w b) })
+    inl (record { call = x.call; name = x.name; error = x.error; made = x.made; replied = x.replied; called = called_with x.call p.held w h x.called; done = λ b. x.done (busy_with p.held w b); broken = broken_with p.held w h x.broken })
 with_in progress.Over p w h (inr x) =
-    inr (record { call = x.call; name = x.name; closing = x.closing; error = x.error; reply = x.reply; made = x.made; end = x.end; replied = x.replied; called = called_with x.call p.held w h x.called; done = λ b. x.done (busy_with p.held w b) })
+    inr (record { call = x.call; name = x.name; closing = x.closing; error = x.error; reply = x.reply; made = x.made; end = x.end; replied = x.replied; called = called_with x.call p.held w h x.called; done = λ b. x.done (busy_with p.held w b); broken = broken_with p.held w h x.broken })
 
 pub has_with_link : {L : Type 0} (p : Peering L) (w : L) (h : List Local) → Has p h → Has (with_link_of p w) h
 has_with_link p w h x = with_in p.progress p w h x
@@ -317,11 +354,17 @@ causes_law p h x = caused_in p.progress p h x
 
 -- ---- the frames are those of the bytes
 
-tied_none : (h : List Local) → given_in h ≡ [] → sent_in h ≡ [] → IsTied h
-tied_none h g s = record { heard = inl g; said = inl s }
+tied_none : (h : List Local) → given_in h ≡ [] → sent_in h ≡ [] → IsQueued h → IsTied h
+tied_none h g s q =
+    record {
+      heard = inl g;
+      said = q;
+      framed = subst (λ (xs : List Frame). All IsFramed xs) (sym s) (All-nil IsFramed);
+      sized = subst (λ (xs : List Frame). AllWithin (write_limit (given_in h)) xs) (sym s) tt;
+    }
 
 tied_running : {L : Type 0} (call : Call) (s : State L) (h : List Local) → IsRunning call s h → IsTied h
-tied_running call s h k = record { heard = inr (s.wire.codec.input ++ [], read_running call s h [] k); said = inr (queued_running call s h k) }
+tied_running call s h k = record { heard = inr (s.wire.codec.input ++ [], read_running call s h [] k); said = queued_running call s h k; framed = k.runs.framed; sized = subst (λ (n : ℕ). AllWithin n (sent_in h)) (k.runs.limited.told ∙ k.runs.bounded.writes) k.runs.sized }
 
 sent_early : {L : Type 0} (s : Stage) (call : Call) (o : Opened L Authentication) (p : Option Prepared) (h : List Local) → IsHeldAt s call o p h → sent_in h ≡ []
 sent_early stage.Idle call o p h k = absurd k
@@ -332,19 +375,19 @@ sent_early stage.Ended call o p h k = k.sent
 
 tied_early : {L : Type 0} (s : Stage) (call : Call) (o : Opened L Authentication) (p : Option Prepared) (h : List Local) → IsHeldAt s call o p h → IsTied h
 tied_early stage.Idle call o p h k = absurd k
-tied_early stage.Negotiating call o p h k = tied_none h k.given k.sent
-tied_early stage.Header call o p h k = tied_none h k.given k.sent
-tied_early stage.Exchanged call o p h k = tied_none h k.given k.sent
-tied_early stage.Ended call o p h k = tied_none h k.given k.sent
+tied_early stage.Negotiating call o p h k = tied_none h k.given k.sent (queued_exchanging call o p h k)
+tied_early stage.Header call o p h k = tied_none h k.given k.sent (queued_exchanging call o p h k)
+tied_early stage.Exchanged call o p h k = tied_none h k.given k.sent (queued_exchanging call o p h k)
+tied_early stage.Ended call o p h k = tied_none h k.given k.sent k.queued
 
 tied_held : {L : Type 0} (call : Call) (held : Held L) (h : List Local) → IsHeld call held h → IsTied h
 tied_held call (Early o p) h k = tied_early o.stage call o p h k
 tied_held call (Late s) h k = tied_running call s h k
-tied_held call (Unopened c) h k = tied_none h k.given k.sent
+tied_held call (Unopened c) h k = tied_none h k.given k.sent k.queued
 tied_held call Moving h k = absurd k
 
 tied_in : {L : Type 0} (q : Progress) (p : Peering L) (h : List Local) → HasIn q p h → IsTied h
-tied_in progress.Idle p h x = tied_none h x.given x.sent
+tied_in progress.Idle p h x = tied_none h x.given x.sent (queued_idle h x.made x.link x.sent)
 tied_in progress.Opening p h x = tied_held x.call p.held h x.called.holds
 tied_in progress.Open p h x = tied_held x.call p.held h x.called.holds
 tied_in progress.Closing p h x = tied_held x.call p.held h x.called.holds
@@ -354,10 +397,33 @@ tied_in progress.Over p h (inr x) = tied_held x.call p.held h x.called.holds
 pub tied_law : {L : Type 0} (p : Peering L) (h : List Local) → Has p h → IsTied h
 tied_law p h x = tied_in p.progress p h x
 
+-- ---- what an end says
+
+-- no frame was queued
+said_none : (h : List Local) → sent_in h ≡ [] → HasSaid h
+said_none h s = inl s
+
+said_held : {L : Type 0} (call : Call) (held : Held L) (h : List Local) → IsHeld call held h → HasSaid h
+said_held call (Early o p) h k = said_none h (sent_early o.stage call o p h k)
+said_held call (Late s) h k = k.says
+said_held call (Unopened c) h k = said_none h k.sent
+said_held call Moving h k = absurd k
+
+said_in : {L : Type 0} (q : Progress) (p : Peering L) (h : List Local) → HasIn q p h → HasSaid h
+said_in progress.Idle p h x = said_none h x.sent
+said_in progress.Opening p h x = said_held x.call p.held h x.called.holds
+said_in progress.Open p h x = said_held x.call p.held h x.called.holds
+said_in progress.Closing p h x = said_held x.call p.held h x.called.holds
+said_in progress.Over p h (inl x) = said_held x.call p.held h x.called.holds
+said_in progress.Over p h (inr x) = said_held x.call p.held h x.called.holds
+
+pub said_law : {L : Type 0} (p : Peering L) (h : List Local) → Has p h → IsSaidFor (prepared_in (made_in h)) (made_in h) (given_in h) (sent_in h)
+said_law p h x = said_in p.progress p h x
+
 -- and each whole frame was taken, where it has sorted all that it read
 taken_up_held : {L : Type 0} (call : Call) (held : Held L) (h : List Local) → IsHeld call held h → IsActive held → IsSorted held → IsTakenUp h
 taken_up_held call (Early o p) h k a s = inl (sent_early o.stage call o p h k)
-taken_up_held call (Late s) h k a part = inr (s.wire.codec.input ++ [], read_running call s h [] k, subst IsPart (sym (append-nil s.wire.codec.input)) part)
+taken_up_held call (Late s) h k a rest = inr (s.wire.codec.input ++ [], read_running call s h [] k, subst IsPart (sym (append-nil s.wire.codec.input)) rest.part)
 taken_up_held call (Unopened c) h k a s = inl k.sent
 taken_up_held call Moving h k a s = absurd k
 
@@ -387,15 +453,7 @@ running_spent_at true true call s h e f k b = inr (broken (b f))
 running_spent : {L : Type 0} (call : Call) (s : State L) (h : List Local) → IsRunning call s h → IsBrokenIn s h → (is_stopped s.phase ≡ false) ⊎ IsSpent h
 running_spent call s h k b = running_spent_at (is_stopped s.phase) (has_failed s.phase) call s h refl refl k b
 
-broken_unmade : {L : Type 0} (fault : Option ConnectionFault) (s : State L) (h : List Local) → IsUnmadeAt fault s h → IsBrokenIn s h
-broken_unmade None s h u = broken_sound s h u.sound
-broken_unmade (Some e) s h u = u.1.1
-
-broken_made : {L : Type 0} (fault : Option ConnectionFault) (s : State L) (h : List Local) → IsFaultIn fault s h → IsBrokenIn s h
-broken_made None s h f = broken_sound s h f
-broken_made (Some e) s h f = f.1
-
-known_at : {L : Type 0} (s : Stage) (call : Call) (o : Opened L Authentication) (p : Option Prepared) (h : List Local) → IsMidway s → IsHeldAt s call o p h → IsKnown p
+pub known_at : {L : Type 0} (s : Stage) (call : Call) (o : Opened L Authentication) (p : Option Prepared) (h : List Local) → IsMidway s → IsHeldAt s call o p h → IsKnown p
 known_at stage.Idle call o p h m k = absurd m
 known_at stage.Negotiating call o p h m k = k.known
 known_at stage.Header call o p h m k = k.known
@@ -409,7 +467,7 @@ way_at stage.Header o e m n = subst IsUnderWay (sym e) tt
 way_at stage.Exchanged o e m n = absurd (n e)
 way_at stage.Ended o e m n = absurd m
 
-ready_at : {L : Type 0} (o : Opened L Authentication) (p : Option Prepared) → IsMidway o.stage → IsKnown p → (IsExchangedWith o p → ⊥) → IsReadyWith o p
+pub ready_at : {L : Type 0} (o : Opened L Authentication) (p : Option Prepared) → IsMidway o.stage → IsKnown p → (IsExchangedWith o p → ⊥) → IsReadyWith o p
 ready_at o None m k n = k
 ready_at o (Some p) m k n = way_at o.stage o refl m n
 

@@ -1,9 +1,13 @@
 pub mod Histories
+pub mod Said
 pub mod Moved
 pub mod Written
+pub mod Layers
 pub mod Parts
+pub mod Leaves
 pub mod Hears
 pub mod Faulty
+pub mod Stays
 pub mod Grows
 pub mod Quiet
 pub mod Answers
@@ -11,5 +15,7 @@ pub mod Advances
 pub mod Openings
 pub mod Starts
 pub mod Laws
+pub mod Rest
 pub mod Bound
 pub mod Turns
+pub mod Broken

@@ -11,10 +11,11 @@ use Rattle.amqp_engine.specs.State.{State}
 use Rattle.amqp_engine.proofs.Says.{goes_on}
 use Rattle.amqp_words.specs.declared.call.Call.{Call}
 use Rattle.amqp_words.specs.declared.reply.NamedReply.{NamedReply}
-use Rattle.amqp_peer.specs.Causes.{AllCaused, BeginsWithOpen, EndsExchange}
+use Rattle.amqp_peer.specs.Causes.{prepared_in, has_layer, AllCaused, BeginsWithOpen, EndsExchange}
 use Rattle.amqp_peer.specs.History.{Local, made_in, link_in, given_in, sent_in, replied_in, moment_in, since_in, at_link, got, put, IsInside}
 use Rattle.amqp_peer.specs.Peering.{IsRunning}
 use Rattle.amqp_peer.proofs.Histories.{link_in-append, given_in-append, sent_in-append, replied_in-append, inside-append, moment_in-inside, made_in-keeps, given_in-at, sent_in-at, replied_in-at, link_in-at, inside-at, since_in-at, caused-at, given_in-got, sent_in-got, link_in-got, replied_in-got, inside-got, caused-got, sent_in-put, given_in-put, link_in-put, replied_in-put, inside-put, caused-put, since_in-put, once_more}
+use Rattle.amqp_peer.proofs.Said.{IsDue, has_said, said_stays, said_due}
 
 -- what passed at the link, then the frames that were read, then those that were queued
 abbrev pub moved : {L : Type 0} {link : Ghosts L} {old new : State L} → Ran link old new → List Local
@@ -67,7 +68,7 @@ pub replied_after : {events : List LinkEvent} {given queued : List Frame} {es : 
 replied_after {events} {given} {queued} {es} h p = replied_in-append es h ∙ ap (λ (u : List NamedReply). replied_in h ++ u) p.silent ∙ append-nil (replied_in h)
 
 -- the idle time counts from the frame that was read, if one was
-since_parts : (events : List LinkEvent) (given queued : List Frame) (h : List Local) → given ≡ [] → since_in ((put queued ++ (got given ++ at_link events)) ++ h) ≡ since_in h
+pub since_parts : (events : List LinkEvent) (given queued : List Frame) (h : List Local) → given ≡ [] → since_in ((put queued ++ (got given ++ at_link events)) ++ h) ≡ since_in h
 since_parts events given queued h e =
     ap since_in (append_assoc (put queued) (got given ++ at_link events) h) ∙ since_in-put queued ((got given ++ at_link events) ++ h)
     ∙ ap (λ (g : List Frame). since_in ((got g ++ at_link events) ++ h)) e ∙ since_in-at events h
@@ -86,13 +87,14 @@ pub begins_more : (xs ys : List Frame) → BeginsWithOpen xs → BeginsWithOpen 
 begins_more xs ys b = record { channel = b.channel; first = b.first; more = b.more ++ ys; is = ap (λ (u : List Frame). u ++ ys) b.is }
 
 -- a connection that went on goes on behind its headers
-pub running_grows : {L : Type 0} (link : Ghosts L) (at : ℕ) (call : Call) (old new : State L) (h : List Local) (r : Ran link old new) → IsMoment at old r.given new → moment_in h ≡ at → IsRunning call old h → IsRunning call new (moved r ++ h)
-running_grows {L} link at call old new h r moment m k =
+pub running_grows : {L : Type 0} (link : Ghosts L) (at : ℕ) (call : Call) (old new : State L) (h : List Local) (r : Ran link old new) → IsMoment at old r.given new → IsDue (made_in h) old.phase r.queued → moment_in h ≡ at → IsRunning call old h → IsRunning call new (moved r ++ h)
+running_grows {L} link at call old new h r moment d m k =
     let p = passed r in
     record {
       layer = k.layer;
       x = k.x;
       made = k.made;
+      asked = ap has_layer (made_after h p) ∙ k.asked;
       p = k.p;
       prepared = k.prepared;
       before = k.before;
@@ -106,7 +108,11 @@ running_grows {L} link at call old new h r moment m k =
           (goes_on link k.unwritten k.arrived old new (record { events = k.since; given = given_in h; sent = sent_in h }) r k.runs));
       began = once_more EndsExchange (moved r) h k.began;
       opens = subst BeginsWithOpen (sym (sent_after h p)) (begins_more (sent_in h) r.queued k.opens);
+      says = has_said (moved r ++ h) (made_in h) (given_in h ++ r.given) (sent_in h ++ r.queued) (made_after h p) (given_after h p) (sent_after h p)
+          (said_stays (prepared_in (made_in h)) (made_in h) (given_in h) r.given (sent_in h ++ r.queued)
+          (said_due old.phase new.phase old.reason (prepared_in (made_in h)) (made_in h) (given_in h) (sent_in h) r.queued d k.runs.said k.runs.heard (r.said (sent_in h) k.runs.said) k.says));
       idle = r.idle ∙ k.idle;
+      own = r.own ∙ k.own;
       start = since_after at r h m moment k.start;
       calm = r.calm k.calm;
     }

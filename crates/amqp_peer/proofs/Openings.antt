@@ -12,7 +12,7 @@ use Rattle.amqp_transport.specs.Wire.{Wire}
 use Rattle.amqp_engine.specs.declared.error.Error.{Error as ConnectionFault}
 use Rattle.amqp_engine.specs.declared.error.Error.TheVariants as connection
 use Rattle.amqp_engine.specs.Calls.{OpensTo}
-use Rattle.amqp_engine.specs.Sentence.{Has as EngineHas}
+use Rattle.amqp_engine.specs.Sentence.{Has as EngineHas, write_limit}
 use Rattle.amqp_engine.specs.Phases.{has_failed}
 use Rattle.amqp_engine.specs.Settings.{open_of}
 use Rattle.amqp_engine.specs.State.{State, open_frame}
@@ -25,7 +25,7 @@ use Rattle.amqp_opening.specs.declared.opening.OpeningPoll.TheVariants as poll
 use Rattle.amqp_opening.specs.declared.opening.Stage.{Stage}
 use Rattle.amqp_opening.specs.declared.opening.Stage.TheVariants as stage
 use Rattle.amqp_opening.specs.Authentication.{peer_mechanism, same_by}
-use Rattle.amqp_opening.specs.Opening.{amqp_header, Opened, IsUnderWay, IsAtRestOrFull, HasAt, HasOpening, IsGuarded, Moves as OpeningMoves, Keeps, Ran as OpeningRan}
+use Rattle.amqp_opening.specs.Opening.{amqp_header, Opened, IsUnderWay, IsAtRestOrFull, HasAt, HasOpening, IsGuarded, HasEnding, Moves as OpeningMoves, Keeps, Ran as OpeningRan}
 use Rattle.amqp_opening.proofs.Exchanges.{same_made}
 use Rattle.amqp_words.specs.declared.call.Call.{Call}
 use Rattle.amqp_words.specs.declared.open_error.OpenError.TheVariants as failed
@@ -36,16 +36,21 @@ use Rattle.amqp_peer.specs.declared.held.Held.TheVariants.{Early, Late, Unopened
 use Rattle.amqp_peer.specs.declared.peer.Progress.{Progress}
 use Rattle.amqp_peer.specs.declared.peer.Progress.TheVariants as progress
 use Rattle.amqp_peer.specs.declared.prepared.Prepared.{Prepared}
-use Rattle.amqp_peer.specs.Causes.{MadeIn, IsOpenCause, in_opening, OpenCauseIn, BeginsWithOpen, TransportCause, opening as own_opening, prepared_in}
+use Rattle.amqp_peer.specs.Causes.{MadeIn, has_layer, IsQueued, IsOpenCause, in_opening, OpenCauseIn, BeginsWithOpen, opening as own_opening, prepared_in}
 use Rattle.amqp_peer.specs.Held.{IsReadyWith, IsMidway, IsBusyWith, IsBusy, IsExchangedWith, bound, link_at}
 use Rattle.amqp_peer.specs.History.{Local, Put, Exchanged, Replied, made_in, link_in, given_in, sent_in, moment_in, at_link}
+use Rattle.amqp_peer.specs.Layers.{HasLayer}
 use Rattle.amqp_peer.specs.Peering.{Peering, HasIn, HasCalled, IsHeld, IsHeldAt, IsExchanging, IsRunning, IsFaultless, IsMadeIn, IsUnmade, IsUnmadeAt, HasWritten, IsWaiting, HasFailedOpen}
-use Rattle.amqp_peer.specs.Prepared.{sasl_of}
+use Rattle.amqp_peer.specs.Prepared.{prepared_of, sasl_of}
+use Rattle.amqp_peer.specs.Said.{IsSaidFor}
 use Rattle.amqp_peer.specs.Replies.{open_failed}
 use Rattle.amqp_peer.specs.Runs.{IsSettled, Advanced, Rested, told, open_error_of}
-use Rattle.amqp_peer.proofs.Histories.{given_in-at, sent_in-at, replied_in-at, link_in-at, inside-at, caused-at, once_now}
+use Rattle.amqp_peer.proofs.Faulty.{broken_large}
+use Rattle.amqp_peer.proofs.Histories.{given_in-at, sent_in-at, replied_in-at, link_in-at, inside-at, caused-at}
+use Rattle.amqp_peer.proofs.Layers.{layer_exchanging, layer_ended, layer_same}
 use Rattle.amqp_peer.proofs.Moved.{Passed, made_after, link_after, given_after, sent_after, replied_after}
-use Rattle.amqp_peer.proofs.Written.{intro_read, written_guarded, written_exchanging}
+use Rattle.amqp_peer.proofs.Quiet.{quiet_replied, queued_quiet}
+use Rattle.amqp_peer.proofs.Written.{intro_read, written_guarded, written_exchanging, queued_guarded, queued_exchanging}
 
 -- ---- what passed at the link alone
 
@@ -62,6 +67,7 @@ exchanging_grows link call o o' left left' p es h m k x =
     let q = at_passed es in
     record {
       made = made_same (sasl_of call) o.has_sasl o'.has_sasl o.negotiation.exchange o'.negotiation.exchange m.layer m.kept x.made;
+      asked = ap has_layer (made_after h q) ∙ x.asked ∙ sym m.layer;
       prepared = x.prepared;
       known = x.known;
       opening = subst (λ (u : List LinkEvent). HasOpening peer_mechanism o' u) (sym (link_after h q)) (k (link_in h) x.opening);
@@ -187,6 +193,7 @@ early_rests {L} link at old o o' p left e r n =
             (of_exchanging o'.stage w.1.call o' p (at_link n.events ++ h) n.comes.0 (exchanging_grows link w.1.call o o' (2 ^ 62) left p n.events h n.moves n.comes.2 (held_early w.1.call old.held o p h e r w.1.called))));
       };
       settled = λ a. settled_in o' p n.events left n.moves.counted n.comes.1 n.comes.3;
+      concluded = λ a. absurd a;
       begun = λ x. way_exchanged_not o' p n.comes.0 x;
     }
 
@@ -209,9 +216,15 @@ fails_open {L} link old o o' p left e h l r n w =
     let calls : made_in (at_link n.events ++ h) ≡ (old.name, w.call) ∷ [] = made_after h q ∙ w.made in
     let cause : OpenCauseIn (made_in (at_link n.events ++ h)) e (link_in (at_link n.events ++ h)) =
     subst (λ (cs : List (ℕ × Call)). OpenCauseIn cs e (link_in (at_link n.events ++ h))) (sym calls)
-    (subst (λ (u : List LinkEvent). IsOpenCause w.call e u) (sym (link_after h q)) (in_opening o'.has_sasl o'.negotiation.exchange made ends.cause)) in
+    (subst (λ (u : List LinkEvent). IsOpenCause w.call e u) (sym (link_after h q)) (in_opening o'.has_sasl o'.negotiation.exchange made ends)) in
+    let guarded = subst (λ (u : List LinkEvent). IsGuarded peer_mechanism o'.has_sasl o'.negotiation.exchange u) (sym (link_after h q)) ends.guarded in
     let wrote : HasWritten w.call (at_link n.events ++ h) = written_guarded w.call o'.has_sasl o'.negotiation.exchange (at_link n.events ++ h) made
-    (subst (λ (u : List LinkEvent). IsGuarded peer_mechanism o'.has_sasl o'.negotiation.exchange u) (sym (link_after h q)) ends.guarded) in
+    guarded in
+    let sent : sent_in (at_link n.events ++ h) ≡ [] = sent_after h q ∙ append-nil (sent_in h) ∙ k.sent in
+    let queued : IsQueued (Replied (open_failed old.name (failed.Negotiation e)) ∷ at_link n.events ++ h) =
+    queued_guarded o'.has_sasl o'.negotiation.exchange (Replied (open_failed old.name (failed.Negotiation e)) ∷ at_link n.events ++ h) (ap has_layer (made_after h q) ∙ k.asked ∙ sym n.moves.layer) sent guarded in
+    let exchange : HasLayer (sasl_of w.call) (Replied (open_failed old.name (failed.Negotiation e)) ∷ at_link n.events ++ h) =
+    layer_ended w.call o'.has_sasl o'.negotiation.exchange e (Replied (open_failed old.name (failed.Negotiation e)) ∷ at_link n.events ++ h) made sent (subst (λ (u : List LinkEvent). HasEnding peer_mechanism o'.has_sasl o'.negotiation.exchange e u) (sym (link_after h q)) ends) in
     record {
       call = w.call;
       name = old.name;
@@ -220,10 +233,11 @@ fails_open {L} link old o o' p left e h l r n w =
       replied = ap (λ (u : List NamedReply). u ++ open_failed old.name (failed.Negotiation e) ∷ []) (replied_after h q ∙ w.replied);
       called = record {
         holds = subst (λ (s : Stage). IsHeldAt s w.call o' p (Replied (open_failed old.name (failed.Negotiation e)) ∷ at_link n.events ++ h)) (sym n.comes.0)
-            (record { written = wrote; given = given_after h q ∙ append-nil (given_in h) ∙ k.given; sent = sent_after h q ∙ append-nil (sent_in h) ∙ k.sent });
+            (record { written = wrote; exchange = exchange; queued = queued; given = given_after h q ∙ append-nil (given_in h) ∙ k.given; sent = sent });
         caused = (cause, q.caused h w.called.caused);
       };
       done = λ z. ended_done o' p n.comes.0 z;
+      broken = tt;
     }
 
 pub early_fails : {L : Type 0} (link : Ghosts L) (at : ℕ) (old : Peering L) (o o' : Opened L Authentication) (p : Option Prepared) (left : ℕ) (e : NegotiationError) → old.held ≡ Early o p → IsReadyWith o p → OpeningRan {E = AllocError} link peer_mechanism o (2 ^ 62) (Ok (poll.Failed e)) o' left
@@ -241,6 +255,7 @@ early_fails {L} link at old o o' p left e l r n =
         grows = λ h t x. let w = waiting_early old.progress old o p h l r x in inl (fails_open link old o o' p left e h l r n w.1);
       };
       settled = λ a. absurd (ended_not o' p n.comes.0 a);
+      concluded = λ a. absurd a;
       begun = λ x. ended_exchanged_not o' p n.comes.0 x;
     }
 
@@ -286,15 +301,16 @@ held_exchanged {L} call held o p h e r c =
     subst (λ (s : Stage). IsHeldAt s call o p h) r k
 
 -- both ends' headers went through, and then Open is queued
-begins_running : {L : Type 0} (at : ℕ) (call : Call) (o : Opened L Authentication) (p : Prepared) (s : State L) (h : List Local) → o.stage ≡ stage.Exchanged → OpensTo (bound o.negotiation.codec p.idle at) p.end (Ok s) → moment_in h ≡ at → IsExchanging call o (Some p) h
+begins_running : {L : Type 0} (at : ℕ) (call : Call) (o : Opened L Authentication) (p : Prepared) (s : State L) (h : List Local) → o.stage ≡ stage.Exchanged → OpensTo (bound o.negotiation.codec p.idle at) p.end (Ok s) → moment_in h ≡ at → prepared_in (made_in h) ≡ prepared_of call → IsExchanging call o (Some p) h
     → IsRunning call s (Put (open_frame p.end) ∷ Exchanged ∷ h)
-begins_running {L} at call o p s h r c t k =
+begins_running {L} at call o p s h r c t own k =
     let w : Wire L = bound o.negotiation.codec p.idle at in
     let opening : HasAt peer_mechanism o.has_sasl stage.Exchanged o.negotiation (link_in h) = subst (λ (z : Stage). HasAt peer_mechanism o.has_sasl z o.negotiation (link_in h)) r k.opening in
     record {
       layer = o.has_sasl;
       x = o.negotiation.exchange;
       made = k.made;
+      asked = k.asked;
       p = p;
       prepared = k.prepared;
       before = link_in h;
@@ -306,9 +322,11 @@ begins_running {L} at call o p s h r c t k =
       runs = subst (λ (xs : List Frame). EngineHas o.negotiation.codec.output o.negotiation.codec.input s (record { events = []; given = xs; sent = sent_in h ++ open_frame p.end ∷ [] })) (sym k.given)
           (subst (λ (xs : List Frame). EngineHas o.negotiation.codec.output o.negotiation.codec.input s (record { events = []; given = []; sent = xs ++ open_frame p.end ∷ [] })) (sym k.sent)
           (starts o.negotiation.codec.output o.negotiation.codec.input w p.end s c refl refl));
-      began = record { later = Put (open_frame p.end) ∷ []; earlier = Exchanged ∷ h; split = refl; held = let i = intro_read o.has_sasl o.negotiation.exchange (amqp_header ++ o.negotiation.codec.input) o.negotiation.codec.output (link_in h) opening in (i.0, o.negotiation.codec.input, i.1) };
+      began = record { later = Put (open_frame p.end) ∷ []; earlier = Exchanged ∷ h; split = refl; held = let i = intro_read o.has_sasl o.negotiation.exchange (amqp_header ++ o.negotiation.codec.input) o.negotiation.codec.output (link_in h) opening in (i.head, o.negotiation.codec.input, i.is) };
       opens = subst (λ (xs : List Frame). BeginsWithOpen (xs ++ open_frame p.end ∷ [])) (sym k.sent) (record { channel = 0; first = open_of p.end; more = []; is = refl });
+      says = subst (λ (xs : List Frame). IsSaidFor (prepared_in (made_in h)) (made_in h) (given_in h) (xs ++ open_frame p.end ∷ [])) (sym k.sent) (inr (inl (record { own = p; is_own = own ∙ k.prepared; more = []; each = tt; is = refl })));
       idle = ap (λ (z : State L). z.wire.clock.idle) c.1;
+      own = ap (λ (z : State L). z.settings.largest_read) c.1;
       start = ap (λ (z : State L). z.wire.clock.since) c.1 ∙ sym t;
       calm = starts_calm w p.end s c refl;
     }
@@ -339,7 +357,7 @@ connected {L} link at old o p s e r c =
             call = w.1.call;
             made = w.1.made;
             replied = w.1.replied;
-            called = record { holds = begins_running at w.1.call o p s h r c t k; caused = w.1.called.caused };
+            called = record { holds = begins_running at w.1.call o p s h r c t (ap prepared_in w.1.made) k; caused = w.1.called.caused };
             unmade = subst (λ (f : Option ConnectionFault). IsUnmadeAt f s (Put (open_frame p.end) ∷ Exchanged ∷ h)) (sym none) (begun_faultless at o p s h c k.given);
           });
     }
@@ -368,13 +386,15 @@ connect_fails {L} link at old o p (connection.TransportError transport.FramingEr
               made = w.1.made;
               replied = ap (λ (u : List NamedReply). u ++ answer ∷ []) w.1.replied;
               called = record {
-                holds = record { written = written_exchanging w.1.call o (Some p) h k; given = k.given; sent = k.sent };
-                caused = (once_now (TransportCause transport.FramingError) h (inr (record { limit = 512; x = open_frame p.end; least = omega arith; own = own_opening p (ap prepared_in w.1.made ∙ k.prepared); large = c.0 })), w.1.called.caused);
+                holds = record { written = written_exchanging w.1.call o (Some p) h k; exchange = layer_same (sasl_of w.1.call) h (Replied answer ∷ h) refl refl (layer_exchanging w.1.call o (Some p) h k); queued = queued_quiet h (Replied answer ∷ h) (quiet_replied answer h) (queued_exchanging w.1.call o (Some p) h k); given = k.given; sent = k.sent };
+                caused = (broken_large [] h (inr (record { limit = 512; x = open_frame p.end; is_limit = sym (ap write_limit k.given); own = own_opening p (ap prepared_in w.1.made ∙ k.prepared); large = c.0 })) refl refl, w.1.called.caused);
               };
               done = λ z. z;
+              broken = tt;
             });
       };
       settled = λ a. absurd a;
+      concluded = λ a. absurd a;
       begun = λ x. x;
     }
 connect_fails {L} link at old o p (connection.TransportError (transport.Memory x)) back l r c n = absurd c

@@ -1,5 +1,5 @@
--- Where a connection waits, it has taken each whole frame that it read.
-use Rattle.std.proofs.Common.{◌≡◌, inl, inr, ℕ, List, [], ◌∷◌, Option, Some, None, Result, Ok, Err, refl, sym, ◌∙◌, subst}
+-- Where a connection waits, it has taken each whole frame that it read, and awaits another.
+use Rattle.std.proofs.Common.{◌≡◌, inl, inr, ℕ, List, [], ◌∷◌, Option, Some, None, Result, Ok, Err, refl, sym, ap, ◌∙◌, subst}
 use Rattle.amqp_frames.specs.declared.body.FrameBody.{FrameBody}
 use Rattle.amqp_frames.specs.declared.body.FrameBody.TheVariants as b
 use Rattle.amqp_wire.specs.declared.frame.Front.{Front}
@@ -14,8 +14,7 @@ use Rattle.amqp_transport.specs.declared.transport.Next.{Next}
 use Rattle.amqp_transport.specs.declared.transport.Next.TheVariants as next
 use Rattle.amqp_transport.specs.Kinds.{amqp_spells}
 use Rattle.amqp_transport.specs.Stream.{IsPart}
-use Rattle.amqp_transport.specs.Wire.{Wire, Answers, Answered, Ends, Polled, PolledAt}
-use Rattle.amqp_engine.specs.declared.engine.EngineStep.{EngineStep}
+use Rattle.amqp_transport.specs.Wire.{Wire, Answered, Ends, Polled, PolledAt}
 use Rattle.amqp_engine.specs.declared.engine.EngineStep.TheVariants as step
 use Rattle.amqp_engine.specs.declared.error.Error.{Error}
 use Rattle.amqp_engine.specs.declared.phase.Phase.{Phase}
@@ -26,6 +25,7 @@ use Rattle.amqp_engine.specs.Calls.{After, Reads, Acts, ThenActs, Steps}
 use Rattle.amqp_engine.specs.Machine.{awaited_answer, admitted_answer, arrived_answer, plan_of, answer_to}
 use Rattle.amqp_engine.specs.State.{State}
 use Rattle.amqp_transport.specs.declared.transport.Flush.{Flush}
+use Rattle.amqp_peer.specs.Held.{IsAwaiting}
 
 -- ---- a frame that came is never answered by a wait
 
@@ -127,3 +127,36 @@ then_part (Err e) link at mid new a = absurd (cc a.0)
 -- what was read and not given is no whole frame
 pub pending_part : {L : Type 0} (link : Ghosts L) (at : ℕ) (old new : State L) → Steps link at old (Ok step.Pending) new → IsPart new.wire.codec.input
 pending_part link at old new s = then_part s.flush link at s.mid new s.acts
+
+-- ---- a frame is awaited
+
+after_phase : {L : Type 0} (at : ℕ) (s : State L) (answer : Result (Next Frame) TransportFault) (new : State L) → After at s answer (Ok step.Pending) new → new.phase ≡ s.phase
+after_phase at s (Ok (next.Frame x)) new a = absurd (answer_not s.phase s x a.0)
+after_phase {L} at s (Ok next.Pending) new a = ap (λ (z : State L). z.phase) a.1
+after_phase at s (Ok next.Ended) new a = absurd (cc a.0)
+after_phase at s (Err e) new a = absurd (cc a.0)
+
+reads_phase : {L : Type 0} (link : Ghosts L) (at : ℕ) (old new : State L) → Reads link at old (Ok step.Pending) new → new.phase ≡ old.phase
+reads_phase link at old new r = after_phase at (record old { wire = r.wire }) r.answer new r.does
+
+acts_awaits : {L : Type 0} (q : Phase) (link : Ghosts L) (at : ℕ) (old new : State L) → old.phase ≡ q → Acts q link at old (Ok step.Pending) new → IsAwaiting new.phase
+acts_awaits p.OpenSent link at old new e a = subst IsAwaiting (sym (reads_phase link at old new a ∙ e)) tt
+acts_awaits p.Opened link at old new e (inl a) = absurd (cc a.1.0)
+acts_awaits p.Opened link at old new e (inr (n, inl a)) = subst IsAwaiting (sym (reads_phase link at old new a ∙ e)) tt
+acts_awaits p.Opened link at old new e (inr (n, inr a)) = absurd a.0
+acts_awaits p.CloseReceived link at old new e a = absurd (cc a.0)
+acts_awaits p.Refused link at old new e a = absurd (cc a.0)
+acts_awaits (p.Rejected why) link at old new e (inl a) = absurd (cc a.0)
+acts_awaits (p.Rejected why) link at old new e (inr a) = absurd a.0
+acts_awaits p.CloseSent link at old new e a = subst IsAwaiting (sym (reads_phase link at old new a ∙ e)) tt
+acts_awaits p.Discarding link at old new e a = subst IsAwaiting (sym (reads_phase link at old new a ∙ e)) tt
+acts_awaits p.Ended link at old new e a = absurd (cc a.0)
+acts_awaits p.Failed link at old new e a = absurd (cc a.0)
+
+then_awaits : {L : Type 0} (flush : Result Flush Error) (link : Ghosts L) (at : ℕ) (mid new : State L) → ThenActs link at flush mid (Ok step.Pending) new → IsAwaiting new.phase
+then_awaits (Ok f) link at mid new a = acts_awaits mid.phase link at mid new refl a
+then_awaits (Err e) link at mid new a = absurd (cc a.0)
+
+-- the connection goes on with a frame of the peer's alone
+pub pending_awaits : {L : Type 0} (link : Ghosts L) (at : ℕ) (old new : State L) → Steps link at old (Ok step.Pending) new → IsAwaiting new.phase
+pending_awaits link at old new s = then_awaits s.flush link at s.mid new s.acts

@@ -12,16 +12,19 @@ use Rattle.amqp_engine.specs.Calls.{IsTooLarge}
 use Rattle.amqp_engine.specs.declared.engine.EngineStep.TheVariants as step
 use Rattle.amqp_engine.specs.declared.phase.Phase.{Phase}
 use Rattle.amqp_engine.specs.declared.phase.Phase.TheVariants as p
-use Rattle.amqp_engine.specs.Outcomes.{IsMoment, IsOnward, IsRefusal, Stepped as EngineStepped, HasClosed as EngineClosed}
+use Rattle.amqp_engine.specs.Faults.{AllOwed}
+use Rattle.amqp_engine.specs.Heard.{IsHeard}
+use Rattle.amqp_engine.specs.Outcomes.{IsMoment, IsWritten, IsOnward, IsRefusal, IsClosedBy, Stepped as EngineStepped, HasClosed as EngineClosed}
+use Rattle.amqp_transport.specs.declared.frames.Frame.{Frame}
 use Rattle.amqp_engine.specs.Phases.{has_failed, is_stopped}
 use Rattle.amqp_engine.specs.Sentence.{Ran}
-use Rattle.amqp_engine.specs.State.{State, closing, close_frame, close_phase}
+use Rattle.amqp_engine.specs.State.{State, failing, closing, close_frame, close_phase}
 use Rattle.sasl_gate.specs.declared.gate.error.NegotiationError.{NegotiationError}
 use Rattle.sasl_gate.specs.declared.gate.error.NegotiationError.TheVariants as negotiation
 use Rattle.amqp_opening.specs.declared.authentication.Authentication.{Authentication}
 use Rattle.amqp_opening.specs.declared.authentication.SaslCall.{SaslCall}
 use Rattle.amqp_opening.specs.declared.opening.Stage.TheVariants as stage
-use Rattle.amqp_opening.specs.Authentication.{peer_mechanism, MadeFor, holds_by, IsCallRefusal}
+use Rattle.amqp_opening.specs.Authentication.{peer_mechanism, MadeFor, HasAllowedTexts, holds_by, IsCallRefusal}
 use Rattle.amqp_opening.specs.Opening.{Opened, begun, begun_plain, IsMemoryIn}
 use Rattle.amqp_opening.proofs.Exchanges.{gated_nothing}
 use Rattle.amqp_opening.proofs.Openings.{has_begun, has_begun_plain}
@@ -35,19 +38,25 @@ use Rattle.amqp_peer.specs.declared.held.Held.TheVariants.{Early, Late, Unopened
 use Rattle.amqp_peer.specs.declared.peer.Progress.{Progress}
 use Rattle.amqp_peer.specs.declared.peer.Progress.TheVariants as progress
 use Rattle.amqp_peer.specs.declared.prepared.Prepared.{Prepared}
-use Rattle.amqp_peer.specs.Causes.{closing as own_closing, TransportCause, MadeIn, IsOpenCause, not_allowed, OpenCauseIn, BeginsWithOpen, prepared_in}
+use Rattle.amqp_peer.specs.Causes.{closing as own_closing, TransportCause, MadeIn, is_layer, has_layer, IsOpenCause, not_allowed, OpenCauseIn, BeginsWithOpen, prepared_in}
 use Rattle.amqp_peer.specs.Gated.{IsTalk, IsGatedIn}
-use Rattle.amqp_peer.specs.Held.{IsReadyWith, IsMidway, IsBusyWith, IsExchangedWith, IsActive, link_at, EndedEarly}
+use Rattle.amqp_peer.specs.Held.{IsReadyWith, IsMidway, IsBusyWith, IsExchangedWith, IsActive, IsStopped, link_at, EndedEarly}
 use Rattle.amqp_peer.specs.History.{Local, Made, Polled, Replied, made_in, link_in, given_in, replied_in, moment_in, read_in, wrote_in}
-use Rattle.amqp_peer.specs.Peering.{Peering, Has, HasIn, IsHeldAt, IsRunning, IsExchanging, IsUntouched, IsOpen, HasNothing, HasClosed, HasWritten, IsMadeIn, IsFaultIn, IsBrokenIn, LateFault, link_of}
+use Rattle.amqp_peer.specs.Peering.{Peering, Has, HasIn, IsHeldAt, IsRunning, IsExchanging, IsUntouched, IsOpen, HasNothing, HasClosed, HasWritten, IsMadeIn, IsFaultIn, IsBrokenIn, link_of}
 use Rattle.amqp_peer.specs.Prepared.{prepared_of, sasl_of, error_for}
 use Rattle.amqp_peer.specs.Replies.{pending, open_failed, answered}
 use Rattle.amqp_peer.specs.Runs.{AdvancedFrom, IsToClose, RestedFrom, Rested, Stepped, IsAsked, IsAskedToClose, Refused, told, finished, close_reply, error_in, first_fault}
-use Rattle.amqp_peer.proofs.Advances.{called_keeps, settled_left, went_late, finish_close, written_after}
-use Rattle.amqp_peer.proofs.Grows.{closing_moves, broken_sound, fault_same, fault_failed, called_moves, is_running, heard_open_more}
+use Rattle.amqp_peer.proofs.Advances.{called_keeps, settled_left, concluded_left, flushed, went_late, finish_close, written_after}
+use Rattle.amqp_peer.proofs.Leaves.{called_leaves}
+use Rattle.amqp_peer.proofs.Faulty.{broken_large}
+use Rattle.amqp_peer.proofs.Stays.{failed_stops}
+use Rattle.amqp_peer.proofs.Grows.{broken_sound, late_more, fault_same, fault_failed, called_moves, is_running, heard_open_more}
 use Rattle.amqp_peer.proofs.Quiet.{quiet_replied, quiet_made, called_quiet, made_quiet, has_polled}
-use Rattle.amqp_peer.proofs.Histories.{inside-append, link_in-append, replied_in-append, once_more}
+use Rattle.amqp_peer.proofs.Histories.{inside-append, link_in-append, replied_in-append}
+use Rattle.amqp_peer.proofs.Said.{IsDue}
 use Rattle.amqp_peer.proofs.Moved.{moved, passed, made_after, replied_after}
+use Rattle.amqp_peer.proofs.Written.{queued_nothing}
+use Rattle.amqp_peer.proofs.Layers.{layer_refused}
 
 -- ---- an open or accept
 
@@ -82,10 +91,11 @@ begins_with {L} link at n call old new o p0 p c x e prep sasl made held r =
         grows = λ h t a.
             let u = untouched_of call old o p0 h e a in
             let m : MadeIn (sasl_of call) true x = subst (λ (z : Option SaslCall). MadeIn z true x) (sym sasl) (refl, made) in
-            let k : IsExchanging call (begun o x) (Some p) h = record { made = m; prepared = prep; known = tt; opening = has_begun peer_mechanism o x (link_in h) held u.input u.output u.phase a.link; given = a.given; sent = a.sent } in
+            let k : IsExchanging call (begun o x) (Some p) h = record { made = m; asked = ap has_layer a.made ∙ ap is_layer sasl; prepared = prep; known = tt; opening = has_begun peer_mechanism o x (link_in h) held u.input u.output u.phase a.link; given = a.given; sent = a.sent } in
             r.run.grows h t (begins call old (begun o x) p h a prep m tt k);
       };
       settled = r.settled;
+      concluded = r.concluded;
       begun = r.begun;
     }
 
@@ -103,10 +113,11 @@ begins_plain {L} link at n call old new o p0 p e prep sasl r =
         grows = λ h t a.
             let u = untouched_of call old o p0 h e a in
             let m : MadeIn (sasl_of call) false o.negotiation.exchange = subst (λ (z : Option SaslCall). MadeIn z false o.negotiation.exchange) (sym sasl) refl in
-            let k : IsExchanging call (begun_plain o) (Some p) h = record { made = m; prepared = prep; known = tt; opening = has_begun_plain peer_mechanism o (link_in h) u.input u.output a.link; given = a.given; sent = a.sent } in
+            let k : IsExchanging call (begun_plain o) (Some p) h = record { made = m; asked = ap has_layer a.made ∙ ap is_layer sasl; prepared = prep; known = tt; opening = has_begun_plain peer_mechanism o (link_in h) u.input u.output a.link; given = a.given; sent = a.sent } in
             r.run.grows h t (begins call old (begun_plain o) p h a prep m tt k);
       };
       settled = r.settled;
+      concluded = r.concluded;
       begun = r.begun;
     }
 
@@ -137,6 +148,17 @@ refusal_cause c call negotiation.DecodeError h s r m = absurd r
 refusal_cause c call negotiation.IllegalState h s r m = absurd r
 refusal_cause c call negotiation.FramingError h s r m = absurd r
 
+refusal_texts : (c : SaslCall) (e : NegotiationError) → IsCallRefusal c e → IsMemoryIn e None → ¬ HasAllowedTexts c
+refusal_texts c (negotiation.Memory a) r m = absurd (cc m)
+refusal_texts c (negotiation.ProtocolHeaderMismatch x) r m = absurd r
+refusal_texts c negotiation.NotImplemented r m = absurd r
+refusal_texts c (negotiation.SaslError code d) r m = absurd r
+refusal_texts c (negotiation.ScramError kind) r m = r.1
+refusal_texts c (negotiation.Io kind) r m = absurd r
+refusal_texts c negotiation.DecodeError r m = absurd r
+refusal_texts c negotiation.IllegalState r m = absurd r
+refusal_texts c negotiation.FramingError r m = absurd r
+
 pub begins_refused : {L : Type 0} (link : Ghosts L) (at n : ℕ) (call : Call) (old new : Peering L) (o : Opened L Authentication) (p0 : Option Prepared) (c : SaslCall) (e : NegotiationError) → old.held ≡ Early o p0 → sasl_of call ≡ Some c → IsCallRefusal c e → IsMemoryIn e None → Refused old e new
     → RestedFrom link at n (IsAsked call old) old new
 begins_refused {L} link at n call old new o p0 c e l sasl r m f =
@@ -158,13 +180,15 @@ begins_refused {L} link at n call old new o p0 c e l sasl r m f =
           made = a.made;
           replied = ap (λ (u : List NamedReply). u ++ answer ∷ []) a.replied;
           called = record {
-            holds = record { written = nothing_written call c h sasl a.link; given = a.given; sent = a.sent };
+            holds = record { written = nothing_written call c h sasl a.link; exchange = layer_refused call c (Replied answer ∷ h) sasl (refusal_texts c e r m) a.link; queued = queued_nothing (Replied answer ∷ h) (ap has_layer a.made ∙ ap is_layer sasl) a.link a.sent; given = a.given; sent = a.sent };
             caused = (subst (λ (cs : List (ℕ × Call)). OpenCauseIn cs e (link_in h)) (sym a.made) (refusal_cause c call e h sasl r m), a.caused);
           };
           done = λ z. ended_done_at o p0 z;
+          broken = tt;
         });
       };
       settled = λ z. absurd (ended_not_at o p0 z);
+      concluded = λ z. absurd z;
       begun = λ z. ended_exchanged_not_at o p0 z;
     })
 
@@ -202,6 +226,7 @@ started {L} link at name call old new e r =
       few = let z = ap reads_in links in omega (arith, z, r.run.few);
       kind = r.run.kind;
       settled = λ a. settled_left new.held es one (r.settled a);
+      concluded = λ a. concluded_left new es one (r.concluded a);
       begun = λ b. r.begun;
       grows = λ h x. subst (λ (u : List Local). Has new u) (sym (append_assoc es one (Made at name call ∷ h)))
           (r.run.grows (Replied (pending name) ∷ Made at name call ∷ h) refl (is_asked old name at call h (subst (λ (q : Progress). HasIn q old h) e x)));
@@ -209,10 +234,31 @@ started {L} link at name call old new e r =
 
 -- ---- a close
 
+-- the Close of the call is queued, or nothing is
+close_due : {L : Type 0} (condition : Option (List ℕ)) (s s' : State L) (calls : List (ℕ × Call)) (name : ℕ) (earlier : List (ℕ × Call)) (queued : List Frame) (result : Result Unit ConnectionFault) → calls ≡ (name, Close condition) ∷ earlier → IsClosedBy s (error_for condition) queued result s'
+    → IsDue calls s.phase queued
+close_due condition s s' calls name earlier queued (Ok u) m c = inr (name, condition, earlier, m, c.0)
+close_due condition s s' calls name earlier queued (Err (connection.Memory x)) m c = inl (subst (AllOwed s.phase) (sym c.0) tt)
+close_due condition s s' calls name earlier queued (Err (connection.TransportError transport.FramingError)) m c = inl (subst (AllOwed s.phase) (sym c.0) tt)
+close_due condition s s' calls name earlier queued (Err (connection.TransportError (transport.Memory x))) m c = absurd c
+close_due condition s s' calls name earlier queued (Err (connection.TransportError (transport.Io x))) m c = absurd c
+close_due condition s s' calls name earlier queued (Err (connection.TransportError transport.IdleTimeoutElapsed)) m c = absurd c
+close_due condition s s' calls name earlier queued (Err (connection.TransportError transport.DecodeError)) m c = absurd c
+close_due condition s s' calls name earlier queued (Err (connection.TransportError transport.NotImplemented)) m c = absurd c
+close_due condition s s' calls name earlier queued (Err connection.IllegalState) m c = inl (subst (AllOwed s.phase) (sym c.0) tt)
+close_due condition s s' calls name earlier queued (Err connection.NotImplemented) m c = absurd c
+close_due condition s s' calls name earlier queued (Err connection.NotFound) m c = absurd c
+close_due condition s s' calls name earlier queued (Err connection.RemoteClosed) m c = absurd c
+close_due condition s s' calls name earlier queued (Err (connection.RemoteClosedWithError x)) m c = absurd c
+
+-- the peer's Open was read
+begins_not_first : {L : Type 0} (call : Call) (s : State L) (h : List Local) → IsRunning call s h → BeginsWithOpen (given_in h) → s.phase ≡ p.OpenSent → ⊥
+begins_not_first call s h k o e = let n = (subst (λ (q : Phase). IsHeard q s.reason (given_in h)) e k.runs.heard).0 in absurd (cc (sym n ∙ o.is))
+
 -- a Close was queued, or not, while a close is to be answered
-close_moves : {L : Type 0} (link : Ghosts L) (at : ℕ) (old : Peering L) (s s' : State L) (fault : Option ConnectionFault) (condition : Option (List ℕ)) (result : Result Unit ConnectionFault) → old.progress ≡ progress.Closing → old.held ≡ Late s → (c : EngineClosed link s (error_for condition) result s')
+close_moves : {L : Type 0} (link : Ghosts L) (at : ℕ) (old : Peering L) (s s' : State L) (fault : Option ConnectionFault) (condition : Option (List ℕ)) (result : Result Unit ConnectionFault) → old.progress ≡ progress.Closing → old.held ≡ Late s → (c : EngineClosed link s (error_for condition) result s') → ((x : _) → result ≡ Err (connection.Memory x) → ⊥)
     → ((h : List Local) (call : Call) → IsToClose condition old h → IsRunning call s h → IsFaultIn old.fault s h → IsFaultIn fault s' (moved c.run ++ h)) → AdvancedFrom link at 0 (IsToClose condition old) old (record old { held = Late s'; fault = fault })
-close_moves {L} link at old s s' fault condition result p e c g =
+close_moves {L} link at old s s' fault condition result p e c n g =
     let r = c.run in
     record {
       events = moved r;
@@ -222,43 +268,59 @@ close_moves {L} link at old s s' fault condition result p e c g =
       few = let z = ap reads_in ((passed r).link ∙ c.silent) in omega (arith, z);
       kind = refl;
       grows = λ h t x.
+          let k = is_running x.call old.held s h e x.called in
+          let i : BeginsWithOpen (given_in h) × IsFaultIn old.fault s h = subst (λ (z : Held L). IsMadeIn old.fault z h) e x.is_made in
+          let due = close_due condition s s' (made_in h) old.name ((x.name, x.call) ∷ []) r.queued result x.made c.told in
           subst (λ (q : Progress). HasIn q (record old { held = Late s'; fault = fault }) (moved r ++ h)) (sym p)
-          (closing_moves link at old s s' fault h r (inl (c.none, r.since c.none)) t e (λ call k prep o f. g h call x k f) (subst (λ (q : Progress). HasIn q old h) p x.has));
+          (record {
+            call = x.call;
+            name = x.name;
+            error = condition;
+            made = made_after h (passed r) ∙ x.made;
+            replied = replied_after h (passed r) ∙ x.replied;
+            called = called_moves link at x.call old.held s s' h r (inl (c.none, r.since c.none)) due t e x.called;
+            is_made = (heard_open_more h r i.0, g h x.call x k i.1);
+            leaves = called_leaves s s' (error_for condition) r.queued result n (begins_not_first x.call s h k i.0) c.told;
+          });
     }
 
 close_sound : (y : Option AmqpError) → has_failed (close_phase y) ≡ false
 close_sound None = refl
 close_sound (Some e) = refl
 
+close_lives : (y : Option AmqpError) → is_stopped (close_phase y) ≡ false
+close_lives None = refl
+close_lives (Some e) = refl
+
 -- it is queued
 queued_fault : {L : Type 0} {link : Ghosts L} (fault : Option ConnectionFault) (s s' : State L) (y : Option AmqpError) (h : List Local) (r : Ran link s s') → s' ≡ closing s y → IsFaultIn fault s h → IsFaultIn fault s' (moved r ++ h)
 queued_fault {L} None s s' y h r e f = ap (λ (z : State L). has_failed z.phase) e ∙ close_sound y
-queued_fault {L} (Some x) s s' y h r e f = (once_more (LateFault x) (moved r) h f.0, broken_sound s' (moved r ++ h) (ap (λ (z : State L). has_failed z.phase) e ∙ close_sound y))
+queued_fault {L} (Some x) s s' y h r e f = (late_more x s s' h r (λ z. absurd (cc ((r.stays (failed_stops s.phase z)).phase, ap (λ (t : State L). is_stopped t.phase) e, close_lives y))) f.0, broken_sound s' (moved r ++ h) (ap (λ (z : State L). has_failed z.phase) e ∙ close_sound y))
 
 pub close_queued : {L : Type 0} (link : Ghosts L) (at : ℕ) (old : Peering L) (s s' : State L) (condition : Option (List ℕ)) (u : Unit {0}) → old.progress ≡ progress.Closing → old.held ≡ Late s → EngineClosed link s (error_for condition) (Ok u) s' → AdvancedFrom link at 0 (IsToClose condition old) old (record old { held = Late s' })
-close_queued link at old s s' condition u p e c = close_moves link at old s s' old.fault condition (Ok u) p e c (λ h call a k f. queued_fault old.fault s s' (error_for condition) h c.run c.told.1 f)
+close_queued link at old s s' condition u p e c = close_moves link at old s s' old.fault condition (Ok u) p e c (λ x m. absurd (cc m)) (λ h call a k f. queued_fault old.fault s s' (error_for condition) h c.run c.told.1 f)
 
 -- one is queued or owed already
 pub close_kept : {L : Type 0} (link : Ghosts L) (at : ℕ) (old : Peering L) (s s' : State L) (condition : Option (List ℕ)) → old.progress ≡ progress.Closing → old.held ≡ Late s → EngineClosed link s (error_for condition) (Err connection.IllegalState) s' → AdvancedFrom link at 0 (IsToClose condition old) old (record old { held = Late s' })
-close_kept {L} link at old s s' condition p e c = close_moves link at old s s' old.fault condition (Err connection.IllegalState) p e c (λ h call a k f. fault_same old.fault s s' h c.run (ap (λ (z : State L). z.phase) c.told.2) f)
+close_kept {L} link at old s s' condition p e c = close_moves link at old s s' old.fault condition (Err connection.IllegalState) p e c (λ x m. absurd (cc m)) (λ h call a k f. fault_same old.fault s s' h c.run (λ z. c.none) (ap (λ (z : State L). z.phase) c.told.2) f)
 
 -- it is too large
 large_cause : {L : Type 0} (condition : Option (List ℕ)) (s : State L) (old : Peering L) (h : List Local) (call : Call) → IsToClose condition old h → IsRunning call s h → IsTooLarge s.wire.codec.encoder (close_frame (error_for condition)) → TransportCause transport.FramingError h
-large_cause condition s old h call a k l = inr (record { limit = s.wire.codec.encoder; x = close_frame (error_for condition); least = k.runs.limited.least; own = own_closing a.name condition a.earlier a.made; large = l })
+large_cause condition s old h call a k l = inr (record { limit = s.wire.codec.encoder; x = close_frame (error_for condition); is_limit = k.runs.bounded.writes; own = own_closing old.name condition ((a.name, a.call) ∷ []) a.made; large = l })
 
-large_breaks : {L : Type 0} {link : Ghosts L} (s s' : State L) (h : List Local) (r : Ran link s s') → TransportCause transport.FramingError h → IsBrokenIn s' (moved r ++ h)
-large_breaks s s' h r c z = record { fault = transport.FramingError; cause = record { later = moved r; earlier = h; split = refl; held = c } }
+large_breaks : {L : Type 0} {link : Ghosts L} (s s' : State L) (h : List Local) (r : Ran link s s') → r.given ≡ [] → r.queued ≡ [] → TransportCause transport.FramingError h → IsBrokenIn s' (moved r ++ h)
+large_breaks s s' h r g q c z = record { fault = transport.FramingError; how = broken_large (moved r) h c ((passed r).heard ∙ g) ((passed r).said ∙ q) }
 
-large_fault : {L : Type 0} {link : Ghosts L} (fault : Option ConnectionFault) (s s' : State L) (h : List Local) (r : Ran link s s') → TransportCause transport.FramingError h → IsFaultIn fault s h
+large_fault : {L : Type 0} {link : Ghosts L} (fault : Option ConnectionFault) (s s' : State L) (h : List Local) (r : Ran link s s') → s' ≡ failing s → r.given ≡ [] → r.queued ≡ [] → TransportCause transport.FramingError h → IsFaultIn fault s h
     → IsFaultIn (first_fault fault (connection.TransportError transport.FramingError)) s' (moved r ++ h)
-large_fault None s s' h r c f = (record { later = moved r; earlier = h; split = refl; held = c }, large_breaks s s' h r c)
-large_fault (Some x) s s' h r c f = (once_more (LateFault x) (moved r) h f.0, large_breaks s s' h r c)
+large_fault {L} None s s' h r e g q c f = ((ap (λ (t : State L). has_failed t.phase) e, broken_large (moved r) h c ((passed r).heard ∙ g) ((passed r).said ∙ q)), large_breaks s s' h r g q c)
+large_fault {L} (Some x) s s' h r e g q c f = (late_more x s s' h r (λ z. (g, ap (λ (t : State L). has_failed t.phase) e)) f.0, large_breaks s s' h r g q c)
 
 pub close_fails : {L : Type 0} (link : Ghosts L) (at : ℕ) (old : Peering L) (s s' : State L) (condition : Option (List ℕ)) (e : ConnectionFault) → old.progress ≡ progress.Closing → old.held ≡ Late s → EngineClosed link s (error_for condition) (Err e) s' → ((x : _) → e ≡ connection.Memory x → ⊥) → (e ≡ connection.IllegalState → ⊥)
     → AdvancedFrom link at 0 (IsToClose condition old) old (record old { held = Late s'; fault = first_fault old.fault e })
 close_fails link at old s s' condition (connection.Memory x) p l c n i = absurd (n x refl)
 close_fails link at old s s' condition (connection.TransportError transport.FramingError) p l c n i =
-    close_moves link at old s s' (first_fault old.fault (connection.TransportError transport.FramingError)) condition (Err (connection.TransportError transport.FramingError)) p l c (λ h call a k f. large_fault old.fault s s' h c.run (large_cause condition s old h call a k c.told.1) f)
+    close_moves link at old s s' (first_fault old.fault (connection.TransportError transport.FramingError)) condition (Err (connection.TransportError transport.FramingError)) p l c (λ x m. absurd (cc m)) (λ h call a k f. large_fault old.fault s s' h c.run c.told.2 c.none c.told.0 (large_cause condition s old h call a k c.told.1) f)
 close_fails link at old s s' condition (connection.TransportError (transport.Memory x)) p l c n i = absurd c.told
 close_fails link at old s s' condition (connection.TransportError (transport.Io x)) p l c n i = absurd c.told
 close_fails link at old s s' condition (connection.TransportError transport.IdleTimeoutElapsed) p l c n i = absurd c.told
@@ -271,27 +333,20 @@ close_fails link at old s s' condition connection.RemoteClosed p l c n i = absur
 close_fails link at old s s' condition (connection.RemoteClosedWithError x) p l c n i = absurd c.told
 
 -- it was asked, and pending is answered
-waits_to_close : {L : Type 0} (condition : Option (List ℕ)) (old : Peering L) (h : List Local) → old.progress ≡ progress.Closing → IsAskedToClose condition old h → IsToClose condition (record old { replies = old.replies ++ pending old.name ∷ [] }) (Replied (pending old.name) ∷ h)
-waits_to_close {L} condition old h p w =
+waits_to_close : {L : Type 0} (condition : Option (List ℕ)) (old : Peering L) (h : List Local) → IsAskedToClose condition old h → IsToClose condition (record old { replies = old.replies ++ pending old.name ∷ [] }) (Replied (pending old.name) ∷ h)
+waits_to_close {L} condition old h w =
     record {
-      name = old.name;
-      earlier = (w.name, w.call) ∷ [];
+      call = w.call;
+      name = w.name;
       made = w.made;
-      has = subst (λ (q : Progress). HasIn q (record old { replies = old.replies ++ pending old.name ∷ [] }) (Replied (pending old.name) ∷ h)) (sym p)
-          (record {
-            call = w.call;
-            name = w.name;
-            error = condition;
-            made = w.made;
-            replied = ap (λ (u : List NamedReply). u ++ pending old.name ∷ []) w.replied;
-            called = called_keeps w.call old.held h (pending old.name) tt w.called;
-            is_made = made_quiet old.fault old.held h (Replied (pending old.name) ∷ h) (quiet_replied (pending old.name) h) w.is_made;
-          });
+      replied = ap (λ (u : List NamedReply). u ++ pending old.name ∷ []) w.replied;
+      called = called_keeps w.call old.held h (pending old.name) tt w.called;
+      is_made = made_quiet old.fault old.held h (Replied (pending old.name) ∷ h) (quiet_replied (pending old.name) h) w.is_made;
     }
 
-pub asked_waits : {L : Type 0} (link : Ghosts L) (at n : ℕ) (condition : Option (List ℕ)) (old new : Peering L) → old.progress ≡ progress.Closing
+pub asked_waits : {L : Type 0} (link : Ghosts L) (at n : ℕ) (condition : Option (List ℕ)) (old new : Peering L)
     → RestedFrom link at n (IsToClose condition (record old { replies = old.replies ++ pending old.name ∷ [] })) (record old { replies = old.replies ++ pending old.name ∷ [] }) new → RestedFrom link at n (IsAskedToClose condition old) old new
-asked_waits {L} link at n condition old new p r =
+asked_waits {L} link at n condition old new r =
     let es = r.run.events in
     let one = Replied (pending old.name) ∷ [] in
     let links : link_in (es ++ one) ≡ link_in es = link_in-append es one ∙ append-nil (link_in es) in
@@ -303,29 +358,30 @@ asked_waits {L} link at n condition old new p r =
         answers = r.run.answers ∙ append_assoc old.replies (pending old.name ∷ []) (replied_in es) ∙ ap (λ (u : List NamedReply). old.replies ++ u) (sym (replied_in-append es one));
         few = let z = ap reads_in links in omega (arith, z, r.run.few);
         kind = r.run.kind;
-        grows = λ h t a. subst (λ (u : List Local). Has new u) (sym (append_assoc es one h)) (r.run.grows (Replied (pending old.name) ∷ h) t (waits_to_close condition old h p a));
+        grows = λ h t a. subst (λ (u : List Local). Has new u) (sym (append_assoc es one h)) (r.run.grows (Replied (pending old.name) ∷ h) t (waits_to_close condition old h a));
       };
       settled = λ a. settled_left new.held es one (r.settled a);
+      concluded = λ a. concluded_left new es one (r.concluded a);
       begun = r.begun;
     }
 
 -- the connection has stopped before: what was asked is answered in the step of the engine
-asked_ends : {L : Type 0} (link : Ghosts L) (at : ℕ) (condition : Option (List ℕ)) (old : Peering L) (s s' : State L) (fault : Option ConnectionFault) (h : List Local) (r : Ran link s s') → IsMoment at s r.given s' → moment_in h ≡ at → old.held ≡ Late s → is_stopped s'.phase ≡ true
+asked_ends : {L : Type 0} (link : Ghosts L) (at : ℕ) (condition : Option (List ℕ)) (old : Peering L) (s s' : State L) (fault : Option ConnectionFault) (h : List Local) (r : Ran link s s') → IsMoment at s r.given s' → AllOwed s.phase r.queued → moment_in h ≡ at → old.held ≡ Late s → is_stopped s'.phase ≡ true
     → (has_failed s'.phase ≡ true) ⊎ (Includes (link_in (moved r ++ h)) (NotWritten Full) ⊎ (s'.wire.codec.output ≡ []))
     → ((call : Call) → IsRunning call s h → prepared_in (made_in h) ≡ prepared_of call → BeginsWithOpen (given_in h) → IsFaultIn old.fault s h → IsFaultIn fault s' (moved r ++ h)) → IsAskedToClose condition old h
     → HasClosed (finished (record old { held = Late s'; fault = fault }) (close_reply (error_in (record old { held = Late s'; fault = fault })))) (Replied (answered old.name (close_reply (error_in (record old { held = Late s'; fault = fault })))) ∷ moved r ++ h)
-asked_ends {L} link at condition old s s' fault h r m t e z f g w =
+asked_ends {L} link at condition old s s' fault h r m d t e z f g w =
     let mid = record old { held = Late s'; fault = fault } in
     let i : BeginsWithOpen (given_in h) × IsFaultIn old.fault s h = subst (λ (x : Held L). IsMadeIn old.fault x h) e w.is_made in
     let answers = replied_after h (passed r) ∙ w.replied in
-    finish_close mid s' (moved r ++ h) w.call w.name condition refl z f (made_after h (passed r) ∙ w.made) (called_moves link at w.call old.held s s' h r m t e w.called)
+    finish_close mid s' (moved r ++ h) w.call w.name condition refl z f (made_after h (passed r) ∙ w.made) (called_moves link at w.call old.held s s' h r m (inl d) t e w.called)
     (heard_open_more h r i.0, g w.call (is_running w.call old.held s h e w.called) (ap prepared_in w.made) i.0 i.1) (λ x. inr (ap (λ (u : List NamedReply). u ++ x ∷ []) answers))
 
-stopped_close : {L : Type 0} (link : Ghosts L) (at : ℕ) (condition : Option (List ℕ)) (old : Peering L) (s s' : State L) (fault : Option ConnectionFault) (r : Ran link s s') → reads_in r.events ≤ 1 → IsMoment at s r.given s' → old.held ≡ Late s → is_stopped s'.phase ≡ true
-    → ((h : List Local) → (has_failed s'.phase ≡ true) ⊎ (Includes (link_in (moved r ++ h)) (NotWritten Full) ⊎ (s'.wire.codec.output ≡ [])))
+stopped_close : {L : Type 0} (link : Ghosts L) (at : ℕ) (condition : Option (List ℕ)) (old : Peering L) (s s' : State L) (fault : Option ConnectionFault) (r : Ran link s s') → reads_in r.events ≤ 1 → IsMoment at s r.given s' → AllOwed s.phase r.queued → old.held ≡ Late s → is_stopped s'.phase ≡ true
+    → IsWritten s'.phase r.events s'.wire.codec.output
     → ((h : List Local) → moment_in h ≡ at → (call : Call) → IsRunning call s h → prepared_in (made_in h) ≡ prepared_of call → BeginsWithOpen (given_in h) → IsFaultIn old.fault s h → IsFaultIn fault s' (moved r ++ h))
     → RestedFrom link at 1 (IsAskedToClose condition old) old (finished (record old { held = Late s'; fault = fault }) (close_reply (error_in (record old { held = Late s'; fault = fault }))))
-stopped_close {L} link at condition old s s' fault r few m e z f g =
+stopped_close {L} link at condition old s s' fault r few m d e z f g =
     let mid = record old { held = Late s'; fault = fault } in
     let answer = answered old.name (close_reply (error_in mid)) in
     record {
@@ -336,15 +392,17 @@ stopped_close {L} link at condition old s s' fault r few m e z f g =
         answers = ap (λ (u : List NamedReply). old.replies ++ (u ++ answer ∷ [])) (sym (passed r).silent);
         few = subst (λ (es : List LinkEvent). reads_in es ≤ 1) (sym (passed r).link) few;
         kind = refl;
-        grows = λ h t a. inr (asked_ends link at condition old s s' fault h r m t e z (f h) (g h t) a);
+        grows = λ h t a. inr (asked_ends link at condition old s s' fault h r m d t e z (written_after h r f) (g h t) a);
       };
       settled = λ a. absurd (cc (z, a));
+      concluded = λ a. inl (λ w. w, flushed r f);
       begun = λ x. x;
     }
 
-pub close_rests : {L : Type 0} (link : Ghosts L) (at : ℕ) (condition : Option (List ℕ)) (old : Peering L) (s s' : State L) → old.held ≡ Late s → EngineStepped link at s (Ok step.Stopped) s' → RestedFrom link at 1 (IsAskedToClose condition old) old (finished (record old { held = Late s' }) (close_reply (error_in (record old { held = Late s' }))))
-close_rests link at condition old s s' e st =
-    stopped_close link at condition old s s' old.fault st.run st.few st.moment e st.told.stopped (λ h. written_after h st.run st.told.written) (λ h t call k prep o f. fault_same old.fault s s' h st.run st.told.phase f)
+pub close_rests : {L : Type 0} (link : Ghosts L) (at : ℕ) (condition : Option (List ℕ)) (old : Peering L) (s s' : State L) → old.held ≡ Late s → (st : EngineStepped link at s (Ok step.Stopped) s') → (has_failed s.phase ≡ true → st.run.given ≡ [])
+    → RestedFrom link at 1 (IsAskedToClose condition old) old (finished (record old { held = Late s' }) (close_reply (error_in (record old { held = Late s' }))))
+close_rests link at condition old s s' e st n =
+    stopped_close link at condition old s s' old.fault st.run st.few st.moment st.owed e st.told.stopped st.told.written (λ h t call k prep o f. fault_same old.fault s s' h st.run n st.told.phase f)
 
 -- a connection that has stopped neither works nor waits
 stopped_not_onward : (q r : Phase) → is_stopped q ≡ true → IsOnward q r → ⊥
@@ -375,17 +433,6 @@ stopped_not_refused e p.Discarding r s o = o
 stopped_not_refused e p.Ended r s o = o
 stopped_not_refused e p.Failed r s o = o
 
-failed_stops : (q : Phase) → has_failed q ≡ true → is_stopped q ≡ true
-failed_stops p.OpenSent f = absurd (cc f)
-failed_stops p.Opened f = absurd (cc f)
-failed_stops p.CloseReceived f = absurd (cc f)
-failed_stops p.Refused f = absurd (cc f)
-failed_stops (p.Rejected why) f = absurd (cc f)
-failed_stops p.CloseSent f = absurd (cc f)
-failed_stops p.Discarding f = absurd (cc f)
-failed_stops p.Ended f = absurd (cc f)
-failed_stops p.Failed f = refl
-
 -- it fails alone by its transport
 stopped_fails : {L : Type 0} (link : Ghosts L) (at : ℕ) (s s' : State L) (e : ConnectionFault) → is_stopped s.phase ≡ true → EngineStepped link at s (Err e) s' → ((x : _) → e ≡ connection.Memory x → ⊥) → has_failed s'.phase ≡ true
 stopped_fails link at s s' (connection.Memory x) z st n = absurd (n x refl)
@@ -400,7 +447,7 @@ pub close_fails_at_once : {L : Type 0} (link : Ghosts L) (at : ℕ) (condition :
     → RestedFrom link at 1 (IsAskedToClose condition old) old (finished (record old { held = Late s'; fault = first_fault old.fault e }) (close_reply (error_in (record old { held = Late s'; fault = first_fault old.fault e }))))
 close_fails_at_once link at condition old s s' e l z st n =
     let f = stopped_fails link at s s' e z st n in
-    stopped_close link at condition old s s' (first_fault old.fault e) st.run st.few st.moment l (failed_stops s'.phase f) (λ h. inl f) (λ h t call k prep o x. fault_failed link at call old.fault e s s' h st k o prep t n x)
+    stopped_close link at condition old s s' (first_fault old.fault e) st.run st.few st.moment st.owed l (failed_stops s'.phase f) (inl f) (λ h t call k prep o x. fault_failed link at call old.fault e s s' h st k o prep t n x)
 
 -- a close was called
 abbrev pub called_to_close : {L : Type 0} → Peering L → ℕ → Peering L
@@ -408,7 +455,7 @@ called_to_close old name = record old { name = name; progress = progress.Closing
 
 is_asked_to_close : {L : Type 0} (old : Peering L) (name at : ℕ) (condition : Option (List ℕ)) (h : List Local) → IsOpen old h → IsAskedToClose condition (called_to_close old name) (Made at name (Close condition) ∷ h)
 is_asked_to_close old name at condition h w =
-    let q = quiet_made at name (Close condition) h in
+    let q = quiet_made at name (Close condition) (w.name, w.call) h w.made in
     record {
       call = w.call;
       name = w.name;
@@ -428,6 +475,7 @@ closed {L} link at n name condition old new l e r =
       few = omega (arith, r.run.few, l);
       kind = r.run.kind;
       settled = r.settled;
+      concluded = r.concluded;
       begun = λ b. r.begun;
       grows = λ h x. r.run.grows (Made at name (Close condition) ∷ h) refl (is_asked_to_close old name at condition h (subst (λ (q : Progress). HasIn q old h) e x));
     }
@@ -444,12 +492,13 @@ polled link at n old new l r =
       few = omega (arith, r.run.few, l);
       kind = r.run.kind;
       settled = r.settled;
+      concluded = r.concluded;
       begun = λ b. r.begun;
       grows = λ h x. r.run.grows (Polled at ∷ h) refl (has_polled old at h x);
     }
 
-pub polled_idle : {L : Type 0} (link : Ghosts L) (at : ℕ) (old : Peering L) → (IsActive old.held → ⊥) → Stepped link old (Polled at) old
-polled_idle link at old n =
+pub polled_idle : {L : Type 0} (link : Ghosts L) (at : ℕ) (old : Peering L) → (IsActive old.held → ⊥) → (IsStopped old.held → ⊥) → Stepped link old (Polled at) old
+polled_idle link at old n m =
     record {
       events = [];
       inside = tt;
@@ -458,6 +507,7 @@ polled_idle link at old n =
       few = omega arith;
       kind = refl;
       settled = λ a. absurd (n a);
+      concluded = λ a. absurd (m a);
       begun = λ b. b;
       grows = λ h x. has_polled old at h x;
     }

@@ -10,7 +10,7 @@ use Rattle.amqp_engine.specs.declared.error.Error.{Error as ConnectionFault}
 use Rattle.amqp_engine.specs.declared.error.Error.TheVariants as connection
 use Rattle.amqp_engine.specs.Calls.{Steps}
 use Rattle.amqp_engine.specs.Outcomes.{Stepped as EngineStepped, HasClosed as EngineClosed}
-use Rattle.amqp_engine.specs.Phases.{is_stopped}
+use Rattle.amqp_engine.specs.Phases.{is_stopped, has_failed}
 use Rattle.amqp_engine.specs.State.{State}
 use Rattle.sasl_gate.specs.declared.gate.error.NegotiationError.{NegotiationError}
 use Rattle.amqp_opening.specs.declared.authentication.Authentication.{Authentication}
@@ -38,7 +38,9 @@ use Rattle.amqp_peer.specs.Peering.{Peering, Has, HasIn, MayCall, MayCallIn, IsM
 use Rattle.amqp_peer.specs.Prepared.{prepared_of, sasl_of, error_for}
 use Rattle.amqp_peer.specs.Runs.{Stepped, Advanced, AdvancedFrom, IsToClose, Worked, Rested, RestedFrom, IsAsked, IsAskedToClose, Refused, told, finished, concluded, greeted, close_reply, error_in, first_fault, open_error_of, without_memory, IsCloseNoted}
 use Rattle.amqp_peer.proofs.Advances.{worked_advances, pending_rests, stopped_rests, failed_advances, rested_more}
-use Rattle.amqp_peer.proofs.Parts.{pending_part}
+use Rattle.amqp_peer.proofs.Leaves.{steps_leave, fails_sound}
+use Rattle.amqp_peer.proofs.Stays.{stays}
+use Rattle.amqp_peer.proofs.Parts.{pending_part, pending_awaits}
 use Rattle.amqp_peer.proofs.Openings.{early_rests, early_fails, early_exchanged, exchanged_ready, connected, connect_fails}
 use Rattle.amqp_peer.proofs.Starts.{close_queued, close_kept, close_fails, close_rests, close_worked_not, close_pending_not, close_fails_at_once, begins_with, begins_plain, begins_refused}
 
@@ -54,11 +56,12 @@ record LateStep {L : Type 0} (link : Ghosts L) (at : ℕ) (held : Held L) (resul
   pub is : held ≡ Late s
   pub becomes : held' ≡ Late s'
   pub step : EngineStepped link at s result s'
+  pub none : has_failed s.phase ≡ true → step.run.given ≡ []
   pub does : Steps link at s result s'
 
 late_step : {L : Type 0} (link : Ghosts L) (at : ℕ) (held : Held L) (result : Result EngineStep ConnectionFault) (held' : Held L) → SteppedLate link at held result held' → LateStep link at held result held'
 late_step link at (Early o p) result held' h = absurd h
-late_step link at (Late s) result held' h = record { s = s; s' = h.0; is = refl; becomes = h.1; step = h.2; does = h.3 }
+late_step link at (Late s) result held' h = let k = stays link at s h.0 result h.3 h.2 in record { s = s; s' = h.0; is = refl; becomes = h.1; step = k.step; none = k.none; does = h.3 }
 late_step link at (Unopened c) result held' h = absurd h
 late_step link at Moving result held' h = absurd h
 
@@ -68,17 +71,17 @@ late_stays {L} link at held result held' h = let k = late_step link at held resu
 pub worked_step : {L : Type 0} (link : Ghosts L) (at : ℕ) (old : Peering L) (held : Held L) → SteppedLate link at old.held (Ok step.Worked) held → Worked link at 1 old (greeted (record old { held = held }))
 worked_step {L} link at old held h =
     let k = late_step link at old.held (Ok step.Worked) held h in
-    subst (λ (x : Held L). Worked link at 1 old (greeted (record old { held = x }))) (sym k.becomes) (worked_advances link at old k.s k.s' k.is k.step)
+    subst (λ (x : Held L). Worked link at 1 old (greeted (record old { held = x }))) (sym k.becomes) (worked_advances link at old k.s k.s' k.is k.step (steps_leave link at k.s k.s' (Ok step.Worked) k.does))
 
 pub pending_step : {L : Type 0} (link : Ghosts L) (at : ℕ) (old : Peering L) (held : Held L) → SteppedLate link at old.held (Ok step.Pending) held → Rested link at 1 old (record old { held = held })
 pending_step {L} link at old held h =
     let k = late_step link at old.held (Ok step.Pending) held h in
-    subst (λ (x : Held L). Rested link at 1 old (record old { held = x })) (sym k.becomes) (pending_rests link at old k.s k.s' k.is (pending_part link at k.s k.s' k.does) k.step)
+    subst (λ (x : Held L). Rested link at 1 old (record old { held = x })) (sym k.becomes) (pending_rests link at old k.s k.s' k.is (pending_part link at k.s k.s' k.does) (pending_awaits link at k.s k.s' k.does) k.step)
 
 pub stopped_step : {L : Type 0} (link : Ghosts L) (at : ℕ) (old : Peering L) (held : Held L) → SteppedLate link at old.held (Ok step.Stopped) held → Rested link at 1 old (concluded (record old { held = held }))
 stopped_step {L} link at old held h =
     let k = late_step link at old.held (Ok step.Stopped) held h in
-    subst (λ (x : Held L). Rested link at 1 old (concluded (record old { held = x }))) (sym k.becomes) (stopped_rests link at old k.s k.s' k.is k.step)
+    subst (λ (x : Held L). Rested link at 1 old (concluded (record old { held = x }))) (sym k.becomes) (stopped_rests link at old k.s k.s' k.is k.step k.none)
 
 -- an error that is no want of memory
 record IsKept (e x : ConnectionFault) : Type 0 where
@@ -102,7 +105,7 @@ pub failed_step : {L : Type 0} (link : Ghosts L) (at : ℕ) (old : Peering L) (h
 failed_step {L} link at old held e x h w =
     let n = kept e x w in
     let k = late_step link at old.held (Err x) held (subst (λ (y : ConnectionFault). SteppedLate link at old.held (Err y) held) (sym n.same) h) in
-    subst (λ (z : Held L). Worked link at 1 old (record old { held = z; fault = first_fault old.fault x })) (sym k.becomes) (failed_advances link at old k.s k.s' x k.is k.step n.not_memory)
+    subst (λ (z : Held L). Worked link at 1 old (record old { held = z; fault = first_fault old.fault x })) (sym k.becomes) (failed_advances link at old k.s k.s' x k.is k.step n.not_memory (fails_sound link at k.s k.s' x k.does) (steps_leave link at k.s k.s' (Err x) k.does))
 
 -- ---- a close where the connection has stopped
 
@@ -113,16 +116,16 @@ is_true false n = absurd (n refl)
 stopped_late : {L : Type 0} (held : Held L) (s : State L) → held ≡ Late s → (IsActive held → ⊥) → is_stopped s.phase ≡ true
 stopped_late {L} held s e n = is_true (is_stopped s.phase) (λ a. n (subst (λ (x : Held L). IsActive x) (sym e) a))
 
-close_with : {L : Type 0} (link : Ghosts L) (at : ℕ) (condition : Option (List ℕ)) (old : Peering L) (s s' : State L) (result : EngineStep) → old.held ≡ Late s → is_stopped s.phase ≡ true → EngineStepped link at s (Ok result) s' → RestedFrom link at 1 (IsAskedToClose condition old) old (finished (record old { held = Late s' }) (close_reply (error_in (record old { held = Late s' }))))
-close_with link at condition old s s' step.Worked e z st = absurd (close_worked_not link at s s' z st)
-close_with link at condition old s s' step.Pending e z st = absurd (close_pending_not link at s s' z st)
-close_with link at condition old s s' step.Stopped e z st = close_rests link at condition old s s' e st
+close_with : {L : Type 0} (link : Ghosts L) (at : ℕ) (condition : Option (List ℕ)) (old : Peering L) (s s' : State L) (result : EngineStep) → old.held ≡ Late s → is_stopped s.phase ≡ true → (st : EngineStepped link at s (Ok result) s') → (has_failed s.phase ≡ true → st.run.given ≡ []) → RestedFrom link at 1 (IsAskedToClose condition old) old (finished (record old { held = Late s' }) (close_reply (error_in (record old { held = Late s' }))))
+close_with link at condition old s s' step.Worked e z st n = absurd (close_worked_not link at s s' z st)
+close_with link at condition old s s' step.Pending e z st n = absurd (close_pending_not link at s s' z st)
+close_with link at condition old s s' step.Stopped e z st n = close_rests link at condition old s s' e st n
 
 pub close_step : {L : Type 0} (link : Ghosts L) (at : ℕ) (condition : Option (List ℕ)) (old : Peering L) (held : Held L) (result : EngineStep) → (IsActive old.held → ⊥) → SteppedLate link at old.held (Ok result) held → RestedFrom link at 1 (IsAskedToClose condition old) old (finished (record old { held = held }) (close_reply (error_in (record old { held = held }))))
 close_step {L} link at condition old held result n h =
     let k = late_step link at old.held (Ok result) held h in
     subst (λ (x : Held L). RestedFrom link at 1 (IsAskedToClose condition old) old (finished (record old { held = x }) (close_reply (error_in (record old { held = x }))))) (sym k.becomes)
-    (close_with link at condition old k.s k.s' result k.is (stopped_late old.held k.s k.is n) k.step)
+    (close_with link at condition old k.s k.s' result k.is (stopped_late old.held k.s k.is n) k.step k.none)
 
 pub close_failed_step : {L : Type 0} (link : Ghosts L) (at : ℕ) (condition : Option (List ℕ)) (old : Peering L) (held : Held L) (e x : ConnectionFault) → (IsActive old.held → ⊥) → SteppedLate link at old.held (Err e) held → without_memory e ≡ Ok x
     → RestedFrom link at 1 (IsAskedToClose condition old) old (finished (record old { held = held; fault = first_fault old.fault x }) (close_reply (error_in (record old { held = held; fault = first_fault old.fault x }))))
@@ -337,6 +340,7 @@ misfit link at name call old new may n s =
       few = s.few;
       kind = s.kind;
       settled = s.settled;
+      concluded = s.concluded;
       begun = s.begun;
       grows = λ h x. absurd (n (fitting old.progress old call h may x));
     }

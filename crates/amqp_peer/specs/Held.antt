@@ -18,9 +18,11 @@ use Rattle.amqp_opening.specs.Authentication.{peer_mechanism}
 use Rattle.amqp_opening.specs.Opening.{Opened, begun as begun_with, begun_plain, IsUnderWay, IsAtRest, Ran as OpeningRan}
 use Rattle.amqp_engine.specs.declared.engine.EngineStep.{EngineStep}
 use Rattle.amqp_engine.specs.declared.error.Error.{Error as ConnectionFault}
+use Rattle.amqp_engine.specs.declared.phase.Phase.{Phase}
+use Rattle.amqp_engine.specs.declared.phase.Phase.TheVariants as p
 use Rattle.amqp_engine.specs.Calls.{OpensTo, Steps}
 use Rattle.amqp_engine.specs.Outcomes.{Stepped, HasClosed}
-use Rattle.amqp_engine.specs.Phases.{state_of, is_stopped}
+use Rattle.amqp_engine.specs.Phases.{state_of, is_stopped, has_failed}
 use Rattle.amqp_engine.specs.State.{State, stop_reason_of}
 use Rattle.amqp_peer.specs.declared.held.Held.{Held}
 use Rattle.amqp_peer.specs.declared.held.Held.TheVariants.{Early, Late, Unopened, Moving}
@@ -102,10 +104,60 @@ IsActive (Late s) = is_stopped s.phase ≡ false
 IsActive (Unopened c) = ⊥
 IsActive Moving = ⊥
 
--- what is read next is not there whole: of the exchange of headers, or a frame of a connection that has begun
+-- the connection has begun and stopped
+abbrev pub IsStopped : {L : Type 0} → Held L → Type 0
+IsStopped (Early o p) = ⊥
+IsStopped (Late s) = is_stopped s.phase ≡ true
+IsStopped (Unopened c) = ⊥
+IsStopped Moving = ⊥
+
+-- the connection has begun, and its transport has not failed
+abbrev pub IsSound : {L : Type 0} → Held L → Type 0
+IsSound (Early o p) = ⊥
+IsSound (Late s) = has_failed s.phase ≡ false
+IsSound (Unopened c) = ⊥
+IsSound Moving = ⊥
+
+-- the connection goes on with a frame of the peer's alone: no Close is owed, and it has not stopped (part 2, section 2.4.6)
+abbrev pub IsAwaiting : Phase → Type 0
+IsAwaiting p.OpenSent = ⊤
+IsAwaiting p.Opened = ⊤
+IsAwaiting p.CloseReceived = ⊥
+IsAwaiting p.Refused = ⊥
+IsAwaiting (p.Rejected why) = ⊥
+IsAwaiting p.CloseSent = ⊤
+IsAwaiting p.Discarding = ⊤
+IsAwaiting p.Ended = ⊥
+IsAwaiting p.Failed = ⊥
+
+-- the connection says no more but a Close, if it has not queued it: one is queued or owed, or it has stopped (part 2, section 2.4.6)
+abbrev pub IsLeaving : Phase → Type 0
+IsLeaving p.OpenSent = ⊥
+IsLeaving p.Opened = ⊥
+IsLeaving p.CloseReceived = ⊤
+IsLeaving p.Refused = ⊤
+IsLeaving (p.Rejected why) = ⊤
+IsLeaving p.CloseSent = ⊤
+IsLeaving p.Discarding = ⊤
+IsLeaving p.Ended = ⊤
+IsLeaving p.Failed = ⊤
+
+abbrev pub IsLeavingIn : {L : Type 0} → Held L → Type 0
+IsLeavingIn (Early o p) = ⊥
+IsLeavingIn (Late s) = IsLeaving s.phase
+IsLeavingIn (Unopened c) = ⊥
+IsLeavingIn Moving = ⊥
+
+-- a connection that can do no more now: what it read last is no whole frame, all that it queued is written, and a frame is awaited
+pub record IsAtRestIn {L : Type 0} (s : State L) : Type 0 where
+  pub part : IsPart s.wire.codec.input
+  pub written : s.wire.codec.output ≡ []
+  pub awaits : IsAwaiting s.phase
+
+-- what is read next is not there whole: of the exchange of headers, or a frame of a connection that has begun and can do no more now
 abbrev pub IsSorted : {L : Type 0} → Held L → Type 0
 IsSorted (Early o p) = IsAtRest peer_mechanism o
-IsSorted (Late s) = IsPart s.wire.codec.input
+IsSorted (Late s) = IsAtRestIn s
 IsSorted (Unopened c) = ⊤
 IsSorted Moving = ⊤
 

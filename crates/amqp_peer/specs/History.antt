@@ -38,6 +38,17 @@ link_in (Got x ∷ h) = link_in h
 link_in (Put x ∷ h) = link_in h
 link_in (Replied r ∷ h) = link_in h
 
+-- what passed at the link since the last call or poll, the newest first
+abbrev pub latest_in : List Local → List LinkEvent
+latest_in [] = []
+latest_in (Made at name call ∷ h) = []
+latest_in (Polled at ∷ h) = []
+latest_in (AtLink x ∷ h) = x ∷ latest_in h
+latest_in (Exchanged ∷ h) = latest_in h
+latest_in (Got x ∷ h) = latest_in h
+latest_in (Put x ∷ h) = latest_in h
+latest_in (Replied r ∷ h) = latest_in h
+
 -- the frames that were read, in order
 abbrev pub given_in : List Local → List Frame
 given_in [] = []

@@ -4,6 +4,9 @@ pub mod Replies
 pub mod Calls
 pub mod Gated
 pub mod Causes
+pub mod Said
 pub mod Held
+pub mod Layers
 pub mod Peering
 pub mod Runs
+pub mod Rest

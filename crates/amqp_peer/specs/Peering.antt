@@ -1,8 +1,9 @@
 -- An end, in words of what happened at it.
-use Rattle.std.specs.Prelude.{◌≡◌, ◌⊎◌, ℕ, List, [], ◌∷◌, ◌++◌, Bool, true, false, Option, Some, None}
+use Rattle.std.specs.Prelude.{◌≡◌, ◌⊎◌, ℕ, List, [], ◌∷◌, ◌++◌, Bool, true, false, Option, Some, None, ⊤}
 use Rattle.amqp_wire.specs.Events.{LinkEvent}
 use Rattle.amqp_engine.specs.declared.error.Error.{Error as ConnectionFault}
 use Rattle.amqp_engine.specs.declared.error.Error.TheVariants as connection
+use Rattle.amqp_engine.specs.Heard.{IsRejected}
 use Rattle.amqp_engine.specs.Phases.{has_failed}
 use Rattle.amqp_engine.specs.Sentence.{Has as EngineHas, IsCalm}
 use Rattle.amqp_engine.specs.State.{State}
@@ -25,11 +26,13 @@ use Rattle.amqp_peer.specs.declared.peer.Progress.{Progress}
 use Rattle.amqp_peer.specs.declared.peer.Progress.TheVariants as progress
 use Rattle.amqp_peer.specs.declared.prepared.Prepared.{Prepared}
 use Rattle.amqp_peer.specs.Calls.{IsFirstCall, IsClose}
-use Rattle.amqp_peer.specs.Causes.{MadeIn, BeginsWithOpen, IsOther, IsHeardOpen, TransportCause, AllCaused, IsBroken, EndsExchange}
+use Rattle.amqp_peer.specs.Causes.{MadeIn, has_layer, BeginsWithOpen, IsOther, AllCaused, IsBrokenBy, IsBroken, EndsExchange, IsQueued, largest_of}
 use Rattle.amqp_peer.specs.Gated.{IsGatedIn}
-use Rattle.amqp_peer.specs.Held.{IsMidway, IsBusy, link_at, with_link, nothing_held}
+use Rattle.amqp_peer.specs.Held.{IsMidway, IsBusy, IsLeavingIn, link_at, with_link, nothing_held}
 use Rattle.amqp_peer.specs.History.{Local, made_in, link_in, given_in, sent_in, replied_in, read_in, wrote_in, since_in, Once}
+use Rattle.amqp_peer.specs.Layers.{HasLayer}
 use Rattle.amqp_peer.specs.Prepared.{prepared_of, sasl_of}
+use Rattle.amqp_peer.specs.Said.{HasSaid}
 use Rattle.amqp_peer.specs.Replies.{pending, connection, open_failed, answered, IsCloseEnd}
 
 -- an end: what holds its link, which side it is, how far its calls are, the name of the last, the first fault that was not told yet, the
@@ -72,6 +75,7 @@ IsKnown (Some p) = Unit {0}
 -- the headers are being exchanged
 pub record IsExchanging {L : Type 0} (call : Call) (o : Opened L Authentication) (p : Option Prepared) (h : List Local) : Type 0 where
   pub made : MadeIn (sasl_of call) o.has_sasl o.negotiation.exchange
+  pub asked : has_layer (made_in h) ≡ o.has_sasl
   pub prepared : prepared_of call ≡ p
   pub known : IsKnown p
   pub opening : HasOpening peer_mechanism o (link_in h)
@@ -83,6 +87,7 @@ pub record IsRunning {L : Type 0} (call : Call) (s : State L) (h : List Local) :
   pub layer : Bool
   pub x : Authentication
   pub made : MadeIn (sasl_of call) layer x
+  pub asked : has_layer (made_in h) ≡ layer
   pub p : Prepared
   pub prepared : prepared_of call ≡ Some p
   pub before : List LinkEvent
@@ -94,7 +99,9 @@ pub record IsRunning {L : Type 0} (call : Call) (s : State L) (h : List Local) :
   pub runs : EngineHas unwritten arrived s (record { events = since; given = given_in h; sent = sent_in h })
   pub began : Once EndsExchange h
   pub opens : BeginsWithOpen (sent_in h)
+  pub says : HasSaid h
   pub idle : s.wire.clock.idle ≡ idle_of p.idle
+  pub own : s.settings.largest_read ≡ largest_of (Some p)
   pub start : s.wire.clock.since ≡ since_in h
   pub calm : IsCalm s
 
@@ -105,6 +112,8 @@ HasWritten call h = IsGatedIn (sasl_of call) (wrote_in h) (read_in h)
 -- and no frame was read or queued
 pub record HasNoFrames (call : Call) (h : List Local) : Type 0 where
   pub written : HasWritten call h
+  pub exchange : HasLayer (sasl_of call) h
+  pub queued : IsQueued h
   pub given : given_in h ≡ []
   pub sent : sent_in h ≡ []
 
@@ -123,25 +132,25 @@ IsHeld call Moving h = ⊥
 
 -- ---- the fault
 
--- why a connection fails before it is made
-abbrev pub EarlyFault : ConnectionFault → List Local → Type 0
-EarlyFault (connection.Memory a) h = ⊥
-EarlyFault (connection.TransportError e) h = TransportCause e h
-EarlyFault connection.IllegalState h = IsOther (given_in h)
-EarlyFault connection.NotImplemented h = ⊥
-EarlyFault connection.NotFound h = ⊥
-EarlyFault connection.RemoteClosed h = ⊥
-EarlyFault (connection.RemoteClosedWithError e) h = ⊥
+-- why a connection failed before it was made; where its transport did, it is at an end since
+abbrev pub EarlyFault : {L : Type 0} → ConnectionFault → State L → List Local → Type 0
+EarlyFault (connection.Memory a) s h = ⊥
+EarlyFault (connection.TransportError e) s h = (has_failed s.phase ≡ true) × IsBrokenBy e h
+EarlyFault connection.IllegalState s h = Once (λ g. IsOther (given_in g)) h
+EarlyFault connection.NotImplemented s h = ⊥
+EarlyFault connection.NotFound s h = ⊥
+EarlyFault connection.RemoteClosed s h = ⊥
+EarlyFault (connection.RemoteClosedWithError e) s h = ⊥
 
 -- and after it was made
-abbrev pub LateFault : ConnectionFault → List Local → Type 0
-LateFault (connection.Memory a) h = ⊥
-LateFault (connection.TransportError e) h = TransportCause e h
-LateFault connection.IllegalState h = IsHeardOpen h
-LateFault connection.NotImplemented h = IsHeardOpen h
-LateFault connection.NotFound h = IsHeardOpen h
-LateFault connection.RemoteClosed h = ⊥
-LateFault (connection.RemoteClosedWithError e) h = ⊥
+abbrev pub LateFault : {L : Type 0} → ConnectionFault → State L → List Local → Type 0
+LateFault (connection.Memory a) s h = ⊥
+LateFault (connection.TransportError e) s h = (has_failed s.phase ≡ true) × IsBrokenBy e h
+LateFault connection.IllegalState s h = Once (λ g. IsRejected (given_in g)) h
+LateFault connection.NotImplemented s h = Once (λ g. IsRejected (given_in g)) h
+LateFault connection.NotFound s h = Once (λ g. IsRejected (given_in g)) h
+LateFault connection.RemoteClosed s h = ⊥
+LateFault (connection.RemoteClosedWithError e) s h = ⊥
 
 -- ---- how far the calls are
 
@@ -162,7 +171,7 @@ IsBrokenIn s h = has_failed s.phase ≡ true → IsBroken h
 -- the connection is not made, and a fault had its cause when it came
 abbrev pub IsUnmadeAt : {L : Type 0} → Option ConnectionFault → State L → List Local → Type 0
 IsUnmadeAt None s h = IsFaultless s h
-IsUnmadeAt (Some e) s h = Once (EarlyFault e) h × (IsUnheard s h × IsBrokenIn s h)
+IsUnmadeAt (Some e) s h = EarlyFault e s h × (IsUnheard s h × IsBrokenIn s h)
 
 abbrev pub IsUnmade : {L : Type 0} → Option ConnectionFault → Held L → List Local → Type 0
 IsUnmade fault (Early o p) h = (fault ≡ None) × IsMidway o.stage
@@ -173,7 +182,14 @@ IsUnmade fault Moving h = ⊥
 -- the connection is made, and a fault had its cause when it came
 abbrev pub IsFaultIn : {L : Type 0} → Option ConnectionFault → State L → List Local → Type 0
 IsFaultIn None s h = has_failed s.phase ≡ false
-IsFaultIn (Some e) s h = Once (LateFault e) h × IsBrokenIn s h
+IsFaultIn (Some e) s h = LateFault e s h × IsBrokenIn s h
+
+-- the same of what holds the link
+abbrev pub IsBrokenHeld : {L : Type 0} → Held L → List Local → Type 0
+IsBrokenHeld (Early o p) h = ⊤
+IsBrokenHeld (Late s) h = IsBrokenIn s h
+IsBrokenHeld (Unopened c) h = ⊤
+IsBrokenHeld Moving h = ⊤
 
 abbrev pub IsMadeIn : {L : Type 0} → Option ConnectionFault → Held L → List Local → Type 0
 IsMadeIn fault (Early o p) h = ⊥
@@ -217,7 +233,7 @@ pub record IsOpen {L : Type 0} (p : Peering L) (h : List Local) : Type 0 where
   pub called : HasCalled call p.held h
   pub is_made : IsMadeIn p.fault p.held h
 
--- a close waits
+-- a close waits: a Close is queued or owed, or the connection has stopped
 pub record IsClosing {L : Type 0} (p : Peering L) (h : List Local) : Type 0 where
   pub call : Call
   pub name : ℕ
@@ -226,6 +242,7 @@ pub record IsClosing {L : Type 0} (p : Peering L) (h : List Local) : Type 0 wher
   pub replied : replied_in h ≡ pending name ∷ connection name ∷ pending p.name ∷ []
   pub called : HasCalled call p.held h
   pub is_made : IsMadeIn p.fault p.held h
+  pub leaves : IsLeavingIn p.held
 
 -- the open or accept has failed
 pub record HasFailedOpen {L : Type 0} (p : Peering L) (h : List Local) : Type 0 where
@@ -236,6 +253,7 @@ pub record HasFailedOpen {L : Type 0} (p : Peering L) (h : List Local) : Type 0 
   pub replied : replied_in h ≡ pending name ∷ open_failed name error ∷ []
   pub called : HasCalled call p.held h
   pub done : IsBusy p.held → ⊥
+  pub broken : IsBrokenHeld p.held h
 
 -- the close has its last answer
 pub record HasClosed {L : Type 0} (p : Peering L) (h : List Local) : Type 0 where
@@ -249,6 +267,7 @@ pub record HasClosed {L : Type 0} (p : Peering L) (h : List Local) : Type 0 wher
   pub replied : (replied_in h ≡ pending name ∷ connection name ∷ pending closing ∷ answered closing reply ∷ []) ⊎ (replied_in h ≡ pending name ∷ connection name ∷ answered closing reply ∷ [])
   pub called : HasCalled call p.held h
   pub done : IsBusy p.held → ⊥
+  pub broken : IsBrokenHeld p.held h
 
 abbrev pub HasIn : {L : Type 0} → Progress → Peering L → List Local → Type 0
 HasIn progress.Idle p h = HasNothing p h

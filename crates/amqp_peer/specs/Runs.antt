@@ -1,7 +1,6 @@
 -- An end that goes on.
-use Rattle.std.specs.Prelude.{◌≡◌, ◌≤◌, ◌+◌, ◌^◌, ◌⊎◌, ℕ, List, [], ◌∷◌, ◌++◌, length, Bool, true, false, Option, Some, None, Result, Ok, Err}
+use Rattle.std.specs.Prelude.{◌≡◌, ◌≤◌, ◌+◌, ◌^◌, ◌⊎◌, ℕ, List, [], ◌∷◌, ◌++◌, length, Bool, true, false, Option, Some, None, Result, Ok, Err, ⊤}
 use Rattle.std.specs.declared.alloc.AllocError.{AllocError}
-use Rattle.amqp_composites.specs.declared.error.Error.{Error as AmqpError}
 use Rattle.amqp_frames.specs.declared.shared.ConnectionStopReason.{ConnectionStopReason}
 use Rattle.amqp_frames.specs.declared.shared.ConnectionStopReason.TheVariants as why
 use Rattle.amqp_wire.specs.declared.link.Held.TheVariants.{Full}
@@ -10,6 +9,7 @@ use Rattle.amqp_wire.specs.declared.link.Stop.TheVariants.{Empty}
 use Rattle.amqp_wire.specs.Events.{NotRead, NotWritten, Went, Includes, reads_in}
 use Rattle.amqp_engine.specs.declared.error.Error.{Error as ConnectionFault}
 use Rattle.amqp_engine.specs.declared.error.Error.TheVariants as fault
+use Rattle.amqp_engine.specs.Outcomes.{IsWritten}
 use Rattle.amqp_words.specs.declared.open_error.OpenError.{OpenError}
 use Rattle.amqp_words.specs.declared.open_error.OpenError.TheVariants as failed
 use Rattle.amqp_words.specs.declared.reply.Reply.{Reply}
@@ -21,21 +21,41 @@ use Rattle.amqp_words.specs.declared.call.Call.{Call}
 use Rattle.amqp_words.specs.declared.call.Call.TheVariants.{Close}
 use Rattle.amqp_peer.specs.declared.prepared.Prepared.{Prepared}
 use Rattle.amqp_peer.specs.declared.held.Held.{Held}
-use Rattle.amqp_peer.specs.declared.held.Held.TheVariants.{Early}
+use Rattle.amqp_peer.specs.declared.held.Held.TheVariants.{Early, Late, Unopened, Moving}
 use Rattle.amqp_peer.specs.declared.peer.Progress.{Progress}
 use Rattle.amqp_peer.specs.declared.peer.Progress.TheVariants as progress
-use Rattle.amqp_peer.specs.Held.{IsActive, IsSorted, IsExchanged, EndedEarly, reason_of, is_made}
+use Rattle.amqp_peer.specs.Held.{IsActive, IsStopped, IsSound, IsSorted, IsExchanged, EndedEarly, reason_of, is_made}
 use Rattle.amqp_peer.specs.History.{Local, made_in, link_in, given_in, sent_in, replied_in, moment_in, IsInside}
 use Rattle.amqp_peer.specs.Causes.{AllCaused}
 use Rattle.amqp_peer.specs.Peering.{Peering, Has, HasCalled, IsMadeIn, IsUntouched, link_of}
 use Rattle.amqp_peer.specs.Replies.{pending, connection, answered}
 
--- why an end can do no more now: the link had no input, and no whole frame is left, or it took no output, or a great many reads were
--- made, or frames read and queued
+-- why an end can do no more now: the link had no input, no whole frame is left, and nothing of a connection is to go out; or it took no
+-- output; or a great many reads were made, or frames read and queued
 abbrev pub IsSettled : {L : Type 0} → Held L → List Local → Type 0
 IsSettled held events =
     (Includes (link_in events) (NotRead Empty) × IsSorted held) ⊎ (Includes (link_in events) (NotWritten Full)
     ⊎ ((2 ^ 62 ≤ reads_in (link_in events)) ⊎ (2 ^ 62 ≤ length (given_in events) + length (sent_in events))))
+
+-- a call waits for its last answer
+abbrev pub CallWaits : Progress → Type 0
+CallWaits progress.Idle = ⊥
+CallWaits progress.Opening = ⊤
+CallWaits progress.Open = ⊥
+CallWaits progress.Closing = ⊤
+CallWaits progress.Over = ⊥
+
+-- what a connection queued is written as far as the link took it, unless the transport failed
+abbrev pub IsFlushed : {L : Type 0} → Held L → List Local → Type 0
+IsFlushed (Early o p) events = ⊤
+IsFlushed (Late s) events = IsWritten s.phase (link_in events) s.wire.codec.output
+IsFlushed (Unopened c) events = ⊤
+IsFlushed Moving events = ⊤
+
+-- what is so once a connection has stopped: no call waits, and what was queued is written as far as that goes; or a great many frames were
+-- read and queued
+abbrev pub IsConcluded : {L : Type 0} → Peering L → List Local → Type 0
+IsConcluded p events = ((CallWaits p.progress → ⊥) × IsFlushed p.held events) ⊎ (2 ^ 62 ≤ 1 + (length (given_in events) + length (sent_in events)))
 
 -- An end went on by itself, with at most so many reads that gave bytes, from what was before: what passed at its link, its frames and its
 -- replies are added to its history.
@@ -51,16 +71,19 @@ pub record AdvancedFrom {L : Type 0} (link : Ghosts L) (at n : ℕ) (Before : Li
 abbrev pub Advanced : {L : Type 0} → Ghosts L → ℕ → ℕ → Peering L → Peering L → Type 0
 Advanced link at n old new = AdvancedFrom link at n (Has old) old new
 
--- so many steps of the connection, each of which read or queued a frame, unless the connection has stopped
+-- so many steps of the connection, each of which read or queued a frame, but for the last where the transport failed in it
 pub record Worked {L : Type 0} (link : Ghosts L) (at n : ℕ) (old new : Peering L) : Type 0 where
   pub run : Advanced link at n old new
-  pub frames : IsActive new.held → n ≤ length (given_in run.events) + length (sent_in run.events)
-  pub stays : IsActive new.held → IsActive old.held
+  pub frames : IsSound new.held → n ≤ length (given_in run.events) + length (sent_in run.events)
+  pub most : n ≤ 1 + (length (given_in run.events) + length (sent_in run.events))
+  pub stays : IsSound new.held → IsSound old.held
+  pub from : 1 ≤ n → IsSound old.held
 
 -- it went on until it could do no more
 pub record RestedFrom {L : Type 0} (link : Ghosts L) (at n : ℕ) (Before : List Local → Type 0) (old new : Peering L) : Type 0 where
   pub run : AdvancedFrom link at n Before old new
   pub settled : IsActive new.held → IsSettled new.held run.events
+  pub concluded : IsStopped new.held → IsConcluded new run.events
   pub begun : IsExchanged new.held → ⊥
 
 abbrev pub Rested : {L : Type 0} → Ghosts L → ℕ → ℕ → Peering L → Peering L → Type 0
@@ -90,16 +113,18 @@ pub record IsAskedToClose {L : Type 0} (condition : Option (List ℕ)) (p : Peer
   pub called : HasCalled call p.held h
   pub is_made : IsMadeIn p.fault p.held h
 
--- what the end has, where the last call is a close with this condition
+-- the same, answered by pending
 pub record IsToClose {L : Type 0} (condition : Option (List ℕ)) (p : Peering L) (h : List Local) : Type 0 where
+  pub call : Call
   pub name : ℕ
-  pub earlier : List (ℕ × Call)
-  pub made : made_in h ≡ (name, Close condition) ∷ earlier
-  pub has : Has p h
+  pub made : made_in h ≡ (p.name, Close condition) ∷ (name, call) ∷ []
+  pub replied : replied_in h ≡ pending name ∷ connection name ∷ pending p.name ∷ []
+  pub called : HasCalled call p.held h
+  pub is_made : IsMadeIn p.fault p.held h
 
 -- An end made a step, which began with a call or a poll: what passed at its link, its frames and its replies are added to its
--- history. It stops where it can do no more now, or where the connection has not begun or has ended; where the headers are exchanged,
--- the connection begins.
+-- history. It stops where it can do no more now, or where the connection has not begun or has ended, and then no call waits for it; where
+-- the headers are exchanged, the connection begins.
 pub record Stepped {L : Type 0} (link : Ghosts L) (old : Peering L) (first : Local) (new : Peering L) : Type 0 where
   pub events : List Local
   pub inside : IsInside events
@@ -108,6 +133,7 @@ pub record Stepped {L : Type 0} (link : Ghosts L) (old : Peering L) (first : Loc
   pub few : reads_in (link_in events) ≤ 2 ^ 63
   pub kind : new.kind ≡ old.kind
   pub settled : IsActive new.held → IsSettled new.held events
+  pub concluded : IsStopped new.held → IsConcluded new events
   pub begun : (IsExchanged old.held → ⊥) → IsExchanged new.held → ⊥
   pub grows : (h : List Local) → Has old h → Has new (events ++ first ∷ h)
 

@@ -5,7 +5,7 @@ ghost use Rattle.amqp_engine.specs.Calls.{Sends};
 ghost use Rattle.amqp_engine.specs.State.{State, closing, close_frame, stop_reason_of};
 ghost use Rattle.amqp_peer.specs.contracts.held.Held.{the_row};
 ghost use Rattle.amqp_peer.specs.declared.held.Held.{Held};
-ghost use Rattle.amqp_peer.specs.Held.{IsThere, IsEarly, IsReady, IsExchanged, IsActive, IsLate, with_link, link_at, nothing_held, BeganWith, BeganPlain, EndedEarly, RanEarly, Connected, IsConnecting, bound, SteppedLate, ClosedLate, FitsCall, is_made, reason_of};
+ghost use Rattle.amqp_peer.specs.Held.{IsThere, IsEarly, IsReady, IsExchanged, IsActive, IsStopped, IsLate, with_link, link_at, nothing_held, BeganWith, BeganPlain, EndedEarly, RanEarly, Connected, IsConnecting, bound, SteppedLate, ClosedLate, FitsCall, is_made, reason_of};
 
 use crate::drops::discard;
 use crate::prepared::Prepared;
@@ -112,6 +112,7 @@ impl<L: Link> Held<L> {
         ensures early { result ≡ Way.Early → IsReady self.now }
         ensures late { result ≡ Way.Late → IsLate self.now }
         ensures over { result ≡ Way.Over → IsActive self.now → ⊥ }
+        ensures begun { result ≡ Way.Over → IsStopped self.now → ⊥ }
     {
         match self {
             Held::Early(opening, Some(_)) => match opening.stage() {

@@ -14,4 +14,4 @@ returns-in-Late-clause-ok g c =
     on_ok c.go_on.result (λ r. polled g.L.Link c.args.at (2 ^ 62) c.args.self.now c.go_on.new.self few r) c.go_on.ensures.ok
 
 pub returns-in-Over-clause-ok : goal.returns-in-Over-clause-ok
-returns-in-Over-clause-ok g c = rw (← c.self.view_is) (polled_idle g.L.Link c.args.at _ (c.way.ensures.over c.in-Over.is))
+returns-in-Over-clause-ok g c = rw (← c.self.view_is) (polled_idle g.L.Link c.args.at _ (c.way.ensures.over c.in-Over.is) (c.way.ensures.begun c.in-Over.is))

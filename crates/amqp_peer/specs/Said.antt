@@ -1,0 +1,74 @@
+-- What an end says on its connection, and why it closes it (OASIS AMQP 1.0, part 2, section 2.4).
+use Rattle.std.specs.Prelude.{◌≡◌, ◌⊎◌, ℕ, List, [], ◌∷◌, ◌++◌, Option, Some, None}
+use Rattle.amqp_composites.specs.declared.close.Close.{Close}
+use Rattle.amqp_composites.specs.declared.error.Error.{Error as AmqpError}
+use Rattle.amqp_frames.specs.declared.body.FrameBody.TheVariants as b
+use Rattle.amqp_transport.specs.declared.frames.Frame.{Frame}
+use Rattle.amqp_transport.specs.Kinds.{no_frame}
+use Rattle.amqp_engine.specs.Heard.{IsGreeted, IsStray}
+use Rattle.amqp_engine.specs.Phases.{kind_of, IsInner}
+use Rattle.amqp_engine.specs.State.{open_frame, close_frame}
+use Rattle.amqp_words.specs.declared.call.Call.{Call}
+use Rattle.amqp_words.specs.declared.call.Call.TheVariants.{Close as CloseCall}
+use Rattle.amqp_peer.specs.declared.prepared.Prepared.{Prepared}
+use Rattle.amqp_peer.specs.Causes.{prepared_in}
+use Rattle.amqp_peer.specs.History.{Local, made_in, given_in, sent_in}
+use Rattle.amqp_peer.specs.Prepared.{error_for}
+
+-- empty frames alone (section 2.4.5)
+abbrev pub AllEmpty : List Frame → Type 0
+AllEmpty [] = Unit {0}
+AllEmpty (x ∷ xs) = (x ≡ no_frame) × AllEmpty xs
+
+-- the Open that the first call asks for, and then empty frames (sections 2.4.1 and 2.4.5)
+pub record IsPlain (p : Option Prepared) (sent : List Frame) : Type 0 where
+  pub own : Prepared
+  pub is_own : p ≡ Some own
+  pub more : List Frame
+  pub each : AllEmpty more
+  pub is : sent ≡ open_frame own.end ∷ more
+
+-- ---- what was read, whatever was read after it
+
+-- a Close (section 2.4.3)
+pub record HasClose (given : List Frame) : Type 0 where
+  pub front : List Frame
+  pub channel : ℕ
+  pub last : Close
+  pub more : List Frame
+  pub is : given ≡ front ++ record { channel = channel; body = b.Close last } ∷ more
+
+-- another frame than Open or Close in place of Open (section 2.4.1)
+pub record HasOtherFirst (given : List Frame) : Type 0 where
+  pub first : Frame
+  pub more : List Frame
+  pub other : IsInner (kind_of first.body)
+  pub is : given ≡ first ∷ more
+
+-- a frame that has no place behind the Open while no Close was read (sections 2.4.1 and 2.7)
+pub record HasStray (given : List Frame) : Type 0 where
+  pub front : List Frame
+  pub stray : Frame
+  pub more : List Frame
+  pub before : IsGreeted front
+  pub has_no_place : IsStray (kind_of stray.body)
+  pub is : given ≡ front ++ stray ∷ more
+
+-- ---- what was said
+
+-- why a Close was queued: it was called, the peer's was read, another frame than Open or Close came in place of Open, or a frame that has
+-- no place while the connection is open (sections 2.4.1 and 2.4.3)
+pub data CloseCause (calls : List (ℕ × Call)) (given : List Frame) (error : Option AmqpError) : Type 0 where
+  called : (name : ℕ) (condition : Option (List ℕ)) (earlier : List (ℕ × Call)) → calls ≡ (name, CloseCall condition) ∷ earlier → error ≡ error_for condition → CloseCause calls given error
+  answers : HasClose given → error ≡ None → CloseCause calls given error
+  mistaken : HasOtherFirst given → error ≡ None → CloseCause calls given error
+  rejected : HasStray given → CloseCause calls given error
+
+-- what an end says: nothing, its Open and empty frames, or these and one Close that has its cause
+abbrev pub IsSaidFor : Option Prepared → List (ℕ × Call) → List Frame → List Frame → Type 0
+IsSaidFor p calls given sent =
+    (sent ≡ []) ⊎ (IsPlain p sent ⊎ ((front : List Frame) × (error : Option AmqpError) × IsPlain p front × (sent ≡ front ++ close_frame error ∷ []) × CloseCause calls given error))
+
+-- what an end has said by now
+abbrev pub HasSaid : List Local → Type 0
+HasSaid h = IsSaidFor (prepared_in (made_in h)) (made_in h) (given_in h) (sent_in h)
