@@ -1,0 +1,225 @@
+-- Why a negotiation fails between two ends.
+use Rattle.std.proofs.Common.{◌≡◌, ◌⊎◌, ◌≤◌, inl, inr, ℕ, List, [], ◌∷◌, ◌++◌, length, take, Bool, true, Option, Some, None, refl, sym, ap, ◌∙◌, subst}
+use Rattle.amqp_composites.specs.declared.sasl_body.SaslBody.{SaslBody}
+use Rattle.amqp_engine.specs.Sentence.{bytes_of_all}
+use Rattle.sha2.specs.Sha256.{sha256}
+use Rattle.amqp_wire.specs.Events.{LinkEvent, read_of}
+use Rattle.sasl_gate.specs.declared.gate.client.SaslProfile.TheVariants as profile
+use Rattle.sasl_gate.specs.declared.gate.error.NegotiationError.{NegotiationError}
+use Rattle.sasl_gate.specs.declared.gate.error.NegotiationError.TheVariants.{Memory, ProtocolHeaderMismatch, NotImplemented, SaslError, ScramError, Io, DecodeError, IllegalState, FramingError}
+use Rattle.sasl_gate.specs.declared.gate.exchange.Turn.TheVariants.{Pass}
+use Rattle.sasl_gate.specs.declared.scram.error.ScramErrorKind.TheVariants.{TextNotAllowed}
+use Rattle.sasl_gate.specs.Check.{stored_of}
+use Rattle.sasl_gate.specs.ClientGate.{ClientEnd, client_holds}
+use Rattle.sasl_gate.specs.Negotiation.{HeaderCause, IsHeard, IsOverlong, at_link, at_header, at_frame, by_body, too_long}
+use Rattle.sasl_gate.specs.Profile.{IsAllowedUser, IsNonce}
+use Rattle.sasl_gate.specs.ServerGate.{ServerEnd, server_holds}
+use Rattle.sasl_gate.specs.States.{Account}
+use Rattle.amqp_opening.specs.declared.acceptor.AcceptSasl.TheVariants as accept
+use Rattle.amqp_opening.specs.declared.authentication.Authentication.{Authentication}
+use Rattle.amqp_opening.specs.declared.authentication.Authentication.TheVariants as exchange
+use Rattle.amqp_opening.specs.declared.authentication.SaslCall.{SaslCall}
+use Rattle.amqp_opening.specs.declared.authentication.SaslCall.TheVariants as layer
+use Rattle.amqp_opening.specs.Authentication.{IsAskedClient, IsAskedListener, IsClientFor, IsListenerFor, MadeFor, HasAllowedTexts, holds_by, owes_by, peer_mechanism, stored_for, turn_by}
+use Rattle.amqp_opening.specs.Opening.{HasEnding, HasEndedSasl, IsPlainCause, IsSaslCause, IsSaslCauseAfter, at_amqp_header, at_plain_header, in_negotiation}
+use Rattle.amqp_opening.specs.Opening.{at_link as at_plain_link}
+use Rattle.amqp_pairs.specs.Joined.{AreEnds}
+use Rattle.amqp_pairs.specs.Streams.{IsSaid}
+use Rattle.amqp_words.specs.declared.call.Call.{Call}
+use Rattle.amqp_words.specs.declared.call.Call.TheVariants.{Open, Accept, Close}
+use Rattle.amqp_peer.specs.declared.peer.PeerKind.{PeerKind}
+use Rattle.amqp_peer.specs.declared.peer.PeerKind.TheVariants.{Client, Listener}
+use Rattle.amqp_peer.specs.Causes.{MadeIn, IsOpenCause, OpenCauseIn, not_allowed, in_opening}
+use Rattle.amqp_peer.specs.History.{Local, made_in, link_in, sent_in, read_in, wrote_in}
+use Rattle.amqp_peer.specs.Layers.{HasExchange, HasLayer, layer_in}
+use Rattle.amqp_peer.specs.Prepared.{sasl_of}
+use Rattle.amqp_ends.specs.Gates.{Faces, IsFairNegotiation}
+use Rattle.amqp_ends.specs.Quiet.{AreOpposite, BeginsIn, Begins}
+use Rattle.amqp_ends.specs.Joined.{IsCalm}
+use Rattle.amqp_ends.proofs.GateClient.{client_fair}
+use Rattle.amqp_ends.proofs.GateListener.{listener_fair}
+use Rattle.amqp_ends.proofs.GateWords.{IsBehind, IsPlainRead, behind_is, ended_behind, link_blameless, none_read, nothing_read, plain_deaf, plain_front, plain_read, said_to}
+
+-- ---- the layers of a client and of a listener
+
+abbrev IsLayerOf : PeerKind → Option SaslCall → Type 0
+IsLayerOf Client None = Unit {0}
+IsLayerOf Client (Some (layer.Client p host)) = Unit {0}
+IsLayerOf Client (Some (layer.Listener a)) = ⊥
+IsLayerOf Listener None = Unit {0}
+IsLayerOf Listener (Some (layer.Client p host)) = ⊥
+IsLayerOf Listener (Some (layer.Listener a)) = Unit {0}
+
+layer_of_call : (kind : PeerKind) (call : Call) → Begins kind call → IsLayerOf kind (sasl_of call)
+layer_of_call Client (Open settings host None) b = tt
+layer_of_call Client (Open settings host (Some p)) b = tt
+layer_of_call Client (Accept settings sasl) b = absurd b
+layer_of_call Client (Close error) b = absurd b
+layer_of_call Listener (Open settings host sasl) b = absurd b
+layer_of_call Listener (Accept settings None) b = tt
+layer_of_call Listener (Accept settings (Some a)) b = tt
+layer_of_call Listener (Close error) b = absurd b
+
+layer_of : (kind : PeerKind) (calls : List (ℕ × Call)) → BeginsIn kind calls → IsLayerOf kind (layer_in calls)
+layer_of Client [] b = tt
+layer_of Listener [] b = tt
+layer_of kind (call ∷ []) b = layer_of_call kind call.1 b
+layer_of kind (call ∷ earlier ∷ calls) b = layer_of kind (earlier ∷ calls) b
+
+-- one layer is a client's and the other a listener's
+abbrev AreOppositeLayers : Option SaslCall → Option SaslCall → Type 0
+AreOppositeLayers near there = (IsLayerOf Client near × IsLayerOf Listener there) ⊎ (IsLayerOf Listener near × IsLayerOf Client there)
+
+opposite_layers : (near there : List (ℕ × Call)) → AreOpposite near there → AreOppositeLayers (layer_in near) (layer_in there)
+opposite_layers near there (inl (a, b)) = inl (layer_of Client near a, layer_of Listener there b)
+opposite_layers near there (inr (a, b)) = inr (layer_of Listener near a, layer_of Client there b)
+
+-- ---- the ends of an exchange
+
+module _ (user password nonce : List ℕ) (hostname : Option (List ℕ)) (user' password' salt : List ℕ) (count : ℕ) (nonce' : List ℕ) where
+  ends_of : (x : ClientEnd) (y : ServerEnd Account) → IsClientFor user password nonce hostname x → IsListenerFor user' password' salt count nonce' y
+      → IsAskedClient user password nonce → IsAskedListener user' password' salt count nonce' → (gc sc gl sl : List SaslBody) → client_holds x gc sc → server_holds stored_for y gl sl
+      → AreEnds x y salt count gc sc gl sl
+  ends_of x y m n (u, p, k) (u', p', s, c, k') gc sc gl sl held held' = record {
+    user_is = subst IsAllowedUser (sym m.user_is) u;
+    nonce_is = subst IsNonce (sym m.nonce_is) k;
+    own_is = subst IsNonce (sym n.nonce_is) k';
+    stored_is = ap (λ (a : Account). a.stored) n.account ∙ ap (λ (w : List ℕ). Some (stored_of sha256 64 32 w salt count)) (sym (ap (λ (a : Account). a.password) n.account));
+    salt_is = s;
+    count_is = c;
+    client = held;
+    listener = held';
+  }
+
+  module _ (e : NegotiationError) (events : List LinkEvent) (calm : IsCalm events) (given sent given' sent' : List SaslBody) (tc al lr tl ac more : List ℕ)
+      (s : IsSaid (read_of events) tc al sent') (h : IsHeard lr given') (t : IsSaid lr tl ac sent) where
+    -- a client faces a listener
+    client_at : (x y : Authentication) → MadeFor (layer.Client (profile.ScramSha256 user password nonce) hostname) x → MadeFor (layer.Listener (accept.ScramSha256 user' password' salt count nonce')) y
+        → holds_by x given sent → holds_by y given' sent' → IsBehind (turn_by y ≡ Pass) al more
+        → (c : IsSaslCause peer_mechanism x e events) → IsSaslCauseAfter peer_mechanism x e events given sent c
+        → IsFairNegotiation (Some (layer.Client (profile.ScramSha256 user password nonce) hostname)) (Some (layer.Listener (accept.ScramSha256 user' password' salt count nonce'))) e
+    client_at exchange.Idle y m n held held' b c a = absurd m
+    client_at (exchange.Listener x) y m n held held' b c a = absurd m
+    client_at (exchange.Client x) exchange.Idle m n held held' b c a = absurd n
+    client_at (exchange.Client x) (exchange.Client y) m n held held' b c a = absurd n
+    client_at (exchange.Client x) (exchange.Listener y) m n held held' b c a =
+        client_fair user password nonce hostname user' password' salt count nonce' x y m n given sent given' sent' (ends_of x y m n m.asked n.asked given sent given' sent' held held')
+        events calm tc al lr tl ac more s b h t e c a
+
+    -- a listener faces a client
+    listener_at : (x y : Authentication) → MadeFor (layer.Listener (accept.ScramSha256 user' password' salt count nonce')) x → MadeFor (layer.Client (profile.ScramSha256 user password nonce) hostname) y
+        → holds_by x given sent → holds_by y given' sent' → IsBehind (turn_by y ≡ Pass) al more
+        → (c : IsSaslCause peer_mechanism x e events) → IsSaslCauseAfter peer_mechanism x e events given sent c
+        → IsFairNegotiation (Some (layer.Listener (accept.ScramSha256 user' password' salt count nonce'))) (Some (layer.Client (profile.ScramSha256 user password nonce) hostname)) e
+    listener_at exchange.Idle y m n held held' b c a = absurd m
+    listener_at (exchange.Client x) y m n held held' b c a = absurd m
+    listener_at (exchange.Listener x) exchange.Idle m n held held' b c a = absurd n
+    listener_at (exchange.Listener x) (exchange.Listener y) m n held held' b c a = absurd n
+    listener_at (exchange.Listener x) (exchange.Client y) m n held held' b c a =
+        listener_fair user password nonce hostname user' password' salt count nonce' y x n m given' sent' given sent (ends_of y x n m n.asked m.asked given' sent' given sent held' held)
+        events calm lr tl ac tc al more h t s b e c a
+
+module _ (g far : List Local) (calm : IsCalm (link_in g)) (f : Faces g far) (e : NegotiationError) where
+  -- ---- an end without a layer
+
+  plain : (there : Option SaslCall) → layer_in (made_in far) ≡ there → IsPlainCause e (link_in g) → IsFairNegotiation None there e
+  plain there is (at_plain_link l) = absurd (link_blameless e (link_in g) calm l)
+  plain None is (at_plain_header long other what) = absurd (other (plain_front (read_in g) (plain_read g far f.left f.far_tied f.reads is) long))
+  plain (Some d) is (at_plain_header long other what) = subst (IsFairNegotiation None (Some d)) (sym what) tt
+
+  -- ---- an end with a layer, to whose exchange nothing is said
+
+  module _ (c : SaslCall) (x : Authentication) (m : MadeFor c x) (there : Option SaslCall) where
+    overlong : (given sent : List SaslBody) → holds_by x given sent → (body : SaslBody) → owes_by x body → IsOverlong body → e ≡ FramingError → IsFairNegotiation (Some c) there e
+    overlong given sent held body o l is =
+        subst (IsFairNegotiation (Some c) there) (sym is) (record { x = x; made = m; given = given; sent = sent; held = held; body = body; owed = o; long = l })
+
+    module _ (p : IsPlainRead (read_in g)) (header : (h : List ℕ) → 8 ≤ length (read_in g) → h ≡ take 8 (read_in g) → IsFairNegotiation (Some c) there (ProtocolHeaderMismatch h)) where
+      mismatch : (k : NegotiationError) → HeaderCause k (read_in g) → IsFairNegotiation (Some c) there k
+      mismatch (Memory a) r = absurd r
+      mismatch (ProtocolHeaderMismatch h) (long, is, other) = header h long is
+      mismatch NotImplemented r = absurd r
+      mismatch (SaslError code d) r = absurd r
+      mismatch (ScramError kind) r = absurd r
+      mismatch (Io kind) r = absurd r
+      mismatch DecodeError r = absurd r
+      mismatch IllegalState r = absurd r
+      mismatch FramingError r = absurd r
+
+      unheard : (given sent : List SaslBody) → holds_by x given sent → IsSaslCause peer_mechanism x e (link_in g) → IsFairNegotiation (Some c) there e
+      unheard given sent held (in_negotiation (at_link l)) = absurd (link_blameless e (link_in g) calm l)
+      unheard given sent held (in_negotiation (at_header r)) = mismatch e r
+      unheard given sent held (in_negotiation (at_frame read rest is r)) = absurd (plain_deaf (read_in g) rest read p is)
+      unheard given sent held (in_negotiation (by_body read told rest is r)) = absurd (plain_deaf (read_in g) rest read p is)
+      unheard given sent held (in_negotiation (too_long body o l is)) = overlong given sent held body o l is
+      unheard given sent held (at_amqp_header read told rest is r turn long other what) = absurd (plain_deaf (read_in g) rest read p is)
+
+  -- the other end has none
+  alone : (c : SaslCall) (x : Authentication) → MadeFor c x → (given sent : List SaslBody) → holds_by x given sent → layer_in (made_in far) ≡ None → IsSaslCause peer_mechanism x e (link_in g)
+      → IsFairNegotiation (Some c) None e
+  alone c x m given sent held is cause =
+      let p = plain_read g far f.left f.far_tied f.reads is in
+      unheard c x m None p (λ h long what. (what ∙ plain_front (read_in g) p long, tt)) given sent held cause
+
+  -- that of the other end was refused there
+  unanswered : (c d : SaslCall) (x : Authentication) → MadeFor c x → (given sent : List SaslBody) → holds_by x given sent → wrote_in far ≡ [] → IsSaslCause peer_mechanism x e (link_in g)
+      → IsFairNegotiation (Some c) (Some d) e
+  unanswered c d x m given sent held none cause =
+      unheard c x m (Some d) (nothing_read (read_in g) f.left (f.reads ∙ none)) (λ h long what. absurd (none_read (read_in g) f.left long (f.reads ∙ none))) given sent held cause
+
+  -- ---- both ends have one
+
+  module _ (x : Authentication) (cause : IsSaslCause peer_mechanism x e (link_in g)) (n : HasEndedSasl peer_mechanism x e (link_in g) cause) where
+    -- what the end says, and what it hears
+    said : IsSaid (read_in far) (f.far_left ++ n.out) n.after n.sent
+    said = said_to (read_in far) (wrote_in g) f.far_left n.out n.after n.sent n.framed (behind_is (turn_by x ≡ Pass) n.after [] (ended_behind (turn_by x ≡ Pass) n.after n.behind)) n.wrote f.far_reads
+
+    hears : (d : SaslCall) (k : HasExchange d far) → IsSaid (read_in g) (f.left ++ k.out) k.after k.sent
+    hears d k = said_to (read_in g) (wrote_in far) f.left k.out k.after k.sent k.framed (behind_is (turn_by k.x ≡ Pass) k.after (bytes_of_all (sent_in far)) k.behind) k.wrote f.reads
+
+    both : (c d : SaslCall) → MadeFor c x → (k : HasExchange d far) → AreOppositeLayers (Some c) (Some d)
+        → IsFairNegotiation (Some c) (Some d) e
+    both (layer.Client p host) (layer.Client q host') m k o = absurd (elim o as (λ _. ⊥) [ inl (a, b) ↦ b | inr (a, b) ↦ a ])
+    both (layer.Listener p) (layer.Listener q) m k o = absurd (elim o as (λ _. ⊥) [ inl (a, b) ↦ a | inr (a, b) ↦ b ])
+    both (layer.Client (profile.ScramSha256 user password nonce) host) (layer.Listener (accept.ScramSha256 user' password' salt count nonce')) m k o =
+        client_at user password nonce host user' password' salt count nonce' e (link_in g) calm n.given n.sent k.given k.sent (f.left ++ k.out) k.after (read_in far) (f.far_left ++ n.out) n.after (bytes_of_all (sent_in far))
+        (hears _ k) k.heard said x k.x m k.made n.held k.held k.behind cause n.about
+    both (layer.Listener (accept.ScramSha256 user' password' salt count nonce')) (layer.Client (profile.ScramSha256 user password nonce) host) m k o =
+        listener_at user password nonce host user' password' salt count nonce' e (link_in g) calm n.given n.sent k.given k.sent (f.left ++ k.out) k.after (read_in far) (f.far_left ++ n.out) n.after (bytes_of_all (sent_in far))
+        (hears _ k) k.heard said x k.x m k.made n.held k.held k.behind cause n.about
+
+  -- ---- any end
+
+  ended : (near there : Option SaslCall) → layer_in (made_in far) ≡ there → HasLayer there far → AreOppositeLayers near there → (layer : Bool) (x : Authentication) → MadeIn near layer x
+      → HasEnding peer_mechanism layer x e (link_in g) → IsFairNegotiation near there e
+  ended None there is k o layer x m h = plain there is (subst (λ (b : Bool). HasEnding peer_mechanism b x e (link_in g)) m h).cause
+  ended (Some c) None is k o layer x (l, m) h =
+      let i : HasEnding peer_mechanism true x e (link_in g) = subst (λ (b : Bool). HasEnding peer_mechanism b x e (link_in g)) l h in
+      alone c x m i.exchange.given i.exchange.sent i.exchange.held is i.cause
+  ended (Some c) (Some d) is (inl k) o layer x (l, m) h =
+      let i : HasEnding peer_mechanism true x e (link_in g) = subst (λ (b : Bool). HasEnding peer_mechanism b x e (link_in g)) l h in
+      both x i.cause i.exchange c d m k o
+  ended (Some c) (Some d) is (inr (n, none)) o layer x (l, m) h =
+      let i : HasEnding peer_mechanism true x e (link_in g) = subst (λ (b : Bool). HasEnding peer_mechanism b x e (link_in g)) l h in
+      unanswered c d x m i.exchange.given i.exchange.sent i.exchange.held none i.cause
+
+  outside : (c : SaslCall) (near there : Option SaslCall) → near ≡ Some c → ¬ HasAllowedTexts c → e ≡ ScramError TextNotAllowed → IsFairNegotiation near there e
+  outside c near there is n what =
+      subst (λ (z : Option SaslCall). IsFairNegotiation z there e) (sym is) (subst (IsFairNegotiation (Some c) there) (sym what) (inl (refl, n)))
+
+  by_call : (call : Call) (near there : Option SaslCall) → near ≡ sasl_of call → layer_in (made_in far) ≡ there → HasLayer there far → AreOppositeLayers near there → IsOpenCause call e (link_in g)
+      → IsFairNegotiation near there e
+  by_call call near there s is k o (not_allowed c asked n what) = outside c near there (s ∙ asked) n what
+  by_call call near there s is k o (in_opening layer x m h) = ended near there is k o layer x (subst (λ (z : Option SaslCall). MadeIn z layer x) (sym s) m) h
+
+  by_calls : (calls : List (ℕ × Call)) (there : Option SaslCall) → layer_in (made_in far) ≡ there → HasLayer there far → AreOppositeLayers (layer_in calls) there → OpenCauseIn calls e (link_in g)
+      → IsFairNegotiation (layer_in calls) there e
+  by_calls [] there is k o c = absurd c
+  by_calls (call ∷ []) there is k o c = by_call call.1 (layer_in (call ∷ [])) there refl is k o c
+  by_calls (call ∷ earlier ∷ calls) there is k o c = by_calls (earlier ∷ calls) there is k o c
+
+-- a negotiation between two ends fails for their kinds or accounts, or for a user, a password or a body of the own end
+pub negotiation_fair : (g far : List Local) → IsCalm (link_in g) → Faces g far → (e : NegotiationError) → OpenCauseIn (made_in g) e (link_in g)
+    → IsFairNegotiation (layer_in (made_in g)) (layer_in (made_in far)) e
+negotiation_fair g far calm f e c =
+    by_calls g far calm f e (made_in g) (layer_in (made_in far)) refl f.far_layer (opposite_layers (made_in g) (made_in far) f.opposite) c

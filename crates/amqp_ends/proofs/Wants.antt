@@ -1,0 +1,224 @@
+-- What a call waits for where nothing is in flight.
+use Rattle.std.proofs.Common.{◌≡◌, ◌⊎◌, inl, inr, ℕ, List, [], ◌∷◌, ◌++◌, Option, Some, None, refl, sym, ap, ◌∙◌, subst, append-nil}
+use Rattle.std.specs.Prelude.{map}
+use Rattle.amqp_composites.specs.declared.error.Error.{Error as AmqpError}
+use Rattle.amqp_transport.specs.declared.frames.Frame.{Frame}
+use Rattle.amqp_transport.specs.Kinds.{amqp_again}
+use Rattle.amqp_engine.specs.Heard.{AllUnclosed}
+use Rattle.amqp_opening.specs.declared.authentication.SaslCall.{SaslCall}
+use Rattle.amqp_opening.specs.Opening.{amqp_header}
+use Rattle.amqp_words.specs.declared.call.Call.{Call}
+use Rattle.amqp_words.specs.declared.call.Call.TheVariants.{Close as CloseCall}
+use Rattle.amqp_words.specs.declared.open_error.OpenError.{OpenError}
+use Rattle.amqp_words.specs.declared.reply.Reply.TheVariants as reply
+use Rattle.amqp_words.specs.declared.reply.NamedReply.{NamedReply}
+use Rattle.amqp_peer.specs.declared.prepared.Prepared.{Prepared}
+use Rattle.amqp_peer.specs.Causes.{prepared_in, BeginsWithOpen, EndsWithClose, IsReadTo, HasCause, AllCaused}
+use Rattle.amqp_peer.specs.History.{Local, Made, Polled, AtLink, Exchanged, Got, Put, Replied, made_in, given_in, sent_in, replied_in, read_in}
+use Rattle.amqp_peer.specs.Layers.{layer_in, IsResting}
+use Rattle.amqp_peer.specs.Replies.{pending, connection, open_failed, answered, AreReplies}
+use Rattle.amqp_peer.specs.Rest.{OpenWaits, CloseWaits, HasWaiting, RestsBehind}
+use Rattle.amqp_peer.specs.Said.{IsPlain, HasSaid, HasClose, CloseCause, called, answers, mistaken, rejected}
+use Rattle.amqp_ends.specs.Joined.{Meets}
+use Rattle.amqp_ends.specs.Quiet.{IsQuiet}
+use Rattle.amqp_ends.specs.Standing.{Stands, uncalled, in_headers, behind, parted, refused, broken, vast}
+use Rattle.amqp_ends.specs.Wants.{IsAnswered, AreStill, LastCloses, HasFailed, own, other, many, IsEnded, failed, closed, Wants}
+use Rattle.amqp_ends.specs.Wants.{refused as was_refused}
+use Rattle.amqp_ends.proofs.Closes.{closed_not, plain_unclosed, unclosed_given}
+use Rattle.amqp_ends.proofs.Hearing.{hears}
+use Rattle.amqp_ends.proofs.Honesty.{tidy_given, other_first_not, stray_not}
+use Rattle.amqp_ends.proofs.QuietFrames.{all_taken, close_taken}
+use Rattle.amqp_ends.proofs.Quiet.{headers_do_not_wait, openings_do_not_wait, closes_do_not_wait}
+
+-- ---- replies
+
+-- where the connection was made, Open was queued
+abbrev Connects : List NamedReply → Type 0
+Connects [] = ⊥
+Connects (r ∷ rs) = (r.reply ≡ reply.Connection) ⊎ Connects rs
+
+connects_last : (rs : List NamedReply) (r : NamedReply) → Connects (rs ++ r ∷ []) → Connects rs ⊎ (r.reply ≡ reply.Connection)
+connects_last [] r (inl e) = inr e
+connects_last [] r (inr c) = absurd c
+connects_last (s ∷ rs) r (inl e) = inl (inl e)
+connects_last (s ∷ rs) r (inr c) = elim (connects_last rs r c) [ inl d ↦ inl (inr d) | inr e ↦ inr e ]
+
+not_none : (xs : List Frame) (x : Frame) → xs ++ x ∷ [] ≡ [] → ⊥
+not_none [] x e = absurd (cc e)
+not_none (y ∷ xs) x e = absurd (cc e)
+
+unsent_connects : (h : List Local) → AllCaused h → sent_in h ≡ [] → Connects (replied_in h) → ⊥
+unsent_connects [] c s k = k
+unsent_connects (Made at name call ∷ h) c s k = unsent_connects h c s k
+unsent_connects (Polled at ∷ h) c s k = unsent_connects h c s k
+unsent_connects (AtLink x ∷ h) c s k = unsent_connects h c s k
+unsent_connects (Exchanged ∷ h) c s k = unsent_connects h c s k
+unsent_connects (Got x ∷ h) c s k = unsent_connects h c s k
+unsent_connects (Put x ∷ h) c s k = not_none (sent_in h) x s
+unsent_connects (Replied r ∷ h) c s k = elim (connects_last (replied_in h) r k) [
+  | inl d ↦ unsent_connects h c.1 s d
+  | inr e ↦ absurd (cc (sym s ∙ (subst (HasCause h) e c.0).said.is))
+]
+
+-- an end that called, sent nothing and waits for nothing was refused
+refused_by : (calls : List (ℕ × Call)) (replied : List NamedReply) → AreReplies calls replied → (Connects replied → ⊥) → ((n : ℕ) → replied ≡ pending n ∷ [] → ⊥) → (calls ≡ []) ⊎ ((n : ℕ) × (e : OpenError) × (replied ≡ pending n ∷ open_failed n e ∷ []))
+refused_by [] replied r n w = inl refl
+refused_by (first ∷ []) replied (inl e) n w = absurd (w first.0 e)
+refused_by (first ∷ []) replied (inr (inl e)) n w = absurd (n (subst Connects (sym e) (inr (inl refl))))
+refused_by (first ∷ []) replied (inr (inr x)) n w = inr (first.0, x.0, x.1)
+refused_by (close ∷ first ∷ []) replied (inl e) n w = absurd (n (subst Connects (sym e) (inr (inl refl))))
+refused_by (close ∷ first ∷ []) replied (inr (x, i, inl e)) n w = absurd (n (subst Connects (sym e) (inr (inl refl))))
+refused_by (close ∷ first ∷ []) replied (inr (x, i, inr e)) n w = absurd (n (subst Connects (sym e) (inr (inl refl))))
+refused_by (call ∷ close ∷ first ∷ calls) replied r n w = absurd r
+
+far_refused : (h far : List Local) → IsAnswered far → sent_in far ≡ [] → (HasWaiting far → ⊥) → (made_in far ≡ []) ⊎ IsEnded h far
+far_refused h far a s w = elim (refused_by (made_in far) (replied_in far) a.replies (unsent_connects far a.caused s) (λ n e. w (inl (n, e)))) [
+  | inl n ↦ inl n
+  | inr r ↦ inr (was_refused r)
+]
+
+-- an open or accept that waits is the one call
+one_call : (calls : List (ℕ × Call)) (replied : List NamedReply) (n : ℕ) → AreReplies calls replied → replied ≡ pending n ∷ [] → (first : ℕ × Call) × (calls ≡ first ∷ [])
+one_call [] replied n r e = absurd (cc (sym r ∙ e))
+one_call (first ∷ []) replied n r e = (first, refl)
+one_call (close ∷ first ∷ []) replied n (inl r) e = absurd (cc (sym r ∙ e))
+one_call (close ∷ first ∷ []) replied n (inr (x, i, inl r)) e = absurd (cc (sym r ∙ e))
+one_call (close ∷ first ∷ []) replied n (inr (x, i, inr r)) e = absurd (cc (sym r ∙ e))
+one_call (call ∷ close ∷ first ∷ calls) replied n r e = absurd r
+
+no_close_first : (p : Option Prepared) (calls : List (ℕ × Call)) (first : ℕ × Call) (name : ℕ) (condition : Option (List ℕ)) (earlier : List (ℕ × Call)) (sent : List Frame)
+    → calls ≡ first ∷ [] → calls ≡ (name, CloseCall condition) ∷ earlier → p ≡ prepared_in calls → IsPlain p sent → ⊥
+no_close_first p calls first name condition [] sent e c q s = absurd (cc (sym s.is_own ∙ q ∙ ap prepared_in c))
+no_close_first p calls first name condition (x ∷ earlier) sent e c q s = absurd (cc (sym e ∙ c))
+
+-- ---- two ends
+
+quiet : (h far : List Local) (left far_left : List ℕ) → AreStill h far left far_left → left ≡ [] → far_left ≡ [] → IsQuiet h far
+quiet h far left far_left a l f = record {
+  reads = sym (append-nil (read_in h)) ∙ ap (λ (u : List ℕ). read_in h ++ u) (sym l) ∙ a.reads;
+  far_reads = sym (append-nil (read_in far)) ∙ ap (λ (u : List ℕ). read_in far ++ u) (sym f) ∙ a.far_reads;
+  tied = a.tied;
+  far_tied = a.far_tied;
+  said = a.said;
+  far_said = a.far_said;
+  layer = a.layer;
+  far_layer = a.far_layer;
+  kinds = a.kinds;
+}
+
+meets : (h far : List Local) (left far_left : List ℕ) → AreStill h far left far_left → Meets h far
+meets h far left far_left a = record { calm = a.calm; tied = a.tied; far_tied = a.far_tied; far_said = a.far_said; left = left; reads = a.reads }
+
+meets_back : (h far : List Local) (left far_left : List ℕ) → AreStill h far left far_left → Meets far h
+meets_back h far left far_left a = record { calm = a.far_calm; tied = a.far_tied; far_tied = a.tied; far_said = a.said; left = far_left; reads = a.far_reads }
+
+-- ---- the other end said a Close
+
+ends_closed : (sent : List Frame) → EndsWithClose sent → AllUnclosed sent → ⊥
+ends_closed sent e a = closed_not sent a (record { front = e.front; channel = e.channel; last = e.last; more = []; is = e.is })
+
+-- where this end said none, it was called
+cause_called : (h far : List Local) (error : Option AmqpError) → Meets far h → AllUnclosed (sent_in h) → CloseCause (made_in far) (given_in far) error → LastCloses (made_in far)
+cause_called h far error m u (called name condition earlier is e) = (name, condition, earlier, is)
+cause_called h far error m u (answers c e) = absurd (closed_not (given_in far) (unclosed_given far h m u) c)
+cause_called h far error m u (mistaken o e) = absurd (other_first_not (given_in far) (tidy_given far h m) o)
+cause_called h far error m u (rejected s) = absurd (stray_not (given_in far) (tidy_given far h m) s)
+
+parted_called : (h far : List Local) → Meets far h → AllUnclosed (sent_in h) → EndsWithClose (sent_in far) → HasSaid far → LastCloses (made_in far)
+parted_called h far m u e (inl none) = absurd (ends_closed (sent_in far) e (subst AllUnclosed (sym none) tt))
+parted_called h far m u e (inr (inl s)) = absurd (ends_closed (sent_in far) e (plain_unclosed (prepared_in (made_in far)) (sent_in far) s))
+parted_called h far m u e (inr (inr (front, error, s, is, cause))) = cause_called h far error m u cause
+
+-- an end whose open or accept waits says no Close, to an end from which it read none
+cause_waits_not : (h far : List Local) (error : Option AmqpError) (front : List Frame) → OpenWaits h → IsAnswered h → Meets h far → (HasClose (given_in h) → ⊥) → IsPlain (prepared_in (made_in h)) front → CloseCause (made_in h) (given_in h) error → ⊥
+cause_waits_not h far error front w a m n s (called name condition earlier is e) =
+    let one = one_call (made_in h) (replied_in h) w.0 a.replies w.1 in
+    no_close_first (prepared_in (made_in h)) (made_in h) one.0 name condition earlier front one.1 is refl s
+cause_waits_not h far error front w a m n s (answers c e) = n c
+cause_waits_not h far error front w a m n s (mistaken o e) = other_first_not (given_in h) (tidy_given h far m) o
+cause_waits_not h far error front w a m n s (rejected x) = stray_not (given_in h) (tidy_given h far m) x
+
+waits_unclosed : (h far : List Local) → OpenWaits h → IsAnswered h → Meets h far → (HasClose (given_in h) → ⊥) → HasSaid h → AllUnclosed (sent_in h)
+waits_unclosed h far w a m n (inl none) = subst AllUnclosed (sym none) tt
+waits_unclosed h far w a m n (inr (inl s)) = plain_unclosed (prepared_in (made_in h)) (sent_in h) s
+waits_unclosed h far w a m n (inr (inr (front, error, s, is, cause))) = absurd (cause_waits_not h far error front w a m n s cause)
+
+-- ---- an open or accept
+
+opening_headers : (h far : List Local) (left far_left : List ℕ) → AreStill h far left far_left → OpenWaits h → IsResting (layer_in (made_in h)) h → left ≡ [] → sent_in h ≡ [] → Stands far far_left → (made_in far ≡ []) ⊎ IsEnded h far
+opening_headers h far left far_left a w r l u (uncalled m n) = inl m
+opening_headers h far left far_left a w r l u (in_headers v s f) = absurd (headers_do_not_wait h far (quiet h far left far_left a l f) r (inl s))
+opening_headers h far left far_left a w r l u (behind s c f) = absurd (headers_do_not_wait h far (quiet h far left far_left a l f) r (inr s))
+opening_headers h far left far_left a w r l u (parted c o n) = inr (closed (parted_called h far (meets_back h far left far_left a) (subst AllUnclosed (sym u) tt) c a.far_said))
+opening_headers h far left far_left a w r l u (refused s n) = far_refused h far a.far_answered s n
+opening_headers h far left far_left a w r l u (broken b) = inr (failed (other b))
+opening_headers h far left far_left a w r l u (vast v) = inr (failed (many (inr v)))
+
+opening_behind : (h far : List Local) (left far_left : List ℕ) → AreStill h far left far_left → OpenWaits h → RestsBehind h → left ≡ [] → Stands far far_left → (made_in far ≡ []) ⊎ IsEnded h far
+opening_behind h far left far_left a w r l (uncalled m n) = inl m
+opening_behind h far left far_left a w r l (in_headers v s f) = absurd (openings_do_not_wait h far (quiet h far left far_left a l f) r w (inr s))
+opening_behind h far left far_left a w r l (behind s c f) = absurd (openings_do_not_wait h far (quiet h far left far_left a l f) r w (inl s))
+opening_behind h far left far_left a w r l (parted c o n) =
+    inr (closed (parted_called h far (meets_back h far left far_left a) (waits_unclosed h far w a.answered (meets h far left far_left a) r.unclosed a.said) c a.far_said))
+opening_behind h far left far_left a w r l (refused s n) = far_refused h far a.far_answered s n
+opening_behind h far left far_left a w r l (broken b) = inr (failed (other b))
+opening_behind h far left far_left a w r l (vast v) = inr (failed (many (inr v)))
+
+uncalled_waits_not : (h : List Local) → made_in h ≡ [] → IsAnswered h → HasWaiting h → ⊥
+uncalled_waits_not h m a (inl w) = absurd (cc (sym (subst (λ (cs : List (ℕ × Call)). AreReplies cs (replied_in h)) m a.replies) ∙ w.1))
+uncalled_waits_not h m a (inr w) = absurd (cc (sym (subst (λ (cs : List (ℕ × Call)). AreReplies cs (replied_in h)) m a.replies) ∙ w.2))
+
+resting_unsent : (c : Option SaslCall) (h : List Local) → IsResting c h → sent_in h ≡ []
+resting_unsent None h r = r.unopened
+resting_unsent (Some c) h r = r.unopened
+
+opening_in : (h far : List Local) (left far_left : List ℕ) → AreStill h far left far_left → OpenWaits h → Stands h left → (made_in far ≡ []) ⊎ IsEnded h far
+opening_in h far left far_left a w (uncalled m n) = absurd (uncalled_waits_not h m a.answered (inl w))
+opening_in h far left far_left a w (in_headers v r l) = opening_headers h far left far_left a w r l (resting_unsent (layer_in (made_in h)) h r) a.far_stands
+opening_in h far left far_left a w (behind r c l) = opening_behind h far left far_left a w r l a.far_stands
+opening_in h far left far_left a w (parted c o n) = absurd (n (inl w))
+opening_in h far left far_left a w (refused s n) = absurd (n (inl w))
+opening_in h far left far_left a w (broken b) = inr (failed (own b))
+opening_in h far left far_left a w (vast v) = inr (failed (many (inl v)))
+
+-- ---- a close
+
+header_inside : (head tail : List ℕ) → head ++ (amqp_header ++ tail) ≡ [] → ⊥
+header_inside [] tail e = absurd (cc e)
+header_inside (x ∷ head) tail e = absurd (cc e)
+
+nothing_first : (first others given : List Frame) → first ++ others ≡ [] → given ≡ map amqp_again first → BeginsWithOpen given → ⊥
+nothing_first [] others given e i o = absurd (cc (sym i ∙ o.is))
+nothing_first (x ∷ first) others given e i o = absurd (cc e)
+
+-- an end that has read the AMQP header has a peer that wrote
+read_something : (h : List Local) (rest : List ℕ) → IsReadTo h rest → read_in h ≡ [] → ⊥
+read_something h rest r e = header_inside r.head r.behind (sym r.read ∙ e)
+
+heard_nothing : (h far : List Local) → Meets h far → sent_in far ≡ [] → BeginsWithOpen (given_in h) → ⊥
+heard_nothing h far m s o =
+    let k = hears h far m.left m.tied m.far_tied m.reads in
+    nothing_first k.first k.others (given_in h) (sym k.split ∙ s) k.items o
+
+closing_behind : (h far : List Local) (left far_left : List ℕ) → AreStill h far left far_left → CloseWaits h → RestsBehind h → BeginsWithOpen (given_in h) → left ≡ [] → Stands far far_left → HasFailed h far
+closing_behind h far left far_left a w r g l (uncalled m n) =
+    absurd (read_something h r.rest r.read (sym (append-nil (read_in h)) ∙ ap (λ (u : List ℕ). read_in h ++ u) (sym l) ∙ a.reads ∙ n))
+closing_behind h far left far_left a w r g l (in_headers v s f) = absurd (closes_do_not_wait h far (quiet h far left far_left a l f) r w (inr s))
+closing_behind h far left far_left a w r g l (behind s c f) = absurd (closes_do_not_wait h far (quiet h far left far_left a l f) r w (inl s))
+closing_behind h far left far_left a w r g l (parted c o n) =
+    absurd (r.unclosed (close_taken (given_in h) (sent_in far) c (all_taken h far r o a.far_tied (sym (append-nil (read_in h)) ∙ ap (λ (u : List ℕ). read_in h ++ u) (sym l) ∙ a.reads))))
+closing_behind h far left far_left a w r g l (refused s n) = absurd (heard_nothing h far (meets h far left far_left a) s g)
+closing_behind h far left far_left a w r g l (broken b) = other b
+closing_behind h far left far_left a w r g l (vast v) = many (inr v)
+
+closing_in : (h far : List Local) (left far_left : List ℕ) → AreStill h far left far_left → CloseWaits h → Stands h left → HasFailed h far
+closing_in h far left far_left a w (uncalled m n) = absurd (uncalled_waits_not h m a.answered (inr w))
+closing_in h far left far_left a w (in_headers v r l) = absurd (cc (sym v.1 ∙ w.2))
+closing_in h far left far_left a w (behind r c l) = closing_behind h far left far_left a w r (c w) l a.far_stands
+closing_in h far left far_left a w (parted c o n) = absurd (n (inr w))
+closing_in h far left far_left a w (refused s n) = absurd (n (inr w))
+closing_in h far left far_left a w (broken b) = own b
+closing_in h far left far_left a w (vast v) = many (inl v)
+
+pub wants : (h far : List Local) (left far_left : List ℕ) → AreStill h far left far_left → Wants h far
+wants h far left far_left a = record { opening = λ w. opening_in h far left far_left a w a.stands; closing = λ w. closing_in h far left far_left a w a.stands }

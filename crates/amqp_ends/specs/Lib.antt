@@ -1,0 +1,6 @@
+pub mod Joined
+pub mod Honest
+pub mod Standing
+pub mod Quiet
+pub mod Wants
+pub mod Gates
