@@ -1,5 +1,5 @@
 -- Where a step leaves both ends and what was made.
-use Rattle.std.proofs.Common.{◌≡◌, ◌↔◌, ◌+◌, ◌≤◌, List, ℕ, [], ◌∷◌, ◌++◌, true, false, Result, Ok, Err, OnOk, length, refl, sym, ap, ◌∙◌, subst}
+use Rattle.std.proofs.Common.{inl, inr, ◌≡◌, ◌↔◌, ◌+◌, ◌≤◌, List, ℕ, [], ◌∷◌, ◌++◌, true, false, Result, Ok, Err, OnOk, length, refl, sym, ap, ◌∙◌, subst}
 use Rattle.std.proofs.lemmas.List.{length_push}
 use Rattle.amqp_wire.specs.Piped.{Piped}
 use Rattle.amqp_peer.specs.Peering.{Peering, fresh}
@@ -14,7 +14,7 @@ use Rattle.amqp_world.specs.Explains.{past_of, Explained}
 use Rattle.amqp_world.specs.Turn.{CanAct, Turned, empty_pipe}
 use Rattle.amqp_world.specs.Related.{Side, Related, past_in}
 use Rattle.amqp_world.proofs.Growth.{past_more, length-past_of}
-use Rattle.amqp_world.proofs.Sides.{side_near, side_far, side_start, explains_turn, may_act}
+use Rattle.amqp_world.proofs.Sides.{side_near, side_far, side_start, histories, explains_turn, may_act}
 
 past_turn : (b b' : Both) (s : Step) (x : Entry) → Related b → b'.steps ≡ b.steps ++ s ∷ [] → b'.trace.entries ≡ b.trace.entries ++ x ∷ [] → past_in b' ≡ record { step = s; entry = x } ∷ past_in b
 past_turn b b' s x r steps entries =
@@ -36,13 +36,13 @@ related_client b b' s x name r h v e t steps entries moment =
     let n : is_same Client s.end ≡ true = ap (is_same Client) h in
     let m : is_same Listener s.end ≡ false = ap (is_same Listener) h in
     let va : IsValidAct Client (past_in b) s.act = subst (λ (y : End). IsValidAct y (past_in b) s.act) h v.act in
-    let near : Side Client Listener b'.client (ev ∷ past_in b) = side_near Client Listener ev (past_in b) b.client b.listener b'.client b'.listener n m refl r.client r.listener u in
+    let near : Side Client Listener b'.client (ev ∷ past_in b) = side_near Client Listener ev (past_in b) b.client b.listener b'.client b'.listener n m refl va r.client r.listener u in
     let far : Side Listener Client b'.listener (ev ∷ past_in b) = side_far Client Listener ev (past_in b) b.client b.listener b'.client b'.listener n m refl refl va r.client r.listener u in
     record {
       form = form_turn b b' s x r steps entries;
       client = subst (λ (p : List Event). Side Client Listener b'.client p) (sym past) near;
       listener = subst (λ (p : List Event). Side Listener Client b'.listener p) (sym past) far;
-      explained = subst Explained (sym past) (explains_turn Client Listener ev (past_in b) b.client b.listener b'.client b'.listener n h refl v r.client u near far, r.explained);
+      explained = subst Explained (sym past) (explains_turn Client Listener ev (past_in b) b.client b.listener b'.client b'.listener n m h refl refl v r.client r.listener (inl (near.begins, r.listener.begins)) u near far (histories b'.client b'.listener (ev ∷ past_in b) near far), r.explained);
       moment = moment ∙ sym (ap last_moment past);
     }
 
@@ -54,13 +54,13 @@ related_listener b b' s x name r h v e t steps entries moment =
     let n : is_same Listener s.end ≡ true = ap (is_same Listener) h in
     let m : is_same Client s.end ≡ false = ap (is_same Client) h in
     let va : IsValidAct Listener (past_in b) s.act = subst (λ (y : End). IsValidAct y (past_in b) s.act) h v.act in
-    let near : Side Listener Client b'.listener (ev ∷ past_in b) = side_near Listener Client ev (past_in b) b.listener b.client b'.listener b'.client n m refl r.listener r.client u in
+    let near : Side Listener Client b'.listener (ev ∷ past_in b) = side_near Listener Client ev (past_in b) b.listener b.client b'.listener b'.client n m refl va r.listener r.client u in
     let far : Side Client Listener b'.client (ev ∷ past_in b) = side_far Listener Client ev (past_in b) b.listener b.client b'.listener b'.client n m refl refl va r.listener r.client u in
     record {
       form = form_turn b b' s x r steps entries;
       client = subst (λ (p : List Event). Side Client Listener b'.client p) (sym past) far;
       listener = subst (λ (p : List Event). Side Listener Client b'.listener p) (sym past) near;
-      explained = subst Explained (sym past) (explains_turn Listener Client ev (past_in b) b.listener b.client b'.listener b'.client n h refl v r.listener u near far, r.explained);
+      explained = subst Explained (sym past) (explains_turn Listener Client ev (past_in b) b.listener b.client b'.listener b'.client n m h refl refl v r.listener r.client (inr (near.begins, r.client.begins)) u near far (histories b'.client b'.listener (ev ∷ past_in b) far near), r.explained);
       moment = moment ∙ sym (ap last_moment past);
     }
 

@@ -3,5 +3,8 @@ pub mod Growth
 pub mod Turns
 pub mod Form
 pub mod Gate
+pub mod Meeting
+pub mod Waiting
+pub mod Nears
 pub mod Sides
 pub mod BothTurns

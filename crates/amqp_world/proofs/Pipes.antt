@@ -6,7 +6,7 @@ use Rattle.amqp_wire.specs.Link.{Rose}
 use Rattle.amqp_wire.specs.Events.{LinkEvent, NotRead, NotWritten, IsEvent, Went, Includes, read_of, wrote_of}
 use Rattle.amqp_wire.specs.Piped.{Piped}
 use Rattle.amqp_wire.proofs.Events.{went_reads, went_writes, went_mark, went_failed}
-use Rattle.amqp_world.specs.Causes.{IsCalm}
+use Rattle.amqp_ends.specs.Joined.{IsCalm}
 use Rattle.amqp_world.specs.Turn.{piping}
 
 pub pipe_input : (a b : Piped) (es : List LinkEvent) → Went piping a es b → a.input ≡ read_of es ++ b.input

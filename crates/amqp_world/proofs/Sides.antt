@@ -1,8 +1,6 @@
 -- Where a step leaves both ends.
-use Rattle.std.proofs.Common.{◌≡◌, ◌↔◌, ◌⊎◌, inl, inr, ◌+◌, ◌≤◌, List, ℕ, [], ◌∷◌, ◌++◌, true, false, length, take, drop, refl, sym, ap, ◌∙◌, subst, arith, length-append, append_assoc}
+use Rattle.std.proofs.Common.{◌≡◌, ◌↔◌, ◌⊎◌, inl, inr, ◌+◌, ◌≤◌, List, ℕ, [], ◌∷◌, ◌++◌, true, false, length, take, refl, sym, ap, ◌∙◌, subst, arith, length-append}
 use Rattle.std.proofs.lemmas.List.{take-append-le}
-use Rattle.std.proofs.Math.Seq.{take-add}
-use Rattle.amqp_wire.specs.Events.{LinkEvent}
 use Rattle.amqp_wire.specs.Piped.{Piped}
 use Rattle.amqp_words.specs.declared.call.Call as peer_call
 use Rattle.amqp_peer.specs.declared.peer.PeerKind.{PeerKind}
@@ -11,24 +9,39 @@ use Rattle.amqp_peer.specs.History.{Local, made_in, link_in, replied_in, read_in
 use Rattle.amqp_peer.specs.Calls.{IsValidCall}
 use Rattle.amqp_peer.specs.Causes.{IsSpent, IsTakenUp}
 use Rattle.amqp_peer.specs.Gated.{IsGated}
+use Rattle.amqp_peer.specs.Layers.{layer_in}
 use Rattle.amqp_peer.specs.Held.{IsActive, IsExchanged}
 use Rattle.amqp_peer.specs.Peering.{Peering, Has, MayCall, fresh}
 use Rattle.amqp_peer.specs.Replies.{AreReplies}
 use Rattle.amqp_peer.specs.Runs.{Stepped}
-use Rattle.amqp_peer.proofs.Laws.{has_fresh, has_with_link, has_taken, link_of-fresh, may_law, replies_law, gated_law, gated_more, causes_law, tied_law, taken_up_law, spent_law, exchanged_with_link, fresh_not_exchanged}
+use Rattle.amqp_peer.proofs.Laws.{has_fresh, has_with_link, has_taken, link_of-fresh, may_law, replies_law, gated_law, gated_more, causes_law, tied_law, said_law, taken_up_law, spent_law, exchanged_with_link, fresh_not_exchanged}
 use Rattle.amqp_words.specs.declared.step.End.{End}
+use Rattle.amqp_words.specs.declared.step.End.TheVariants.{Client, Listener}
 use Rattle.amqp_words.specs.declared.step.Act.{Act}
 use Rattle.amqp_words.specs.declared.step.Act.TheVariants.{Take, TakeAll, Call}
-use Rattle.amqp_world.specs.History.{Event, wrote, taken, moved, read, calls, called, begun, replied, other, is_same}
+use Rattle.amqp_world.specs.History.{Event, wrote, taken, moved, read, calls, begun, replied, other, is_same}
 use Rattle.amqp_world.specs.Valid.{IsValid, IsValidAct, kind_of}
-use Rattle.amqp_world.specs.Causes.{IsCalm, IsVast, Adds, IsHistoried}
+use Rattle.amqp_ends.specs.Gates.{AllFair}
+use Rattle.amqp_ends.specs.Honest.{AllHonest}
+use Rattle.amqp_ends.specs.Joined.{Meets, NoneCloses}
+use Rattle.amqp_ends.proofs.Closes.{says_no_close}
+use Rattle.amqp_ends.proofs.Honesty.{honest_replies}
+use Rattle.amqp_ends.specs.Quiet.{BeginsIn, AreOpposite}
+use Rattle.amqp_ends.specs.Standing.{Stands, uncalled}
+use Rattle.amqp_ends.specs.Wants.{AreStill}
+use Rattle.amqp_ends.proofs.QuietFew.{few_frames}
+use Rattle.amqp_ends.proofs.Wants.{wants}
+use Rattle.amqp_world.specs.Causes.{IsVast, Adds, NothingInFlight, IsHistoried, Histories}
 use Rattle.amqp_world.specs.Explains.{Explains}
-use Rattle.amqp_world.specs.Turn.{CanAct, Turned, piping, fed, drained, given, marked, empty_pipe, pipe_of}
+use Rattle.amqp_world.specs.Turn.{CanAct, Turned, piping, drained, given, marked, empty_pipe, pipe_of}
 use Rattle.amqp_world.specs.Related.{Side}
-use Rattle.amqp_world.proofs.Pipes.{calm_none, calm_more, never_fills, pipe_emptied}
-use Rattle.amqp_world.proofs.Growth.{wrote_near, wrote_far, taken_near, taken_far, calls_near, calls_far, replied_near, replied_far, follows_near, follows_far, made_grown, link_grown, replied_grown, read_grown, wrote_grown}
-use Rattle.amqp_world.proofs.Turns.{marked_link, stepped_input, stepped_mark, stepped_calm, turned_wrote, turned_replied, turned_link}
+use Rattle.amqp_world.proofs.Pipes.{calm_none, never_fills, pipe_emptied}
+use Rattle.amqp_world.proofs.Growth.{wrote_near, wrote_far, taken_near, taken_far, calls_near, calls_far, replied_near, replied_far, follows_near, follows_far, replied_grown, wrote_grown}
+use Rattle.amqp_world.proofs.Turns.{marked_link, stepped_mark, turned_wrote, turned_replied, turned_link}
 use Rattle.amqp_world.proofs.Form.{form_of}
+use Rattle.amqp_world.proofs.Nears.{moved_to, near_ran, near_rests, near_read, near_made, near_calm, near_meets, fair_turn}
+use Rattle.amqp_world.proofs.Waiting.{stands_near, begins_near, layer_law, answered_law}
+use Rattle.amqp_world.proofs.Meeting.{meeting, nobody_before, honest_right}
 use Rattle.amqp_world.proofs.Gate.{gate_of}
 
 -- what a valid act moves is there
@@ -36,11 +49,6 @@ moved_within : (e f : End) (act : Act) (past : List Event) → other e ≡ f →
 moved_within e f (Take n) past o v b = subst (λ (x : End). taken e past + n ≤ length (wrote x past)) o v
 moved_within e f TakeAll past o v b = omega arith
 moved_within e f (Call call) past o v b = b
-
--- how far a step moves the mark of the other end, in words of the past
-moved_to : (e f : End) (past : List Event) (act : Act) (q : Peering Piped) (count : ℕ) → Side f e q past → (pipe_of q).mark + count ≡ moved act (pipe_of q).mark (length (pipe_of q).output) → (pipe_of q).mark + count ≡ moved act (taken e past) (length (wrote f past))
-moved_to e f past act q count far counted =
-    counted ∙ ap (λ (k : ℕ). moved act k (length (pipe_of q).output)) far.mark ∙ ap (λ (u : List ℕ). moved act (taken e past) (length u)) far.output
 
 -- an end that goes on has read all that came to it, unless there was a vast lot of it
 kept_up : (near : Peering Piped) (far : Piped) (count : ℕ) (first : Local) (ran : Peering Piped) (h : List Local) (left : List ℕ) → left ≡ (pipe_of ran).input → (s : Stepped piping (given near far count) first ran) → Has ran h → IsActive ran.held ⊎ IsSpent h → ((left ≡ []) × IsTakenUp h) ⊎ (IsSpent h ⊎ IsVast s.events)
@@ -58,30 +66,24 @@ abbrev begun_first : Event → List Event → Local
 begun_first x past = begun x.step.at (length past) x.step.act
 
 -- the end that made a step, whose history has the step's events
-pub side_near : (e f : End) (x : Event) (past : List Event) (p q p' q' : Peering Piped) → is_same e x.step.end ≡ true → is_same f x.step.end ≡ false → other e ≡ f → (near : Side e f p past) → Side f e q past → (t : Turned p q (length past) x.step.at x.step.act p' q' x.entry) → Side e f p' (x ∷ past)
-side_near e f x past p q p' q' n m o near far t =
+pub side_near : (e f : End) (x : Event) (past : List Event) (p q p' q' : Peering Piped) → is_same e x.step.end ≡ true → is_same f x.step.end ≡ false → other e ≡ f → IsValidAct e past x.step.act → (near : Side e f p past) → Side f e q past → (t : Turned p q (length past) x.step.at x.step.act p' q' x.entry) → Side e f p' (x ∷ past)
+side_near e f x past p q p' q' n m o v near far t =
     let name : ℕ = length past in
     let es : List Local = t.stepped.events in
     let h' : List Local = es ++ begun x.step.at name x.step.act ∷ near.h in
     let W : List ℕ = wrote f past in
     let k : Piped = pipe_of q in
     let same : pipe_of p' ≡ pipe_of t.ran = turned_link p q p' q' name x.step.at x.step.act x.entry t in
-    let before : read_in near.h ++ (pipe_of p).input ≡ take k.mark k.output =
-    near.got ∙ ap (λ (y : End). take (taken e past) (wrote y past)) o ∙ ap (λ (i : ℕ). take i W) (sym far.mark) ∙ ap (λ (u : List ℕ). take k.mark u) (sym far.output) in
     let to : k.mark + t.count ≡ moved x.step.act (taken e past) (length W) = moved_to e f past x.step.act q t.count far t.counted in
     let after : read e (x ∷ past) ≡ take (k.mark + t.count) k.output =
     ap (λ (y : End). take (taken e (x ∷ past)) (wrote y (x ∷ past))) o
     ∙ ap (λ (i : ℕ). take i (wrote f (x ∷ past))) (taken_near e x past n ∙ ap (λ (y : End). moved x.step.act (taken e past) (length (wrote y past))) o ∙ sym to)
     ∙ ap (λ (u : List ℕ). take (k.mark + t.count) u) (wrote_far f x past m ∙ sym far.output) in
-    let came : (pipe_of p).input ++ take t.count (drop k.mark k.output) ≡ read_in es ++ (pipe_of t.ran).input = stepped_input p k t.count (begun x.step.at name x.step.act) t.ran t.stepped in
     let output : (pipe_of p').output ≡ (pipe_of p).output ++ x.entry.wrote = ap (λ (z : Piped). z.output) same ∙ t.output in
     let mark : (pipe_of p').mark ≡ (pipe_of p).mark = ap (λ (z : Piped). z.mark) same ∙ stepped_mark p k t.count (begun x.step.at name x.step.act) t.ran t.stepped in
-    let got : read_in h' ++ (pipe_of p').input ≡ read e (x ∷ past) =
-    ap (λ (u : List ℕ). u ++ (pipe_of p').input) (read_grown es near.h x.step.at name x.step.act) ∙ ap (λ (z : Piped). (read_in near.h ++ read_in es) ++ z.input) same
-    ∙ append_assoc (read_in near.h) (read_in es) (pipe_of t.ran).input ∙ ap (λ (u : List ℕ). read_in near.h ++ u) (sym came) ∙ sym (append_assoc (read_in near.h) (pipe_of p).input _)
-    ∙ ap (λ (u : List ℕ). u ++ take t.count (drop k.mark k.output)) before ∙ sym (take-add k.mark t.count k.output) ∙ sym after in
-    let ran : Has t.ran h' = t.stepped.grows near.h (has_with_link p (fed (pipe_of p) k t.count) near.h near.has) in
-    let rests : IsExchanged t.ran.held → ⊥ = t.stepped.begun (exchanged_with_link p (fed (pipe_of p) k t.count) near.begun) in
+    let got : read_in h' ++ (pipe_of p').input ≡ read e (x ∷ past) = near_read e f x past p q p' q' o near far t ∙ sym after in
+    let ran : Has t.ran h' = near_ran e f x past p q p' q' near t in
+    let rests : IsExchanged t.ran.held → ⊥ = near_rests e f x past p q p' q' near t in
     let adds : Adds e x past near.h h' =
     record {
       inside = es;
@@ -93,15 +95,20 @@ side_near e f x past p q p' q' n m o near far t =
       reads = got;
       all = kept_up p k t.count (begun_first x past) t.ran h' (pipe_of p').input (ap (λ (z : Piped). z.input) same) t.stepped ran (spent_law t.ran h' ran rests);
     } in
+    let made : made_in h' ≡ calls e (x ∷ past) = near_made e f x past p q p' q' n near t in
+    let meets : Meets h' far.h = near_meets e f x past p q p' q' o near far t in
     record {
       h = h';
       has = subst (λ (z : Peering Piped). Has z h') (sym t.near_end) (has_taken t.ran h' ran);
-      made = made_grown es near.h x.step.at name x.step.act t.stepped.inside ∙ ap (λ (cs : List (ℕ × peer_call.Call)). called x.step.act name cs) near.made ∙ sym (calls_near e x past n);
+      made = made;
       follows = follows_near e x past near.h h' n adds near.follows;
       got = got;
       sent = wrote_grown es near.h x.step.at name x.step.act ∙ ap (λ (u : List ℕ). wrote_in near.h ++ u) (turned_wrote p q p' q' name x.step.at x.step.act x.entry t) ∙ ap (λ (u : List ℕ). u ++ x.entry.wrote) near.sent ∙ sym (wrote_near e x past n);
       answered = replied_grown es near.h x.step.at name x.step.act ∙ ap (λ (u : List NamedReply). replied_in near.h ++ u) (turned_replied p q p' q' name x.step.at x.step.act x.entry t near.empty) ∙ ap (λ (u : List NamedReply). u ++ x.entry.replies) near.answered ∙ sym (replied_near e x past n);
-      calm = subst (λ (u : List LinkEvent). IsCalm u) (sym (link_grown es near.h x.step.at name x.step.act)) (calm_more (link_in es) (link_in near.h) (stepped_calm p k t.count (begun x.step.at name x.step.act) t.ran t.stepped) near.calm);
+      calm = near_calm e f x past p q p' q' near t;
+      unclosed = λ nobody. says_no_close h' far.h meets (said_law t.ran h' ran) (subst NoneCloses (sym made) (nobody e)) (far.unclosed (nobody_before x past nobody));
+      stands = subst (λ (u : List ℕ). Stands h' u) (sym (ap (λ (z : Piped). z.input) same)) (stands_near (given p k t.count) t.ran x.step.at name x.step.act near.h t.stepped rests ran);
+      begins = begins_near e x past (calls_near e x past n) near.begins v;
       output = output ∙ ap (λ (u : List ℕ). u ++ x.entry.wrote) near.output ∙ sym (wrote_near e x past n);
       mark = mark ∙ near.mark ∙ sym (taken_far f x past m);
       bound = let more : length (pipe_of p').output ≡ length (pipe_of p).output + length x.entry.wrote = ap length output ∙ length-append (pipe_of p).output x.entry.wrote in omega (arith, near.bound);
@@ -134,6 +141,9 @@ side_far e f x past p q p' q' n m o o' v near far t =
       sent = far.sent ∙ sym (wrote_far f x past m);
       answered = far.answered ∙ sym (replied_far f x past m);
       calm = far.calm;
+      unclosed = λ nobody. far.unclosed (nobody_before x past nobody);
+      stands = subst (λ (z : Piped). Stands far.h z.input) (sym link) far.stands;
+      begins = subst (BeginsIn (kind_of f)) (sym (calls_far f x past m)) far.begins;
       output = ap (λ (z : Piped). z.output) link ∙ far.output ∙ sym (wrote_far f x past m);
       mark = ap (λ (z : Piped). z.mark) link ∙ to ∙ ap (λ (y : End). moved x.step.act (taken e past) (length (wrote y past))) (sym o) ∙ sym (taken_near e x past n);
       bound = subst (λ (z : Piped). z.mark ≤ length z.output) (sym link) within;
@@ -156,6 +166,9 @@ side_start e f =
       sent = refl;
       answered = refl;
       calm = calm_none;
+      unclosed = λ nobody. tt;
+      stands = uncalled refl refl;
+      begins = tt;
       output = ap (λ (z : Piped). z.output) link;
       mark = ap (λ (z : Piped). z.mark) link;
       bound = subst (λ (z : Piped). z.mark ≤ length z.output) (sym link) (omega arith);
@@ -179,19 +192,67 @@ side_gate e f p past s =
 
 -- an end has a history that explains its replies
 side_history : (e f : End) (p : Peering Piped) (past : List Event) → Side e f p past → IsHistoried e past
-side_history e f p past s = record { h = s.h; follows = s.follows; calm = s.calm; tied = tied_law p s.h s.has; caused = causes_law p s.h s.has }
+side_history e f p past s =
+    record { h = s.h; follows = s.follows; calm = s.calm; tied = tied_law p s.h s.has; layer = layer_law p s.h s.has; few = few_frames s.h (layer_law p s.h s.has); said = said_law p s.h s.has; caused = causes_law p s.h s.has; unclosed = s.unclosed }
+
+-- of two ends, what the one read is the front of what the other wrote
+side_meets : (e f : End) (p q : Peering Piped) (past : List Event) → other e ≡ f → (near : Side e f p past) → (far : Side f e q past) → Meets near.h far.h
+side_meets e f p q past o near far =
+    meeting near.h far.h (pipe_of p).input (wrote (other e) past) (taken e past) near.calm (tied_law p near.h near.has) (tied_law q far.h far.has) (said_law q far.h far.has) near.got
+    (ap (λ (y : End). wrote y past) o ∙ sym far.sent)
+
+-- two ends between which nothing is in flight
+side_still : (e f : End) (p q : Peering Piped) (past : List Event) → other e ≡ f → other f ≡ e → AreOpposite (calls e past) (calls f past) → NothingInFlight past → (near : Side e f p past) → (far : Side f e q past)
+    → AreStill near.h far.h (pipe_of p).input (pipe_of q).input
+side_still e f p q past o o' k n near far = record {
+  stands = near.stands;
+  far_stands = far.stands;
+  reads = near.got ∙ n e ∙ ap (λ (y : End). wrote y past) o ∙ sym far.sent;
+  far_reads = far.got ∙ n f ∙ ap (λ (y : End). wrote y past) o' ∙ sym near.sent;
+  calm = near.calm;
+  far_calm = far.calm;
+  tied = tied_law p near.h near.has;
+  far_tied = tied_law q far.h far.has;
+  said = said_law p near.h near.has;
+  far_said = said_law q far.h far.has;
+  layer = layer_law p near.h near.has;
+  far_layer = layer_law q far.h far.has;
+  kinds = subst (λ (cs : List (ℕ × peer_call.Call)). AreOpposite cs (made_in far.h)) (sym near.made) (subst (λ (cs : List (ℕ × peer_call.Call)). AreOpposite (calls e past) cs) (sym far.made) k);
+  answered = answered_law p near.h near.has;
+  far_answered = answered_law q far.h far.has;
+}
+
+-- both ends have histories that explain their replies, and say what their calls wait for
+pub histories : (p q : Peering Piped) (past : List Event) → Side Client Listener p past → Side Listener Client q past → Histories past
+unfolding side_history
+histories p q past client listener = record {
+  client = side_history Client Listener p past client;
+  listener = side_history Listener Client q past listener;
+  wants = λ n. (
+    wants client.h listener.h (pipe_of p).input (pipe_of q).input (side_still Client Listener p q past refl refl (inl (client.begins, listener.begins)) n client listener),
+    wants listener.h client.h (pipe_of q).input (pipe_of p).input (side_still Listener Client q p past refl refl (inr (listener.begins, client.begins)) n listener client),
+  );
+}
+
+-- the replies of a step are honest
+honest_turn : (e f : End) (x : Event) (past : List Event) (p' q' : Peering Piped) → other e ≡ f → replied e (x ∷ past) ≡ replied e past ++ x.entry.replies → Side e f p' (x ∷ past) → Side f e q' (x ∷ past) → AllHonest x.entry.replies
+honest_turn e f x past p' q' o replies near far =
+    honest_right (replied e past) x.entry.replies (subst AllHonest (near.answered ∙ replies) (honest_replies near.h far.h (side_meets e f p' q' (x ∷ past) o near far) (causes_law p' near.h near.has)))
 
 -- a step makes an event that is explained
-pub explains_turn : (e f : End) (x : Event) (past : List Event) (p q p' q' : Peering Piped) → is_same e x.step.end ≡ true → x.step.end ≡ e → other e ≡ f → IsValid past x.step → (before : Side e f p past) → (t : Turned p q (length past) x.step.at x.step.act p' q' x.entry) → Side e f p' (x ∷ past)
-    → Side f e q' (x ∷ past) → Explains x past
-explains_turn e f x past p q p' q' n same o v before t near far =
+pub explains_turn : (e f : End) (x : Event) (past : List Event) (p q p' q' : Peering Piped) → is_same e x.step.end ≡ true → is_same f x.step.end ≡ false → x.step.end ≡ e → other e ≡ f → other f ≡ e → IsValid past x.step → (before : Side e f p past) → Side f e q past → AreOpposite (calls e (x ∷ past)) (calls f past) → (t : Turned p q (length past) x.step.at x.step.act p' q' x.entry) → Side e f p' (x ∷ past)
+    → Side f e q' (x ∷ past) → Histories (x ∷ past) → Explains x past
+explains_turn e f x past p q p' q' n m same o o' v before rest k t near far hs =
     let va : IsValidAct e past x.step.act = subst (λ (y : End). IsValidAct y past x.step.act) same v.act in
     let replies : replied e (x ∷ past) ≡ replied e past ++ x.entry.replies = replied_near e x past n in
     record {
       valid = v;
       form = form_of e f x past same o (calls_near e x past n) replies va (side_replies e f p past before) (side_replies e f p' (x ∷ past) near) (side_replies f e q' (x ∷ past) far);
       gate = gate_of e f (x ∷ past) o (side_gate e f p' (x ∷ past) near) (side_gate f e q' (x ∷ past) far);
-      causes = subst (λ (y : End). IsHistoried y (x ∷ past)) (sym same) (side_history e f p' (x ∷ past) near);
+      causes = hs;
+      honest = honest_turn e f x past p' q' o replies near far;
+      fair = subst (λ (y : End). AllFair (layer_in (calls y (x ∷ past))) (layer_in (calls (other y) (x ∷ past))) x.entry.replies) (sym same)
+          (subst (λ (y : End). AllFair (layer_in (calls e (x ∷ past))) (layer_in (calls y (x ∷ past))) x.entry.replies) (sym o) (fair_turn e f x past p q p' q' n m o o' k before rest t));
     }
 
 -- what the code tests at an end is what is valid after the past

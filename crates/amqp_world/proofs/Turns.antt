@@ -11,7 +11,7 @@ use Rattle.amqp_words.specs.declared.step.Act.{Act}
 use Rattle.amqp_words.specs.declared.step.Act.TheVariants.{Take, TakeAll, Call}
 use Rattle.amqp_words.specs.declared.trace.Entry.{Entry}
 use Rattle.amqp_world.specs.History.{moved, begun}
-use Rattle.amqp_world.specs.Causes.{IsCalm}
+use Rattle.amqp_ends.specs.Joined.{IsCalm}
 use Rattle.amqp_world.specs.Turn.{piping, empty_pipe, pipe_of, MayAct, CanAct, fed, drained, given, marked, Turned}
 use Rattle.amqp_world.proofs.Pipes.{pipe_input, pipe_output, pipe_mark, pipe_calm}
 

@@ -1,19 +1,17 @@
 -- Why something was replied: there is a history of the end, step by step that of the trace, in which each reply has its cause.
 use Rattle.std.specs.Prelude.{◌≡◌, ◌⊎◌, ◌≤◌, ◌+◌, ◌^◌, List, ℕ, [], ◌∷◌, ◌++◌, length, Bool, true, false}
-use Rattle.amqp_wire.specs.declared.link.Stop.TheVariants as stop
-use Rattle.amqp_wire.specs.declared.link.Held.TheVariants as held
-use Rattle.amqp_wire.specs.Events.{LinkEvent, NotRead, NotWritten, Includes, reads_in}
+use Rattle.amqp_wire.specs.Events.{reads_in}
+use Rattle.amqp_engine.specs.Heard.{AllUnclosed}
 use Rattle.amqp_words.specs.declared.step.End.{End}
-use Rattle.amqp_peer.specs.History.{Local, link_in, given_in, sent_in, replied_in, read_in, wrote_in, IsInside}
+use Rattle.amqp_words.specs.declared.step.End.TheVariants.{Client, Listener}
+use Rattle.amqp_peer.specs.History.{Local, link_in, made_in, given_in, sent_in, replied_in, read_in, wrote_in, IsInside}
 use Rattle.amqp_peer.specs.Causes.{AllCaused, IsTied, IsTakenUp, IsSpent}
-use Rattle.amqp_world.specs.History.{Event, is_same, read, begun}
-
--- these events tell of a link that did not fail or fill, and whose input did not end
-pub record IsCalm (events : List LinkEvent) : Type 0 where
-  pub unfailed_reads : Includes events (NotRead stop.Failed) → ⊥
-  pub unfailed_writes : Includes events (NotWritten held.Failed) → ⊥
-  pub unended : Includes events (NotRead stop.End) → ⊥
-  pub unfilled : Includes events (NotWritten held.Full) → ⊥
+use Rattle.amqp_peer.specs.Said.{HasSaid}
+use Rattle.amqp_peer.specs.Layers.{layer_in, HasLayer}
+use Rattle.amqp_ends.specs.Joined.{IsCalm, NoneCloses}
+use Rattle.amqp_ends.specs.Quiet.{IsFew}
+use Rattle.amqp_ends.specs.Wants.{Wants}
+use Rattle.amqp_world.specs.History.{Event, is_same, other, calls, wrote, read, begun}
 
 -- a step of 2^62 reads, or of so many frames
 abbrev pub IsVast : List Local → Type 0
@@ -42,15 +40,31 @@ abbrev pub Follows : End → List Event → List Local → Type 0
 Follows e [] h = h ≡ []
 Follows e (x ∷ past) h = Choose (is_same e x.step.end) ((before : List Local) × Adds e x past before h × Follows e past before) (Follows e past h)
 
--- An end has a history that follows the past, over a link that did not fail: its frames are those of its bytes, and each reply has its
--- cause in what happened before it.
+-- nobody has called close
+abbrev pub NobodyCloses : List Event → Type 0
+NobodyCloses past = (e : End) → NoneCloses (calls e past)
+
+-- nothing is in flight to either end
+abbrev pub NothingInFlight : List Event → Type 0
+NothingInFlight past = (e : End) → read e past ≡ wrote (other e) past
+
+-- An end has a history that follows the past, over a link that did not fail: its frames are those of its bytes, each Close that it says has
+-- its cause, as has each reply, in what happened before it; of a SASL layer it wrote three frames at most (part 5, section 5.3.2); and it
+-- says no Close while nobody has called close (part 2, section 2.4.3).
 pub record IsHistoried (e : End) (past : List Event) : Type 0 where
   pub h : List Local
   pub follows : Follows e past h
   pub calm : IsCalm (link_in h)
   pub tied : IsTied h
+  pub layer : HasLayer (layer_in (made_in h)) h
+  pub few : IsFew h
+  pub said : HasSaid h
   pub caused : AllCaused h
+  pub unclosed : NobodyCloses past → AllUnclosed (sent_in h)
 
--- the end of an event has such a history
-abbrev pub Causes : Event → List Event → Type 0
-Causes x past = IsHistoried x.step.end (x ∷ past)
+-- Both ends have such histories. Where nothing is in flight, an open or accept that waits does so for the call of the other end, and a close
+-- for nothing, unless the connection has failed or is at its end (part 2, sections 2.4.1 and 2.4.3).
+pub record Histories (past : List Event) : Type 0 where
+  pub client : IsHistoried Client past
+  pub listener : IsHistoried Listener past
+  pub wants : NothingInFlight past → Wants client.h listener.h × Wants listener.h client.h

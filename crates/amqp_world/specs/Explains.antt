@@ -2,18 +2,23 @@
 use Rattle.std.specs.Prelude.{◌≡◌, List, ℕ, [], ◌∷◌, length, take, slice_get, Some, ⊤}
 use Rattle.amqp_words.specs.declared.step.Step.{Step}
 use Rattle.amqp_words.specs.declared.trace.Entry.{Entry}
-use Rattle.amqp_world.specs.History.{Event}
+use Rattle.amqp_world.specs.History.{Event, calls, other}
 use Rattle.amqp_world.specs.Valid.{IsValid}
 use Rattle.amqp_world.specs.Form.{Form}
 use Rattle.amqp_world.specs.Gate.{Gate}
-use Rattle.amqp_world.specs.Causes.{Causes}
+use Rattle.amqp_peer.specs.Layers.{layer_in}
+use Rattle.amqp_ends.specs.Gates.{AllFair}
+use Rattle.amqp_ends.specs.Honest.{AllHonest}
+use Rattle.amqp_world.specs.Causes.{Histories}
 
 -- an event after a past
 pub record Explains (x : Event) (past : List Event) : Type 0 where
   pub valid : IsValid past x.step
   pub form : Form x past
   pub gate : Gate (x ∷ past)
-  pub causes : Causes x past
+  pub causes : Histories (x ∷ past)
+  pub honest : AllHonest x.entry.replies
+  pub fair : AllFair (layer_in (calls x.step.end (x ∷ past))) (layer_in (calls (other x.step.end) (x ∷ past))) x.entry.replies
 
 -- each event of a past, after those before it
 abbrev pub Explained : List Event → Type 0

@@ -1,7 +1,7 @@
 -- Both ends against the past.
 use Rattle.std.specs.Prelude.{◌≡◌, ◌≤◌, List, [], ◌++◌, length, Bool, false}
 use Rattle.amqp_wire.specs.Piped.{Piped}
-use Rattle.amqp_peer.specs.History.{Local, made_in, link_in, replied_in, read_in, wrote_in}
+use Rattle.amqp_peer.specs.History.{Local, made_in, link_in, sent_in, replied_in, read_in, wrote_in}
 use Rattle.amqp_peer.specs.Held.{IsExchanged}
 use Rattle.amqp_peer.specs.Peering.{Peering, Has}
 use Rattle.amqp_words.specs.declared.step.End.{End}
@@ -9,7 +9,11 @@ use Rattle.amqp_words.specs.declared.step.End.TheVariants.{Client, Listener}
 use Rattle.amqp_world.specs.declared.both.Both.{Both}
 use Rattle.amqp_world.specs.History.{Event, wrote, taken, read, calls, replied, last_moment}
 use Rattle.amqp_world.specs.Valid.{kind_of}
-use Rattle.amqp_world.specs.Causes.{IsCalm, Follows}
+use Rattle.amqp_engine.specs.Heard.{AllUnclosed}
+use Rattle.amqp_ends.specs.Joined.{IsCalm}
+use Rattle.amqp_ends.specs.Quiet.{BeginsIn}
+use Rattle.amqp_ends.specs.Standing.{Stands}
+use Rattle.amqp_world.specs.Causes.{Follows, NobodyCloses}
 use Rattle.amqp_world.specs.Explains.{past_of, Explained}
 use Rattle.amqp_world.specs.WorldView.{WorldView}
 use Rattle.amqp_world.specs.Turn.{pipe_of}
@@ -25,6 +29,9 @@ pub record Side (e f : End) (p : Peering Piped) (past : List Event) : Type 0 whe
   pub sent : wrote_in h ≡ wrote e past
   pub answered : replied_in h ≡ replied e past
   pub calm : IsCalm (link_in h)
+  pub unclosed : NobodyCloses past → AllUnclosed (sent_in h)
+  pub stands : Stands h (pipe_of p).input
+  pub begins : BeginsIn (kind_of e) (calls e past)
   pub output : (pipe_of p).output ≡ wrote e past
   pub mark : (pipe_of p).mark ≡ taken f past
   pub bound : (pipe_of p).mark ≤ length (pipe_of p).output
