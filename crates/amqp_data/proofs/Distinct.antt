@@ -1,10 +1,10 @@
 -- A pass over the entries, with the keys that were seen.
-use Rattle.std.proofs.Common.{◌≡◌, ℕ, suc, ◌+◌, ◌<◌, ◌≤◌, Bool, true, false, cond, List, [], ◌∷◌, ◌++◌, length, get_or, drop, map, refl, sym, ap, ◌∙◌, add-one, drop-cons}
+use Rattle.std.proofs.Common.{◌≡◌, ℕ, suc, ◌+◌, ◌<◌, ◌≤◌, Bool, true, false, cond, List, [], ◌∷◌, ◌++◌, length, get_or, take, drop, map, refl, sym, ap, ◌∙◌, add-one, drop-cons}
 use Rattle.std.specs.Borrow.{Bor}
 use Rattle.std.specs.Prelude.{not}
 use Rattle.std.proofs.lemmas.Bool.{true≢false}
 use Rattle.std.specs.List.{list_any}
-use Rattle.std.proofs.lemmas.List.{drop_all, map_push}
+use Rattle.std.proofs.lemmas.List.{drop_all, map_push, take_more}
 use Rattle.amqp_data.specs.Data.{Amqp}
 use Rattle.amqp_data.specs.Same.{same, distinct_after}
 use Rattle.amqp_data.specs.View.{view, pairs_view}
@@ -35,6 +35,37 @@ module _ (es : List Entry) (ks : List (Bor Value)) (i : ℕ) (e : Entry) (whole 
       let one : distinct_after (seen_view ks) (pairs_view (drop i es)) ≡ distinct_after (seen_view ks ++ view e.key ∷ []) (pairs_view (drop (i + 1) es)) = rw (at, sym (any_view (view e.key) ks) ∙ h) refl in
       let more : seen_view (ks ++ k ∷ []) ≡ seen_view ks ++ view e.key ∷ [] = map_push _ ks k ∙ ap (λ (z : Value). seen_view ks ++ view z ∷ []) same_key in
       rw more (sym one ∙ inv)
+
+abbrev pub keys_view : List Entry → List Amqp
+keys_view es = map (λ e. view e.key) es
+
+any_key : (x : Amqp) (es : List Entry) → list_any (λ e. same x (view e.key)) es ≡ list_any (same x) (keys_view es)
+any_key x [] = refl
+any_key x (e ∷ es) = rw (any_key x es) refl
+
+-- a pass over the entries, with those before the place
+module _ (es : List Entry) (i : ℕ) (e : Entry) (whole : Bool) (lt : i < length es) (here : e ≡ get_or es i e) where
+  from : drop i es ≡ e ∷ drop (i + 1) es
+  from = rw add-one (drop-cons es i e lt ∙ ap (λ (z : Entry). z ∷ drop (suc i) es) (sym here))
+
+  up_to : keys_view (take (i + 1) es) ≡ keys_view (take i es) ++ view e.key ∷ []
+  up_to = ap keys_view (take_more es i e lt ∙ ap (λ (z : Entry). take i es ++ z ∷ []) (sym here)) ∙ map_push _ (take i es) e
+
+  same_test : list_any (λ z. same (view e.key) (view z.key)) (take i es) ≡ list_any (λ z. same (view (get_or es i e).key) (view z.key)) (take i es)
+  same_test = ap (λ (x : Entry). list_any (λ z. same (view x.key) (view z.key)) (take i es)) here
+
+  pub key_is_old : list_any (λ z. same (view (get_or es i e).key) (view z.key)) (take i es) ≡ true → distinct_after (keys_view (take i es)) (pairs_view (drop i es)) ≡ whole → false ≡ whole
+  unfolding distinct_after
+  key_is_old h inv =
+      let one : distinct_after (keys_view (take i es)) (pairs_view (drop i es)) ≡ false = rw (from, sym (any_key (view e.key) (take i es)) ∙ same_test ∙ h) refl in
+      sym one ∙ inv
+
+  pub key_is_new : list_any (λ z. same (view (get_or es i e).key) (view z.key)) (take i es) ≡ false → distinct_after (keys_view (take i es)) (pairs_view (drop i es)) ≡ whole
+      → distinct_after (keys_view (take (i + 1) es)) (pairs_view (drop (i + 1) es)) ≡ whole
+  unfolding distinct_after
+  key_is_new h inv =
+      let one : distinct_after (keys_view (take i es)) (pairs_view (drop i es)) ≡ distinct_after (keys_view (take i es) ++ view e.key ∷ []) (pairs_view (drop (i + 1) es)) = rw (from, sym (any_key (view e.key) (take i es)) ∙ same_test ∙ h) refl in
+      rw up_to (sym one ∙ inv)
 
 pub all_passed : (es : List Entry) (seen : List Amqp) (i : ℕ) (whole : Bool) → length es ≤ i → distinct_after seen (pairs_view (drop i es)) ≡ whole → true ≡ whole
 unfolding distinct_after

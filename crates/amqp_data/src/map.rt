@@ -1,6 +1,7 @@
 //! Maps with distinct keys, in the order of insertion (OASIS AMQP 1.0, part 1, section 1.6.23). A look-up and an insertion
 //! scan the entries; a whole map is made by `OrderedMap::from_entries` in linear time.
 ghost use Rattle.std.specs.Prelude.{◌≡◌, ◌≢◌, ◌↔◌, Some, IsTrue, IsNone, IfOk, OnOk, OnErr, IsErrOf, is_some, option_map, position};
+ghost use Rattle.std.specs.List.{list_any};
 ghost use Rattle.std.specs.Slice.Iter.{iter_rest};
 ghost use Rattle.amqp_data.specs.Data.{Amqp, no_pairs, pair_count, IsNew, HasDistinctKeys};
 ghost use Rattle.amqp_data.specs.Maps.{lookup, inserted};
@@ -33,9 +34,34 @@ impl From<AllocError> for MapError {
     }
 }
 
+/// How many entries have their keys compared one with another: beyond that a set is quicker, and keeps the work linear.
+const FEW_ENTRIES: usize = 16;
+
+/// Whether one of the entries has the key.
+fn have_key(entries: &[Entry], key: &Value) -> bool
+    ensures { result ≡ list_any (λ e. same (view key.now) (view e.key)) entries.now }
+{
+    entries.iter().any(|entry| *key == entry.key)
+}
+
+/// Whether each key is new, where it is compared to all before it.
+fn are_all_new(entries: &[Entry]) -> bool
+    ensures { result ≡ distinct_keys (pairs_view entries.now) }
+{
+    for place in 0..entries.len() {
+        if have_key(&entries[..place], &entries[place].key) {
+            return false;
+        }
+    }
+    true
+}
+
 fn has_distinct_keys(alloc: Global, entries: &[Entry]) -> Result<bool, AllocError>
     ensures { IfOk result (λ b. b ≡ distinct_keys (pairs_view entries.now)) }
 {
+    if entries.len() <= FEW_ENTRIES {
+        return Ok(are_all_new(entries));
+    }
     let mut seen: IndexSet<&Value> = IndexSet::new(alloc);
     for entry in entries {
         if !seen.insert(&entry.key)? {

@@ -14,6 +14,9 @@ use amqp_described::write_described_value;
 use amqp_fields::BaseError;
 use std::alloc::Global;
 
+/// The room for all but the data of a message.
+const FEW_BYTES: usize = 512;
+
 fn put_optional<T: Content>(
     alloc: Global,
     out: &mut Binary,
@@ -117,13 +120,21 @@ fn put_message(alloc: Global, out: &mut Binary, message: &Message<Body>) -> Resu
     Ok(())
 }
 
+/// How much room is taken at once: enough for most messages, so that the bytes seldom move.
+fn first_room(body: &Body) -> usize {
+    match body {
+        Body::Data(sections) => sections.first.len().saturating_add(FEW_BYTES),
+        Body::Value(_) | Body::Sequence(_) | Body::Empty => FEW_BYTES,
+    }
+}
+
 /// The one spelling of the message that is written, each section that it has in its place: `Size` exactly where what a section
 /// holds is nested more than 32 deep or a length needs more than 32 bits.
 pub fn encode_message(alloc: Global, message: &Message<Body>) -> Result<Binary, BaseError>
     ensures bytes { Encodes result (message_items (seen message.now)) }
     ensures spelled { IfOk result (λ bytes. SpellsMessage bytes (seen message.now)) }
 {
-    let mut out = Binary::new(alloc);
+    let mut out = Binary::with_capacity(alloc, first_room(&message.body))?;
     put_message(alloc, &mut out, message)?;
     Ok(out)
 }

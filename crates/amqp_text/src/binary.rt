@@ -26,6 +26,14 @@ impl Binary {
         }
     }
 
+    /// No bytes, with room for so many; the one error is want of memory.
+    pub fn with_capacity(alloc: Global, capacity: usize) -> Result<Self, AllocError>
+        ensures { IfOk result (λ b. b ≡ []) }
+    {
+        let bytes = Vec::with_capacity(alloc, capacity)?;
+        Ok(Binary { bytes })
+    }
+
     /// A copy of `bytes`; the one error is want of memory.
     pub fn from_slice(alloc: Global, bytes: &[u8]) -> Result<Self, AllocError>
         ensures { IfOk result (λ b. b ≡ bytes.now) }

@@ -17,3 +17,4 @@ pub mod ArrayItems
 pub mod Sizes
 pub mod Shortest
 pub mod Written
+pub mod Front

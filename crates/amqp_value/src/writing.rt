@@ -141,7 +141,10 @@ fn put_value(out: &mut Binary, value: &Value) -> Result<(), AllocError>
         Value::String(text) => put_string(out, text.as_str()),
         Value::Symbol(symbol) => put_symbol(out, symbol.as_slice()),
         Value::List(list) => put_list(out, list.as_slice()),
-        Value::Map(map) => put_map(out, map.entries()),
+        Value::Map(map) => {
+            let entries = map.entries();
+            put_map(out, entries, pairs_length(entries))
+        }
         Value::Array(array) => put_array(out, array.kind(), array.as_slice()),
         Value::Described(described) => put_described(out, described),
     }
@@ -186,13 +189,14 @@ fn put_items(out: &mut Binary, values: &[Value]) -> Result<(), AllocError>
     Ok(())
 }
 
+/// Adds the map whose keys and values have that length together.
 #[cycle(write)]
-fn put_map(out: &mut Binary, entries: &[Entry]) -> Result<(), AllocError>
+fn put_map(out: &mut Binary, entries: &[Entry], size: u64) -> Result<(), AllocError>
     requires distinct { HasDistinctKeys (pairs_view entries.now) }
     requires writable { IsWritable (dict (pairs_view entries.now)) }
+    requires sized { ArePairsLength size (pairs_view entries.now) }
     ensures { OnOk result (Wrote out.old out.new (dict (pairs_view entries.now))) }
 {
-    let size = pairs_length(entries);
     let count = 2 * entries.len() as u64;
     let width = compound_width(count, size);
     put_head(out, map_byte(width), width, count, size)?;
@@ -271,10 +275,10 @@ pub fn write_map(out: &mut Binary, map: &OrderedMap) -> Result<(), ValueError>
     if !entries_nest_within(entries, MAX_DEPTH - 1) {
         return Err(ValueError::Depth);
     }
-    let Some(_) = pairs_size(entries) else {
+    let Some(size) = pairs_size(entries) else {
         return Err(ValueError::Size);
     };
-    put_map(out, entries)?;
+    put_map(out, entries, size)?;
     Ok(())
 }
 

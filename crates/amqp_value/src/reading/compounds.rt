@@ -1,5 +1,5 @@
 //! Values that hold other values (OASIS AMQP 1.0, part 1, sections 1.2 and 1.6.22 to 1.6.24).
-ghost use Rattle.std.specs.Prelude.{Option, ℕ, List};
+ghost use Rattle.std.specs.Prelude.{◌≡◌, ◌∷◌, Option, ℕ, List, IfSome};
 ghost use Rattle.amqp_data.specs.View.{view, items_view, pairs_view};
 ghost use Rattle.amqp_data.specs.Data.{dict};
 ghost use Rattle.amqp_value.specs.Reading.{Gives, items_at, pairs_at, values_in, list_at, pairs_in, map_at, distinct, element_at, constructor_at, elements_in, array_at, described_at, code_at, body_at, value_at};
@@ -7,9 +7,14 @@ ghost use Rattle.amqp_value.specs.Reading.{Gives, items_at, pairs_at, values_in,
 use crate::code::{Code, ScalarCode, SizeWidth, code_of, scalar_code_of};
 use crate::error::ValueError;
 use crate::reading::blocks::{take_block, take_size, take_u8};
-use crate::reading::scalars::read_scalar;
+use crate::reading::scalars::{read_scalar, read_string};
 use amqp_data::{Described, ElementKind, Entry, OrderedMap, Value, ValueArray, ValueList};
 use std::alloc::Global;
+
+/// How many places are taken at once for what a count announces: the count alone is not trusted, since few bytes may follow it.
+fn first_places(count: u32) -> usize {
+    if count < 64 { count as usize } else { 64 }
+}
 
 // ---- arrays: their elements hold no other value
 
@@ -107,7 +112,7 @@ fn read_items(
 ) -> Result<(Vec<Value>, &[u8]), ValueError>
     ensures { Gives (λ x. (items_view x.0.items, x.1.now)) result (items_at (value_at depth) count bytes.now) }
 {
-    let mut values = Vec::new(alloc);
+    let mut values = Vec::with_capacity(alloc, first_places(count))?;
     let mut rest = bytes;
     'items: for _ in 0..count {
         let (found, after) = read_nested(alloc, rest, depth)?;
@@ -159,7 +164,7 @@ fn read_pairs(
 ) -> Result<(Vec<Entry>, &[u8]), ValueError>
     ensures { Gives (λ x. (pairs_view x.0.items, x.1.now)) result (pairs_at (value_at depth) count bytes.now) }
 {
-    let mut entries = Vec::new(alloc);
+    let mut entries = Vec::with_capacity(alloc, first_places(count))?;
     let mut rest = bytes;
     'pairs: for _ in 0..count {
         let (key, after) = read_nested(alloc, rest, depth)?;
@@ -259,7 +264,8 @@ fn read_body(
 /// The value that begins the bytes and is nested no deeper than `depth`, and the bytes after it.
 #[cycle(read)]
 #[tactic(auto, unfolding(crate::specs::Reading::value_at))]
-pub fn read_nested(alloc: Global, bytes: &[u8], depth: u8) -> Result<(Value, &[u8]), ValueError>
+#[inline(never)]
+fn read_any(alloc: Global, bytes: &[u8], depth: u8) -> Result<(Value, &[u8]), ValueError>
     ensures { Gives (λ x. (view x.0, x.1.now)) result (value_at depth bytes.now) }
 {
     if depth == 0 {
@@ -267,4 +273,30 @@ pub fn read_nested(alloc: Global, bytes: &[u8], depth: u8) -> Result<(Value, &[u
     }
     let (code, rest) = read_code(bytes)?;
     read_body(alloc, code, rest, depth - 1)
+}
+
+/// The bytes after the constructor of a text whose length takes one octet, where they begin with that.
+fn after_short_string(bytes: &[u8]) -> Option<&[u8]>
+    ensures { IfSome result (λ rest. bytes.now ≡ 161 ∷ rest.now) }
+{
+    match bytes {
+        [0xa1, rest @ ..] => Some(rest),
+        _ => None,
+    }
+}
+
+/// The same, where a short text, as keys and their values often are, takes the shortest way: it is made in the caller's own
+/// place, and only what `read_any` reads is moved.
+#[cycle(read)]
+#[inline(always)]
+pub fn read_nested(alloc: Global, bytes: &[u8], depth: u8) -> Result<(Value, &[u8]), ValueError>
+    ensures { Gives (λ x. (view x.0, x.1.now)) result (value_at depth bytes.now) }
+{
+    match after_short_string(bytes) {
+        Some(rest) if depth != 0 => read_string(alloc, SizeWidth::One, rest),
+        _ => {
+            let (found, rest) = read_any(alloc, bytes, depth)?;
+            Ok((found, rest))
+        }
+    }
 }

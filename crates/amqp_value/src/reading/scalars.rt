@@ -142,7 +142,12 @@ fn read_binary(alloc: Global, width: SizeWidth, bytes: &[u8]) -> Result<(Value, 
 }
 
 #[tactic(auto, unfolding(crate::specs::Reading::text_at))]
-fn read_string(alloc: Global, width: SizeWidth, bytes: &[u8]) -> Result<(Value, &[u8]), ValueError>
+#[inline(always)]
+pub fn read_string(
+    alloc: Global,
+    width: SizeWidth,
+    bytes: &[u8],
+) -> Result<(Value, &[u8]), ValueError>
     ensures { Gives (λ x. (view x.0, x.1.now)) result (kept scalar (kept string (text_at width bytes.now))) }
 {
     let (octets, rest) = take_block(width, bytes)?;

@@ -58,14 +58,14 @@ put_list-returns t c =
     values_put c.args.out.now c.put_head.new.out c.put_items.new.out c.items_length-size.result w c.args.values.now (λ e. absurd (grind (arith, e, c.if-is_empty.ensures, c.is_empty.ensures, c.if-is_empty.false))) c.items_length-size.ensures c.compound_width-width.ensures started c.in_ok-put_items.ensures
 
 pub put_map-put_head-requires-clause-counted : goal.put_map-put_head-requires-clause-counted
-put_map-put_head-requires-clause-counted t c = rw c.compound_width-width.ensures (let h = map_limits c.pairs_length-size.result c.args.entries.now c.pairs_length-size.ensures in h.few)
+put_map-put_head-requires-clause-counted t c = rw c.compound_width-width.ensures (let h = map_limits c.args.size c.args.entries.now c.requires.sized in h.few)
 
 pub put_map-returns : goal.put_map-returns
 put_map-returns t c =
     let w = c.compound_width-width.result in
-    let started : c.put_head.new.out ≡ c.args.out.now ++ head (map_number w) w (2 * length c.args.entries.now) c.pairs_length-size.result =
-    c.in_ok-put_head.ensures ∙ ap (λ (z : ℕ). c.args.out.now ++ head z w (2 * length c.args.entries.now) c.pairs_length-size.result) c.map_byte.ensures in
-    entries_put c.args.out.now c.put_head.new.out c.put_pairs.new.out c.pairs_length-size.result w c.args.entries.now c.requires.distinct c.pairs_length-size.ensures c.compound_width-width.ensures started c.in_ok-put_pairs.ensures
+    let started : c.put_head.new.out ≡ c.args.out.now ++ head (map_number w) w (2 * length c.args.entries.now) c.args.size =
+    c.in_ok-put_head.ensures ∙ ap (λ (z : ℕ). c.args.out.now ++ head z w (2 * length c.args.entries.now) c.args.size) c.map_byte.ensures in
+    entries_put c.args.out.now c.put_head.new.out c.put_pairs.new.out c.args.size w c.args.entries.now c.requires.distinct c.requires.sized c.compound_width-width.ensures started c.in_ok-put_pairs.ensures
 
 pub put_pairs-put_value-requires : goal.put_pairs-put_value-requires
 put_pairs-put_value-requires t c = (

@@ -9,7 +9,7 @@ use Rattle.amqp_value.proofs.writing.write_map.Goals as goal
 pub put_map-requires-clause-writable : goal.put_map-requires-clause-writable
 put_map-requires-clause-writable c =
     let within : pairs_depth (pairs_view c.entries-entries.result.now) ≤ 31 = grind (arith, c.entries_nest_within.ensures, c.if-not-entries_nest_within.false) in
-    pairs_writable c.in-Some.field-0 (pairs_view c.entries-entries.result.now) c.in-Some.ensures within
+    pairs_writable c.in-Some.size (pairs_view c.entries-entries.result.now) c.in-Some.ensures within
 
 pub returns-then-not-entries_nest_within : goal.returns-then-not-entries_nest_within
 returns-then-not-entries_nest_within c =
@@ -25,4 +25,4 @@ pub returns : goal.returns
 returns c =
     let within : pairs_depth (pairs_view c.entries-entries.result.now) ≤ 31 = grind (arith, c.entries_nest_within.ensures, c.if-not-entries_nest_within.false) in
     subst (λ (ps : Pairs). Wrote c.args.out.now c.put_map.new.out (dict ps) × IsSized (dict ps) × (suc (pairs_depth ps) ≤ 32)) c.entries-entries.ensures.value
-    (c.in_ok-put_map.ensures, (pairs_writable c.in-Some.field-0 (pairs_view c.entries-entries.result.now) c.in-Some.ensures within).sized, omega (arith, within))
+    (c.in_ok-put_map.ensures, (pairs_writable c.in-Some.size (pairs_view c.entries-entries.result.now) c.in-Some.ensures within).sized, omega (arith, within))

@@ -3,11 +3,12 @@ use Rattle.std.proofs.lemmas.Result.{err_from_is_err_and}
 use Rattle.amqp_value.specs.Reading.{items_at, pairs_at, value_at}
 use Rattle.amqp_value.proofs.Loops.{goes_on, ends, is_done, pairs_go_on, pairs_end, pairs_end_late, pairs_are_done}
 use Rattle.amqp_data.specs.declared.value.Entry.{Entry}
+use Rattle.amqp_value.proofs.Front.{short_text}
 use Rattle.amqp_value.proofs.reading.compounds.+read.Goals as goal
 
 pub read_items-returns-in_err-found : goal.read_items-returns-in_err-found
 read_items-returns-in_err-found t c =
-    let p = err_from_is_err_and c.from_residual.result c.from_residual.ensures.1 in
+    let p = err_from_is_err_and c.from_residual-in_err-found.result c.from_residual-in_err-found.ensures.1 in
     rw (p.1, p.2) (ends c.in_err-found.field-0.0 (value_at c.args.depth) c.items.values.items c.args.count c.items.counter c.items.rest.now (items_at (value_at c.args.depth) c.args.count c.args.bytes.now) c.items-test.true c.in_err-found.ensures c.items.invariant)
 
 pub read_items-items-preserved : goal.read_items-items-preserved
@@ -20,7 +21,7 @@ read_items-returns t c = is_done (value_at c.args.depth) c.items.values.items c.
 
 pub read_pairs-returns-in_err-key : goal.read_pairs-returns-in_err-key
 read_pairs-returns-in_err-key t c =
-    let p = err_from_is_err_and c.from_residual.result c.from_residual.ensures.1 in
+    let p = err_from_is_err_and c.from_residual-in_err-key.result c.from_residual-in_err-key.ensures.1 in
     rw (p.1, p.2) (pairs_end c.in_err-key.field-0.0 (value_at c.args.depth) c.pairs.entries.items c.args.count c.pairs.counter c.pairs.rest.now (pairs_at (value_at c.args.depth) c.args.count c.args.bytes.now) c.pairs-test.true c.in_err-key.ensures c.pairs.invariant)
 
 pub read_pairs-returns-in_err-found : goal.read_pairs-returns-in_err-found
@@ -36,3 +37,6 @@ read_pairs-pairs-preserved t c =
 
 pub read_pairs-returns : goal.read_pairs-returns
 read_pairs-returns t c = pairs_are_done (value_at c.args.depth) c.pairs.entries.items c.args.count c.pairs.counter c.pairs.rest.now (pairs_at (value_at c.args.depth) c.args.count c.args.bytes.now) c.pairs-test.false c.pairs.invariant
+
+pub read_nested-returns-in-Some : goal.read_nested-returns-in-Some
+read_nested-returns-in-Some t c = rw (short_text c.args.depth c.args.bytes.now c.in-Some.rest.now c.if-depth-ne0.true c.in-Some.ensures) c.read_string.ensures
