@@ -19,6 +19,18 @@ IsRefusedSize limit bytes = (4 ≤ length bytes) × ((size_of bytes < 8) ⊎ (li
 abbrev pub IsBadOffset : List ℕ → Type 0
 IsBadOffset bytes = (start_of bytes < 8) ⊎ (size_of bytes < start_of bytes)
 
+-- such a frame, which is refused as soon as the 8 bytes of its header are there (section 2.3.1)
+pub record IsRefusedOffset (limit : ℕ) (bytes : List ℕ) : Type 0 where
+  pub size : HasSize limit bytes
+  pub there : 8 ≤ length bytes
+  pub bad : IsBadOffset bytes
+
+-- the front of a frame, of whose header nothing is refused
+pub record IsCutOff (limit : ℕ) (bytes : List ℕ) : Type 0 where
+  pub size : HasSize limit bytes
+  pub less : length bytes < size_of bytes
+  pub sound : 8 ≤ length bytes → IsBadOffset bytes → ⊥
+
 -- a frame that is there whole
 pub record IsWhole (limit : ℕ) (bytes : List ℕ) : Type 0 where
   pub size : HasSize limit bytes
@@ -36,8 +48,8 @@ pub record HasBody (kind limit : ℕ) (bytes : List ℕ) (size start channel : �
 
 -- what bytes begin with, under a limit of the size and for a type of frames
 abbrev pub IsFront : ℕ → ℕ → List ℕ → Front → Type 0
-IsFront kind limit bytes Partial = (length bytes < 4) ⊎ (HasSize limit bytes × (length bytes < size_of bytes))
-IsFront kind limit bytes Refused = IsRefusedSize limit bytes ⊎ (IsWhole limit bytes × IsBadOffset bytes)
+IsFront kind limit bytes Partial = (length bytes < 4) ⊎ IsCutOff limit bytes
+IsFront kind limit bytes Refused = IsRefusedSize limit bytes ⊎ IsRefusedOffset limit bytes
 IsFront kind limit bytes Foreign = IsWhole limit bytes × (8 ≤ start_of bytes) × (start_of bytes ≤ size_of bytes) × (slice_index bytes 5 ≢ kind)
 IsFront kind limit bytes (Whole size start channel) = HasBody kind limit bytes size start channel
 

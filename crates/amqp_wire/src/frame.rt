@@ -11,7 +11,8 @@ pub enum Front {
     /// The front of a frame: less than its size, or less than that many bytes.
     Partial,
     /// A size below 8 or above the limit, which is refused as soon as its four bytes are
-    /// there, or in a whole frame a data offset below 2 words or behind the frame's end.
+    /// there, or a data offset below 2 words or behind the frame's end, as soon as the eight
+    /// bytes of the header are.
     Refused,
     /// A whole frame of another type.
     Foreign,
@@ -42,12 +43,15 @@ pub fn front_of(kind: u8, limit: usize, bytes: &[u8]) -> Front
     if size < 8 || size > limit {
         return Front::Refused;
     }
-    if bytes.len() < size {
+    if bytes.len() < 8 {
         return Front::Partial;
     }
     let start = 4 * bytes[4] as usize;
     if start < 8 || size < start {
         return Front::Refused;
+    }
+    if bytes.len() < size {
+        return Front::Partial;
     }
     if bytes[5] != kind {
         return Front::Foreign;

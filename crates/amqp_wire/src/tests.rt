@@ -86,12 +86,16 @@ fn fronts_at_512_bytes(rt: HostRuntime) -> Result<(), Fail> {
         start: 8,
         channel: 0,
     };
-    let rows: [(&[u8], Front); 7] = [
+    let rows: [(&[u8], Front); 11] = [
         (&[0, 0, 0], Front::Partial),
         (&[0, 0, 0, 7], Front::Refused),
         (&[0, 0, 2, 1], Front::Refused),
         (&[0, 0, 0, 8, 1, 0, 0, 0], Front::Refused),
         (&[0, 0, 0, 8, 2, 0, 0], Front::Partial),
+        (&[0, 0, 0, 9, 1, 0, 0], Front::Partial),
+        (&[0, 0, 0, 9, 1, 0, 0, 0], Front::Refused),
+        (&[0, 0, 0, 9, 3, 0, 0, 0], Front::Refused),
+        (&[0, 0, 0, 9, 2, 5, 0, 0], Front::Partial),
         (&[0, 0, 0, 8, 2, 0, 0, 0], empty),
         (&[0, 0, 0, 8, 2, 5, 0, 0], Front::Foreign),
     ];
