@@ -12,7 +12,6 @@ use Rattle.amqp_composites.specs.declared.sasl_code.SaslCode.TheVariants as sasl
 use Rattle.amqp_wire.specs.declared.link.Link.{Ghosts}
 use Rattle.amqp_wire.specs.Codec.{Codec}
 use Rattle.amqp_wire.specs.Events.{LinkEvent, read_of, wrote_of}
-use Rattle.sha2.specs.Sha256.{sha256}
 use Rattle.sasl_gate.specs.declared.gate.client.ClientStage.{ClientStage}
 use Rattle.sasl_gate.specs.declared.gate.client.ClientStage.TheVariants.{AwaitsMechanisms, OwesInit, AwaitsChallenge, OwesResponse, AwaitsOutcome, Passed}
 use Rattle.sasl_gate.specs.declared.gate.client.SaslProfile.{SaslProfile}
@@ -28,9 +27,11 @@ use Rattle.sasl_gate.specs.declared.scram.client.ClientPhase.{ClientPhase}
 use Rattle.sasl_gate.specs.declared.scram.client.ClientPhase.TheVariants.{Unanswered, Answered, Verified}
 use Rattle.sasl_gate.specs.declared.scram.error.ScramErrorKind.{ScramErrorKind}
 use Rattle.sasl_gate.specs.declared.scram.error.ScramErrorKind.TheVariants.{Signature}
+use Rattle.sasl_gate.specs.declared.scram.hash.ScramHash.{ScramHash}
 use Rattle.sasl_gate.specs.Check.{ClientAnswers, ClientCheck}
 use Rattle.sasl_gate.specs.ClientGate.{ClientEnd, turn_in, left_in, client_init, client_causes, holds_in, client_holds, IsTextAnswer, HasMechanisms, HasAnswer, HasPassed, ClientSame, IsScramCause, by_challenge, by_outcome, by_no_signature, client_mechanism, client_start, ClientPassed, HasClientPassed, ClientPolled}
 use Rattle.sasl_gate.specs.Frames.{Heard, said}
+use Rattle.sasl_gate.specs.Hashes.{digest_of, block_of, output_of}
 use Rattle.sasl_gate.specs.Negotiation.{Negotiating, HasFrames, HasIn, Has, IsPassed, IsPollAnswer, Polled}
 use Rattle.sasl_gate.specs.Refusals.{IsServerFirstRefusal, IsServerFinalRefusal}
 use Rattle.sasl_gate.specs.ScramBodies.{IsOnlySasl, outcome_body, response_body, Received}
@@ -88,7 +89,7 @@ received_challenge x c kind (Ok (Refused e)) stage r answer = record {
   kept = refl;
   err = tt;
   refused = λ given sent h.
-      let k : HasMechanisms given sent (client_init x ∷ []) = subst (λ (s : ClientStage). holds_in s x given sent) stage h in
+      let k : HasMechanisms x.hash given sent (client_init x ∷ []) = subst (λ (s : ClientStage). holds_in s x given sent) stage h in
       subst (λ (e : NegotiationError). client_causes x e (given ++ Challenge c ∷ []) sent) (sym answer.0)
       (by_challenge k.names c.challenge (ap (λ (u : List SaslBody). u ++ Challenge c ∷ []) k.given_is) answer.1 r);
 }
@@ -112,7 +113,7 @@ received_no_signature x stage = record {
 }
 
 refused_final_in : (p : ClientPhase) (x : ClientEnd) (text : List ℕ) (kind : ScramErrorKind) (given sent : List SaslBody)
-    → ForAnswered p (λ a. ClientAnswers sha256 64 32 x.client.user x.client.password x.client.nonce a.server_first a.client_final a.signature × IsServerFinalRefusal 32 a.signature text kind)
+    → ForAnswered p (λ a. ClientAnswers (digest_of x.hash) (block_of x.hash) (output_of x.hash) x.client.user x.client.password x.client.nonce a.server_first a.client_final a.signature × IsServerFinalRefusal (output_of x.hash) a.signature text kind)
     → ForAnswered p (λ a. HasAnswer x a given sent (client_init x ∷ response_body a.client_final ∷ []))
     → IsScramCause x kind (given ++ outcome_body sasl.Ok (Some text) ∷ []) sent
 refused_final_in Unanswered x text kind given sent r h = absurd h
@@ -122,7 +123,7 @@ refused_final_in Verified x text kind given sent r h = absurd h
 
 -- outcome `Ok` with a server final that is refused
 pub received_final_refused : (x : ClientEnd) (text : List ℕ) (kind : ScramErrorKind) → x.stage ≡ AwaitsOutcome
-    → ForAnswered x.client.phase (λ a. ClientAnswers sha256 64 32 x.client.user x.client.password x.client.nonce a.server_first a.client_final a.signature × IsServerFinalRefusal 32 a.signature text kind)
+    → ForAnswered x.client.phase (λ a. ClientAnswers (digest_of x.hash) (block_of x.hash) (output_of x.hash) x.client.user x.client.password x.client.nonce a.server_first a.client_final a.signature × IsServerFinalRefusal (output_of x.hash) a.signature text kind)
     → Received client_mechanism x (outcome_body sasl.Ok (Some text)) (Ok (Refused (ScramError kind))) x
 received_final_refused x text kind stage r = record {
   taken = tt;
@@ -134,7 +135,7 @@ received_final_refused x text kind stage r = record {
 }
 
 passed_in : (p : ClientPhase) (x : ClientEnd) (text : List ℕ) (given sent : List SaslBody)
-    → ForAnswered p (λ a. ClientCheck sha256 64 32 x.client.user x.client.password x.client.nonce (client_first_of x.client.user x.client.nonce) a.server_first a.client_final text)
+    → ForAnswered p (λ a. ClientCheck (digest_of x.hash) (block_of x.hash) (output_of x.hash) x.client.user x.client.password x.client.nonce (client_first_of x.client.user x.client.nonce) a.server_first a.client_final text)
     → ForAnswered p (λ a. HasAnswer x a given sent (client_init x ∷ response_body a.client_final ∷ []))
     → HasPassed x (given ++ outcome_body sasl.Ok (Some text) ∷ []) sent
 passed_in Unanswered x text given sent check h = absurd h
@@ -155,19 +156,19 @@ less_final stage e = subst (λ (s : ClientStage). 0 < left_in s) (sym e) (omega 
 
 -- outcome `Ok` with the server final that was waited for
 pub received_final : (x : ClientEnd) (text : List ℕ) → x.stage ≡ AwaitsOutcome
-    → ForAnswered x.client.phase (λ a. ClientCheck sha256 64 32 x.client.user x.client.password x.client.nonce (client_first_of x.client.user x.client.nonce) a.server_first a.client_final text)
-    → Received client_mechanism x (outcome_body sasl.Ok (Some text)) (Ok Taken) (record { client = client_verified x.client; stage = Passed; hostname = x.hostname })
+    → ForAnswered x.client.phase (λ a. ClientCheck (digest_of x.hash) (block_of x.hash) (output_of x.hash) x.client.user x.client.password x.client.nonce (client_first_of x.client.user x.client.nonce) a.server_first a.client_final text)
+    → Received client_mechanism x (outcome_body sasl.Ok (Some text)) (Ok Taken) (record { hash = x.hash; client = client_verified x.client; stage = Passed; hostname = x.hostname })
 received_final x text stage check = record {
   taken = λ given sent h. again given sent (passed_in x.client.phase x text given sent check (subst (λ (s : ClientStage). holds_in s x given sent) stage h));
   less = less_final x.stage stage;
-  same = record { user = refl; password = refl; nonce = refl; hostname = refl };
+  same = record { hash = refl; user = refl; password = refl; nonce = refl; hostname = refl };
   refused = tt;
   kept = tt;
   err = tt;
 }
   where
     again : (given sent : List SaslBody) → HasPassed x (given ++ outcome_body sasl.Ok (Some text) ∷ []) sent
-        → HasPassed (record { client = client_verified x.client; stage = Passed; hostname = x.hostname }) (given ++ outcome_body sasl.Ok (Some text) ∷ []) sent
+        → HasPassed (record { hash = x.hash; client = client_verified x.client; stage = Passed; hostname = x.hostname }) (given ++ outcome_body sasl.Ok (Some text) ∷ []) sent
     again given sent h = record { names = h.names; server_first = h.server_first; client_final = h.client_final; server_final = h.server_final; given_is = h.given_is; listed = h.listed; sent_is = h.sent_is; check = h.check }
 
 -- ---- the gate
@@ -219,10 +220,11 @@ client_passed {L} n events h passed =
 
 passed_same : (x y : ClientEnd) (events : List LinkEvent) → ClientSame x y → HasClientPassed y events → HasClientPassed x events
 passed_same x y events s h =
-    subst (λ (u : List ℕ). ClientPassed u x.client.password x.client.nonce x.hostname (wrote_of events) (read_of events)) (sym s.user)
-    (subst (λ (u : List ℕ). ClientPassed y.client.user u x.client.nonce x.hostname (wrote_of events) (read_of events)) (sym s.password)
-    (subst (λ (u : List ℕ). ClientPassed y.client.user y.client.password u x.hostname (wrote_of events) (read_of events)) (sym s.nonce)
-    (subst (λ (u : Option (List ℕ)). ClientPassed y.client.user y.client.password y.client.nonce u (wrote_of events) (read_of events)) (sym s.hostname) h)))
+    subst (λ (k : ScramHash). ClientPassed k x.client.user x.client.password x.client.nonce x.hostname (wrote_of events) (read_of events)) (sym s.hash)
+    (subst (λ (u : List ℕ). ClientPassed y.hash u x.client.password x.client.nonce x.hostname (wrote_of events) (read_of events)) (sym s.user)
+    (subst (λ (u : List ℕ). ClientPassed y.hash y.client.user u x.client.nonce x.hostname (wrote_of events) (read_of events)) (sym s.password)
+    (subst (λ (u : List ℕ). ClientPassed y.hash y.client.user y.client.password u x.hostname (wrote_of events) (read_of events)) (sym s.nonce)
+    (subst (λ (u : Option (List ℕ)). ClientPassed y.hash y.client.user y.client.password y.client.nonce u (wrote_of events) (read_of events)) (sym s.hostname) h))))
 
 -- what a poll says of the whole history
 pub client_polled : {L : Type 0} (link : Ghosts L) (old : Negotiating L ClientEnd) (left : ℕ) (result : Result GatePoll NegotiationError) (new : Negotiating L ClientEnd) (left' : ℕ)

@@ -31,7 +31,7 @@ use Rattle.sasl_gate.specs.declared.gate.negotiation.Step.{Step}
 use Rattle.sasl_gate.specs.declared.gate.negotiation.Step.TheVariants.{Goes, Waits, Ends}
 use Rattle.sasl_gate.specs.Exchange.{refused_with}
 use Rattle.sasl_gate.specs.Frames.{sasl_header, HasSaslFrame, Heard, sasl_frame}
-use Rattle.sasl_gate.specs.Negotiation.{Negotiating, IsCaused, at_link, at_header, at_frame, by_body, too_long, HeaderCause, FrameCause, IsOverlong, HasHeader, HasFrames, HasIn, IsAtRestIn, IsAtRest, IsPollAnswer, Polled}
+use Rattle.sasl_gate.specs.Negotiation.{Negotiating, at_link, at_header, at_frame, by_body, too_long, HeaderCause, FrameCause, IsOverlong, HasHeader, HasFrames, HasIn, IsAtRestIn, IsAtRest, IsPollAnswer, Polled}
 use Rattle.sasl_gate.specs.Steps.{IsStepEnd, Stepped, IsAlive, IsStopAnswer, IsWaitAnswer, IsEndAnswer, ArrivesIn}
 use Rattle.sasl_gate.proofs.Negotiations.{goes_none, stepped_then, goes_flushed, flush_events, goes_read, goes_failed, goes_refused, Failing, goes_header, goes_taken, goes_sent, heard_push, frame_cut}
 

@@ -1,4 +1,4 @@
--- What every gate with SCRAM-SHA-256 has in common.
+-- What every gate has in common.
 use Rattle.std.proofs.Common.{List, []}
 use Rattle.std.proofs.lemmas.List.Elements.{All-nil}
 use Rattle.amqp_wire.specs.Events.{LinkEvent, wrote_of}

@@ -1,4 +1,4 @@
--- The client's end of a SASL negotiation with SCRAM-SHA-256.
+-- The client's end of a SASL negotiation with SCRAM.
 use Rattle.std.specs.Prelude.{◌≡◌, ◌≢◌, ◌++◌, ◌⊎◌, ℕ, Bool, true, false, List, [], ◌∷◌, Option, Some, None, Result, Ok, Err, Contains, ⊤}
 use Rattle.std.specs.declared.alloc.AllocError.{AllocError}
 use Rattle.std.proofs.Common.{refl, sym, subst, ◌∙◌}
@@ -9,11 +9,10 @@ use Rattle.amqp_composites.specs.declared.sasl_code.SaslCode.TheVariants as sasl
 use Rattle.amqp_wire.specs.declared.link.Link.{Ghosts}
 use Rattle.amqp_wire.specs.Codec.{Codec}
 use Rattle.amqp_wire.specs.Events.{LinkEvent, read_of, wrote_of}
-use Rattle.sha2.specs.Sha256.{sha256}
 use Rattle.sasl_gate.specs.declared.gate.client.ClientStage.{ClientStage}
 use Rattle.sasl_gate.specs.declared.gate.client.ClientStage.TheVariants.{AwaitsMechanisms, OwesInit, AwaitsChallenge, OwesResponse, AwaitsOutcome, Passed}
 use Rattle.sasl_gate.specs.declared.gate.client.SaslProfile.{SaslProfile}
-use Rattle.sasl_gate.specs.declared.gate.client.SaslProfile.TheVariants.{ScramSha256}
+use Rattle.sasl_gate.specs.declared.gate.client.SaslProfile.TheVariants.{ScramSha1, ScramSha256, ScramSha512}
 use Rattle.sasl_gate.specs.declared.gate.error.NegotiationError.{NegotiationError}
 use Rattle.sasl_gate.specs.declared.gate.error.NegotiationError.TheVariants.{Memory, ProtocolHeaderMismatch, NotImplemented, SaslError, ScramError, Io, DecodeError, IllegalState, FramingError}
 use Rattle.sasl_gate.specs.declared.gate.exchange.Exchange.{Ghosts as Mechanism}
@@ -29,27 +28,42 @@ use Rattle.sasl_gate.specs.declared.scram.client.ClientPhase.{ClientPhase}
 use Rattle.sasl_gate.specs.declared.scram.client.ClientPhase.TheVariants.{Unanswered}
 use Rattle.sasl_gate.specs.declared.scram.error.ScramErrorKind.{ScramErrorKind}
 use Rattle.sasl_gate.specs.declared.scram.error.ScramErrorKind.TheVariants.{Signature, TextNotAllowed}
+use Rattle.sasl_gate.specs.declared.scram.hash.ScramHash.{ScramHash}
+use Rattle.sasl_gate.specs.declared.scram.hash.ScramHash.TheVariants.{Sha1, Sha256, Sha512}
 use Rattle.sasl_gate.specs.Check.{ClientAnswers, ClientCheck}
 use Rattle.sasl_gate.specs.Exchange.{refused_with}
 use Rattle.sasl_gate.specs.Frames.{Heard, said, sasl_header}
+use Rattle.sasl_gate.specs.Hashes.{digest_of, block_of, output_of, mechanism_of}
 use Rattle.sasl_gate.specs.Negotiation.{Negotiating, Has, Polled}
 use Rattle.sasl_gate.specs.Profile.{IsAllowedUser, IsAllowedPassword}
 use Rattle.sasl_gate.specs.Refusals.{IsMemory, IsServerFirstRefusal, IsServerFinalRefusal}
-use Rattle.sasl_gate.specs.ScramBodies.{own_mechanism, mechanisms_body, init_body, challenge_body, response_body, outcome_body, IsOnlySasl}
+use Rattle.sasl_gate.specs.ScramBodies.{mechanisms_body, init_body, challenge_body, response_body, outcome_body, IsOnlySasl}
 use Rattle.sasl_gate.specs.States.{ClientState, ForAnswered}
 use Rattle.sasl_gate.specs.Texts.{client_first_of}
 
+abbrev pub hash_of : SaslProfile → ScramHash
+hash_of (ScramSha1 user password nonce) = Sha1
+hash_of (ScramSha256 user password nonce) = Sha256
+hash_of (ScramSha512 user password nonce) = Sha512
+
 abbrev pub username_of : SaslProfile → List ℕ
+username_of (ScramSha1 user password nonce) = user
 username_of (ScramSha256 user password nonce) = user
+username_of (ScramSha512 user password nonce) = user
 
 abbrev pub password_of : SaslProfile → List ℕ
+password_of (ScramSha1 user password nonce) = password
 password_of (ScramSha256 user password nonce) = password
+password_of (ScramSha512 user password nonce) = password
 
 abbrev pub nonce_of : SaslProfile → List ℕ
+nonce_of (ScramSha1 user password nonce) = nonce
 nonce_of (ScramSha256 user password nonce) = nonce
+nonce_of (ScramSha512 user password nonce) = nonce
 
--- a client's end of an exchange: its SCRAM client, how far it is, and the host that it means to reach
+-- a client's end of an exchange: its hash function and SCRAM client, how far it is, and the host that it means to reach
 pub record ClientEnd : Type 0 where
+  pub hash : ScramHash
   pub client : ClientState
   pub stage : ClientStage
   pub hostname : Option (List ℕ)
@@ -87,7 +101,7 @@ client_left x = left_in x.stage
 
 -- the init of an end
 abbrev pub client_init : ClientEnd → SaslBody
-client_init x = init_body own_mechanism (Some (client_first_of x.client.user x.client.nonce)) x.hostname
+client_init x = init_body (mechanism_of x.hash) (Some (client_first_of x.client.user x.client.nonce)) x.hostname
 
 abbrev pub owes_in : ClientStage → ClientEnd → SaslBody → Type 0
 owes_in AwaitsMechanisms x body = ⊥
@@ -101,19 +115,19 @@ owes_in Passed x body = ⊥
 abbrev pub client_owes : ClientEnd → SaslBody → Type 0
 client_owes x body = owes_in x.stage x body
 
--- an end that read a list with its own mechanism, and sent this
-pub record HasMechanisms (given sent now : List SaslBody) : Type 0 where
+-- an end with a hash function that read a list with its own mechanism, and sent this
+pub record HasMechanisms (hash : ScramHash) (given sent now : List SaslBody) : Type 0 where
   pub names : List (List ℕ)
   pub given_is : given ≡ mechanisms_body names ∷ []
-  pub listed : Contains names own_mechanism
+  pub listed : Contains names (mechanism_of hash)
   pub sent_is : sent ≡ now
 
 -- an end that read a challenge too, has this answer to it, and sent this
 pub record HasAnswer (x : ClientEnd) (a : ClientAnswer) (given sent now : List SaslBody) : Type 0 where
   pub names : List (List ℕ)
   pub given_is : given ≡ mechanisms_body names ∷ challenge_body a.server_first ∷ []
-  pub listed : Contains names own_mechanism
-  pub answers : ClientAnswers sha256 64 32 x.client.user x.client.password x.client.nonce a.server_first a.client_final a.signature
+  pub listed : Contains names (mechanism_of x.hash)
+  pub answers : ClientAnswers (digest_of x.hash) (block_of x.hash) (output_of x.hash) x.client.user x.client.password x.client.nonce a.server_first a.client_final a.signature
   pub sent_is : sent ≡ now
 
 -- an end whose check holds
@@ -123,14 +137,14 @@ pub record HasPassed (x : ClientEnd) (given sent : List SaslBody) : Type 0 where
   pub client_final : List ℕ
   pub server_final : List ℕ
   pub given_is : given ≡ mechanisms_body names ∷ challenge_body server_first ∷ outcome_body sasl.Ok (Some server_final) ∷ []
-  pub listed : Contains names own_mechanism
+  pub listed : Contains names (mechanism_of x.hash)
   pub sent_is : sent ≡ client_init x ∷ response_body client_final ∷ []
-  pub check : ClientCheck sha256 64 32 x.client.user x.client.password x.client.nonce (client_first_of x.client.user x.client.nonce) server_first client_final server_final
+  pub check : ClientCheck (digest_of x.hash) (block_of x.hash) (output_of x.hash) x.client.user x.client.password x.client.nonce (client_first_of x.client.user x.client.nonce) server_first client_final server_final
 
 abbrev pub holds_in : ClientStage → ClientEnd → List SaslBody → List SaslBody → Type 0
 holds_in AwaitsMechanisms x given sent = (given ≡ []) × (sent ≡ [])
-holds_in OwesInit x given sent = HasMechanisms given sent []
-holds_in AwaitsChallenge x given sent = HasMechanisms given sent (client_init x ∷ [])
+holds_in OwesInit x given sent = HasMechanisms x.hash given sent []
+holds_in AwaitsChallenge x given sent = HasMechanisms x.hash given sent (client_init x ∷ [])
 holds_in (OwesResponse text) x given sent = ForAnswered x.client.phase (λ a. (a.client_final ≡ text) × HasAnswer x a given sent (client_init x ∷ []))
 holds_in AwaitsOutcome x given sent = ForAnswered x.client.phase (λ a. HasAnswer x a given sent (client_init x ∷ response_body a.client_final ∷ []))
 holds_in Passed x given sent = HasPassed x given sent
@@ -139,8 +153,9 @@ holds_in Passed x given sent = HasPassed x given sent
 abbrev pub client_holds : ClientEnd → List SaslBody → List SaslBody → Type 0
 client_holds x given sent = holds_in x.stage x given sent
 
--- two ends were made for the same user, password, nonce and host
+-- two ends were made for the same hash function, user, password, nonce and host
 pub record ClientSame (x y : ClientEnd) : Type 0 where
+  pub hash : x.hash ≡ y.hash
   pub user : x.client.user ≡ y.client.user
   pub password : x.client.password ≡ y.client.password
   pub nonce : x.client.nonce ≡ y.client.nonce
@@ -177,8 +192,8 @@ pub data IsScramCause (x : ClientEnd) (kind : ScramErrorKind) (given sent : List
   by_outcome : (names : List (List ℕ)) (server_first client_final signature text : List ℕ)
       → given ≡ mechanisms_body names ∷ challenge_body server_first ∷ outcome_body sasl.Ok (Some text) ∷ []
       → sent ≡ client_init x ∷ response_body client_final ∷ []
-      → ClientAnswers sha256 64 32 x.client.user x.client.password x.client.nonce server_first client_final signature
-      → IsServerFinalRefusal 32 signature text kind → IsScramCause x kind given sent
+      → ClientAnswers (digest_of x.hash) (block_of x.hash) (output_of x.hash) x.client.user x.client.password x.client.nonce server_first client_final signature
+      → IsServerFinalRefusal (output_of x.hash) signature text kind → IsScramCause x kind given sent
   by_no_signature : (names : List (List ℕ)) (server_first : List ℕ)
       → given ≡ mechanisms_body names ∷ challenge_body server_first ∷ outcome_body sasl.Ok None ∷ []
       → kind ≡ Signature → IsScramCause x kind given sent
@@ -187,7 +202,7 @@ pub data IsScramCause (x : ClientEnd) (kind : ScramErrorKind) (given sent : List
 abbrev pub client_causes : ClientEnd → NegotiationError → List SaslBody → List SaslBody → Type 0
 client_causes x (Memory a) given sent = ⊥
 client_causes x (ProtocolHeaderMismatch h) given sent = ⊥
-client_causes x NotImplemented given sent = (names : List (List ℕ)) × (given ≡ mechanisms_body names ∷ []) × (¬ Contains names own_mechanism)
+client_causes x NotImplemented given sent = (names : List (List ℕ)) × (given ≡ mechanisms_body names ∷ []) × (¬ Contains names (mechanism_of x.hash))
 client_causes x (SaslError code payload) given sent = (before : List SaslBody) × (given ≡ before ++ outcome_body code payload ∷ []) × (code ≢ sasl.Ok)
 client_causes x (ScramError kind) given sent = IsScramCause x kind given sent
 client_causes x (Io kind) given sent = ⊥
@@ -233,10 +248,11 @@ pub client_refusal : (x : ClientEnd) (code : SaslCode) (given sent : List SaslBo
 client_refusal x code given sent h held = absurd (never_refuses x.stage (subst Refuses (sym h) tt))
 
 pub client_same_self : (x : ClientEnd) → ClientSame x x
-client_same_self x = record { user = refl; password = refl; nonce = refl; hostname = refl }
+client_same_self x = record { hash = refl; user = refl; password = refl; nonce = refl; hostname = refl }
 
 pub client_same_then : (x y z : ClientEnd) → ClientSame x y → ClientSame y z → ClientSame x z
 client_same_then x y z a b = record {
+  hash = a.hash ∙ b.hash;
   user = a.user ∙ b.user;
   password = a.password ∙ b.password;
   nonce = a.nonce ∙ b.nonce;
@@ -248,6 +264,7 @@ client_same_then x y z a b = record {
 -- an end that has read and written nothing
 abbrev pub client_begun : SaslProfile → Option (List ℕ) → ClientEnd
 client_begun profile hostname = record {
+  hash = hash_of profile;
   client = record { user = username_of profile; password = password_of profile; nonce = nonce_of profile; phase = Unanswered };
   stage = AwaitsMechanisms;
   hostname = hostname;
@@ -278,25 +295,25 @@ IsStartRefusal Allowed IllegalState = ⊥
 IsStartRefusal Allowed FramingError = ⊥
 
 -- what was read and written says that the listener knows the password: the exchange is whole, and its check holds
-pub record ClientPassed (user password nonce : List ℕ) (hostname : Option (List ℕ)) (wrote read : List ℕ) : Type 0 where
+pub record ClientPassed (hash : ScramHash) (user password nonce : List ℕ) (hostname : Option (List ℕ)) (wrote read : List ℕ) : Type 0 where
   pub names : List (List ℕ)
   pub server_first : List ℕ
   pub client_final : List ℕ
   pub server_final : List ℕ
   pub more : List ℕ
   pub rest : List ℕ
-  pub wrote_is : wrote ≡ said (init_body own_mechanism (Some (client_first_of user nonce)) hostname ∷ response_body client_final ∷ []) ++ more
+  pub wrote_is : wrote ≡ said (init_body (mechanism_of hash) (Some (client_first_of user nonce)) hostname ∷ response_body client_final ∷ []) ++ more
   pub read_is : Heard read (mechanisms_body names ∷ challenge_body server_first ∷ outcome_body sasl.Ok (Some server_final) ∷ []) rest
-  pub listed : Contains names own_mechanism
-  pub check : ClientCheck sha256 64 32 user password nonce (client_first_of user nonce) server_first client_final server_final
+  pub listed : Contains names (mechanism_of hash)
+  pub check : ClientCheck (digest_of hash) (block_of hash) (output_of hash) user password nonce (client_first_of user nonce) server_first client_final server_final
 
 -- nothing but SASL was written, or the exchange is whole
-abbrev pub ClientGated : List ℕ → List ℕ → List ℕ → Option (List ℕ) → List ℕ → List ℕ → Type 0
-ClientGated user password nonce hostname wrote read = IsOnlySasl wrote ⊎ ClientPassed user password nonce hostname wrote read
+abbrev pub ClientGated : ScramHash → List ℕ → List ℕ → List ℕ → Option (List ℕ) → List ℕ → List ℕ → Type 0
+ClientGated hash user password nonce hostname wrote read = IsOnlySasl wrote ⊎ ClientPassed hash user password nonce hostname wrote read
 
 -- that of an end
 abbrev pub HasClientPassed : ClientEnd → List LinkEvent → Type 0
-HasClientPassed x events = ClientPassed x.client.user x.client.password x.client.nonce x.hostname (wrote_of events) (read_of events)
+HasClientPassed x events = ClientPassed x.hash x.client.user x.client.password x.client.nonce x.hostname (wrote_of events) (read_of events)
 
 -- a poll of a gate, and what it says of the whole history: only SASL was written, and where it passed, the check holds
 pub record ClientPolled {L : Type 0} (link : Ghosts L) (old : Negotiating L ClientEnd) (left : ℕ) (result : Result GatePoll NegotiationError) (new : Negotiating L ClientEnd) (left' : ℕ) : Type 0 where

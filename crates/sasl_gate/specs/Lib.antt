@@ -2,6 +2,8 @@ pub mod Check
 pub mod ClientGate
 pub mod Exchange
 pub mod Frames
+pub mod Hashes
+pub mod AnyScram
 pub mod Negotiation
 pub mod Keys
 pub mod Parts

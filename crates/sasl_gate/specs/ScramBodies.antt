@@ -1,5 +1,5 @@
--- The SASL bodies of an exchange with SCRAM-SHA-256 (OASIS AMQP 1.0, part 5, section 5.3.3; RFC 7677).
-use Rattle.std.specs.Prelude.{◌≡◌, ◌<◌, ℕ, List, [], ◌∷◌, ◌++◌, All, Option, Result, OnErr, codes}
+-- The SASL bodies of an exchange with SCRAM (OASIS AMQP 1.0, part 5, section 5.3.3; RFC 5802, section 5).
+use Rattle.std.specs.Prelude.{◌≡◌, ◌<◌, ℕ, List, [], ◌∷◌, ◌++◌, All, Option, Result, OnErr}
 use Rattle.std.specs.declared.alloc.AllocError.{AllocError}
 use Rattle.amqp_composites.specs.declared.sasl_body.SaslBody.{SaslBody}
 use Rattle.amqp_composites.specs.declared.sasl_body.SaslBody.TheVariants.{Mechanisms, Init, Challenge, Response, Outcome}
@@ -8,10 +8,6 @@ use Rattle.sasl_gate.specs.declared.gate.exchange.Exchange.{Ghosts as Mechanism}
 use Rattle.sasl_gate.specs.declared.gate.exchange.Verdict.{Verdict}
 use Rattle.sasl_gate.specs.Exchange.{OnTaken, OnRefused}
 use Rattle.sasl_gate.specs.Frames.{HasSaslFrame, said}
-
--- the mechanism's name
-abbrev pub own_mechanism : List ℕ
-own_mechanism = codes "SCRAM-SHA-256"
 
 abbrev pub mechanisms_body : List (List ℕ) → SaslBody
 mechanisms_body names = Mechanisms (record { sasl_server_mechanisms = names })

@@ -1,4 +1,4 @@
--- The listener's end of a SASL negotiation with SCRAM-SHA-256.
+-- The listener's end of a SASL negotiation with SCRAM.
 use Rattle.std.specs.Prelude.{◌≡◌, ◌≢◌, ◌≤◌, ◌++◌, ◌⊎◌, ℕ, Bool, true, false, List, [], ◌∷◌, length, Option, Some, None, Result, Ok, Err}
 use Rattle.std.specs.declared.alloc.AllocError.{AllocError}
 use Rattle.std.proofs.Common.{refl, sym, subst, ◌∙◌}
@@ -9,7 +9,6 @@ use Rattle.amqp_composites.specs.declared.sasl_code.SaslCode.TheVariants as sasl
 use Rattle.amqp_wire.specs.declared.link.Link.{Ghosts}
 use Rattle.amqp_wire.specs.Codec.{Codec}
 use Rattle.amqp_wire.specs.Events.{LinkEvent, read_of, wrote_of}
-use Rattle.sha2.specs.Sha256.{sha256}
 use Rattle.sasl_gate.specs.declared.gate.error.NegotiationError.{NegotiationError}
 use Rattle.sasl_gate.specs.declared.gate.error.NegotiationError.TheVariants.{Memory, ProtocolHeaderMismatch, NotImplemented, SaslError, ScramError, Io, DecodeError, IllegalState, FramingError}
 use Rattle.sasl_gate.specs.declared.gate.exchange.Exchange.{Ghosts as Mechanism}
@@ -23,6 +22,7 @@ use Rattle.sasl_gate.specs.declared.gate.negotiation.Phase.TheVariants.{Header}
 use Rattle.sasl_gate.specs.declared.gate.server.ServerStage.{ServerStage}
 use Rattle.sasl_gate.specs.declared.gate.server.ServerStage.TheVariants.{OwesMechanisms, AwaitsInit, OwesChallenge, AwaitsResponse, OwesOutcome, Passed, OwesRefusal, Refused}
 use Rattle.sasl_gate.specs.declared.scram.error.ScramErrorKind.{ScramErrorKind}
+use Rattle.sasl_gate.specs.declared.scram.hash.ScramHash.{ScramHash}
 use Rattle.sasl_gate.specs.declared.scram.server.Challenge.{Challenge as ServerChallenge}
 use Rattle.sasl_gate.specs.declared.scram.server.ServerPhase.{ServerPhase}
 use Rattle.sasl_gate.specs.declared.scram.server.ServerPhase.TheVariants.{Unasked}
@@ -30,13 +30,15 @@ use Rattle.sasl_gate.specs.declared.scram.stored.StoredPassword.{StoredPassword}
 use Rattle.sasl_gate.specs.Check.{ServerAnswers, ServerCheck}
 use Rattle.sasl_gate.specs.Exchange.{refused_with}
 use Rattle.sasl_gate.specs.Frames.{Heard, said, sasl_header}
+use Rattle.sasl_gate.specs.Hashes.{digest_of, block_of, output_of, mechanism_of}
 use Rattle.sasl_gate.specs.Negotiation.{Negotiating, Has, Polled}
 use Rattle.sasl_gate.specs.Refusals.{IsMemory, IsClientFirstRefusal, IsClientFinalRefusal}
-use Rattle.sasl_gate.specs.ScramBodies.{own_mechanism, mechanisms_body, init_body, challenge_body, response_body, outcome_body, IsOnlySasl}
+use Rattle.sasl_gate.specs.ScramBodies.{mechanisms_body, init_body, challenge_body, response_body, outcome_body, IsOnlySasl}
 use Rattle.sasl_gate.specs.States.{ServerState, ForChallenged}
 
--- a listener's end of an exchange: its SCRAM server, and how far it is
+-- a listener's end of an exchange: its hash function and SCRAM server, and how far it is
 pub record ServerEnd (P : Type 0) : Type 0 where
+  pub hash : ScramHash
   pub server : ServerState P
   pub stage : ServerStage
 
@@ -77,42 +79,42 @@ left_in (Refused code) = 0
 abbrev pub server_left : {P : Type 0} → ServerEnd P → ℕ
 server_left x = left_in x.stage
 
--- the list of mechanisms of a listener
-abbrev pub own_mechanisms : SaslBody
-own_mechanisms = mechanisms_body (own_mechanism ∷ [])
+-- the list of mechanisms of a listener with a hash function
+abbrev pub own_mechanisms : ScramHash → SaslBody
+own_mechanisms hash = mechanisms_body (mechanism_of hash ∷ [])
 
-abbrev pub owes_in : ServerStage → SaslBody → Type 0
-owes_in OwesMechanisms body = body ≡ own_mechanisms
-owes_in AwaitsInit body = ⊥
-owes_in (OwesChallenge text) body = body ≡ challenge_body text
-owes_in AwaitsResponse body = ⊥
-owes_in (OwesOutcome text) body = body ≡ outcome_body sasl.Ok (Some text)
-owes_in Passed body = ⊥
-owes_in (OwesRefusal code) body = body ≡ outcome_body code None
-owes_in (Refused code) body = ⊥
+abbrev pub owes_in : ScramHash → ServerStage → SaslBody → Type 0
+owes_in hash OwesMechanisms body = body ≡ own_mechanisms hash
+owes_in hash AwaitsInit body = ⊥
+owes_in hash (OwesChallenge text) body = body ≡ challenge_body text
+owes_in hash AwaitsResponse body = ⊥
+owes_in hash (OwesOutcome text) body = body ≡ outcome_body sasl.Ok (Some text)
+owes_in hash Passed body = ⊥
+owes_in hash (OwesRefusal code) body = body ≡ outcome_body code None
+owes_in hash (Refused code) body = ⊥
 
 -- the body that an end owes
 abbrev pub server_owes : {P : Type 0} → ServerEnd P → SaslBody → Type 0
-server_owes x body = owes_in x.stage body
+server_owes x body = owes_in x.hash x.stage body
 
 -- an end that read an init which it can answer, has this answer, and sent this
-pub record HasChallenge (stored : List ℕ → Option StoredPassword) (own : List ℕ) (c : ServerChallenge) (given sent now : List SaslBody) : Type 0 where
+pub record HasChallenge (hash : ScramHash) (stored : List ℕ → Option StoredPassword) (own : List ℕ) (c : ServerChallenge) (given sent now : List SaslBody) : Type 0 where
   pub hostname : Option (List ℕ)
   pub keys : StoredPassword
-  pub given_is : given ≡ init_body own_mechanism (Some c.client_first) hostname ∷ []
+  pub given_is : given ≡ init_body (mechanism_of hash) (Some c.client_first) hostname ∷ []
   pub answers : ServerAnswers stored own c.client_first c.user c.nonce c.server_first keys
   pub sent_is : sent ≡ now
 
 -- an end whose check holds, with this server final
-pub record HasProof (stored : List ℕ → Option StoredPassword) (own server_final : List ℕ) (given sent : List SaslBody) (last : List SaslBody) : Type 0 where
+pub record HasProof (hash : ScramHash) (stored : List ℕ → Option StoredPassword) (own server_final : List ℕ) (given sent : List SaslBody) (last : List SaslBody) : Type 0 where
   pub hostname : Option (List ℕ)
   pub user : List ℕ
   pub client_first : List ℕ
   pub server_first : List ℕ
   pub client_final : List ℕ
-  pub given_is : given ≡ init_body own_mechanism (Some client_first) hostname ∷ response_body client_final ∷ []
-  pub sent_is : sent ≡ own_mechanisms ∷ challenge_body server_first ∷ last
-  pub check : ServerCheck sha256 64 32 stored own user client_first server_first client_final server_final
+  pub given_is : given ≡ init_body (mechanism_of hash) (Some client_first) hostname ∷ response_body client_final ∷ []
+  pub sent_is : sent ≡ own_mechanisms hash ∷ challenge_body server_first ∷ last
+  pub check : ServerCheck (digest_of hash) (block_of hash) (output_of hash) stored own user client_first server_first client_final server_final
 
 -- whether a body is one of those that a client sends
 abbrev pub is_of_client : SaslBody → Bool
@@ -129,67 +131,67 @@ is_next (a ∷ []) (Response r) = true
 is_next before body = false
 
 -- why a listener refuses with a code, by what it was given
-pub data IsRefusalCause (stored : List ℕ → Option StoredPassword) (own : List ℕ) (code : SaslCode) (given : List SaslBody) : Type 0 where
+pub data IsRefusalCause (hash : ScramHash) (stored : List ℕ → Option StoredPassword) (own : List ℕ) (code : SaslCode) (given : List SaslBody) : Type 0 where
   by_client_first : (text : List ℕ) (hostname : Option (List ℕ)) (kind : ScramErrorKind)
-      → given ≡ init_body own_mechanism (Some text) hostname ∷ [] → ¬ IsMemory kind → IsClientFirstRefusal stored text kind
-      → code ≡ sasl.Auth → IsRefusalCause stored own code given
+      → given ≡ init_body (mechanism_of hash) (Some text) hostname ∷ [] → ¬ IsMemory kind → IsClientFirstRefusal stored text kind
+      → code ≡ sasl.Auth → IsRefusalCause hash stored own code given
   by_client_final : (client_first user whole_nonce server_first text : List ℕ) (hostname : Option (List ℕ)) (keys : StoredPassword)
       (answers : ServerAnswers stored own client_first user whole_nonce server_first keys) (kind : ScramErrorKind)
-      → given ≡ init_body own_mechanism (Some client_first) hostname ∷ response_body text ∷ [] → ¬ IsMemory kind
-      → IsClientFinalRefusal sha256 64 32 keys.stored_key answers.header answers.bare server_first whole_nonce text kind
-      → code ≡ sasl.Auth → IsRefusalCause stored own code given
+      → given ≡ init_body (mechanism_of hash) (Some client_first) hostname ∷ response_body text ∷ [] → ¬ IsMemory kind
+      → IsClientFinalRefusal (digest_of hash) (block_of hash) (output_of hash) keys.stored_key answers.header answers.bare server_first whole_nonce text kind
+      → code ≡ sasl.Auth → IsRefusalCause hash stored own code given
   by_mechanism : (name : List ℕ) (response hostname : Option (List ℕ))
-      → given ≡ init_body name response hostname ∷ [] → name ≢ own_mechanism → code ≡ sasl.Auth → IsRefusalCause stored own code given
+      → given ≡ init_body name response hostname ∷ [] → name ≢ mechanism_of hash → code ≡ sasl.Auth → IsRefusalCause hash stored own code given
   by_no_response : (name : List ℕ) (hostname : Option (List ℕ))
-      → given ≡ init_body name None hostname ∷ [] → code ≡ sasl.Auth → IsRefusalCause stored own code given
+      → given ≡ init_body name None hostname ∷ [] → code ≡ sasl.Auth → IsRefusalCause hash stored own code given
   by_order : (before : List SaslBody) (body : SaslBody) → given ≡ before ++ body ∷ [] → is_of_client body ≡ true → is_next before body ≡ false
-      → code ≡ sasl.Auth → IsRefusalCause stored own code given
+      → code ≡ sasl.Auth → IsRefusalCause hash stored own code given
   by_other_body : (before : List SaslBody) (body : SaslBody) → given ≡ before ++ body ∷ [] → is_of_client body ≡ false
-      → code ≡ sasl.Sys → IsRefusalCause stored own code given
+      → code ≡ sasl.Sys → IsRefusalCause hash stored own code given
 
 -- a listener waited for the last of these bodies, after it had sent those: for the init after its list of mechanisms, or for the
 -- response after its challenge (OASIS AMQP 1.0, part 5, section 5.3.2)
-pub data Waited (stored : List ℕ → Option StoredPassword) (own : List ℕ) (given sent : List SaslBody) : Type 0 where
-  for_init : (body : SaslBody) → given ≡ body ∷ [] → sent ≡ own_mechanisms ∷ [] → Waited stored own given sent
+pub data Waited (hash : ScramHash) (stored : List ℕ → Option StoredPassword) (own : List ℕ) (given sent : List SaslBody) : Type 0 where
+  for_init : (body : SaslBody) → given ≡ body ∷ [] → sent ≡ own_mechanisms hash ∷ [] → Waited hash stored own given sent
   for_response : (c : ServerChallenge) (before : List SaslBody) (body : SaslBody) → given ≡ before ++ body ∷ []
-      → HasChallenge stored own c before sent (own_mechanisms ∷ challenge_body c.server_first ∷ []) → Waited stored own given sent
+      → HasChallenge hash stored own c before sent (own_mechanisms hash ∷ challenge_body c.server_first ∷ []) → Waited hash stored own given sent
 
 -- an end that owes the other an outcome with a code, for a body for which it waited, and sent two bodies at most
-pub record HasToRefuse (stored : List ℕ → Option StoredPassword) (own : List ℕ) (code : SaslCode) (given sent : List SaslBody) : Type 0 where
+pub record HasToRefuse (hash : ScramHash) (stored : List ℕ → Option StoredPassword) (own : List ℕ) (code : SaslCode) (given sent : List SaslBody) : Type 0 where
   pub few : length sent ≤ 2
-  pub waited : Waited stored own given sent
-  pub cause : IsRefusalCause stored own code given
+  pub waited : Waited hash stored own given sent
+  pub cause : IsRefusalCause hash stored own code given
 
 -- an end that told the other this outcome, for a body for which it waited, after two bodies at most
-pub record HasRefused (stored : List ℕ → Option StoredPassword) (own : List ℕ) (code : SaslCode) (given sent : List SaslBody) : Type 0 where
+pub record HasRefused (hash : ScramHash) (stored : List ℕ → Option StoredPassword) (own : List ℕ) (code : SaslCode) (given sent : List SaslBody) : Type 0 where
   pub before : List SaslBody
   pub few : length before ≤ 2
-  pub waited : Waited stored own given before
+  pub waited : Waited hash stored own given before
   pub told : sent ≡ before ++ outcome_body code None ∷ []
-  pub cause : IsRefusalCause stored own code given
+  pub cause : IsRefusalCause hash stored own code given
 
-abbrev pub holds_in : {P : Type 0} → (P → List ℕ → Option StoredPassword) → ServerStage → ServerState P → List SaslBody → List SaslBody → Type 0
-holds_in stored OwesMechanisms s given sent = (given ≡ []) × (sent ≡ [])
-holds_in stored AwaitsInit s given sent = (given ≡ []) × (sent ≡ own_mechanisms ∷ [])
-holds_in stored (OwesChallenge text) s given sent =
-    ForChallenged s.phase (λ c. (c.server_first ≡ text) × HasChallenge (stored s.provider) s.nonce c given sent (own_mechanisms ∷ []))
-holds_in stored AwaitsResponse s given sent =
-    ForChallenged s.phase (λ c. HasChallenge (stored s.provider) s.nonce c given sent (own_mechanisms ∷ challenge_body c.server_first ∷ []))
-holds_in stored (OwesOutcome text) s given sent = HasProof (stored s.provider) s.nonce text given sent []
-holds_in stored Passed s given sent = (text : List ℕ) × HasProof (stored s.provider) s.nonce text given sent (outcome_body sasl.Ok (Some text) ∷ [])
-holds_in stored (OwesRefusal code) s given sent = HasToRefuse (stored s.provider) s.nonce code given sent
-holds_in stored (Refused code) s given sent = HasRefused (stored s.provider) s.nonce code given sent
+abbrev pub holds_in : {P : Type 0} → ScramHash → (P → List ℕ → Option StoredPassword) → ServerStage → ServerState P → List SaslBody → List SaslBody → Type 0
+holds_in hash stored OwesMechanisms s given sent = (given ≡ []) × (sent ≡ [])
+holds_in hash stored AwaitsInit s given sent = (given ≡ []) × (sent ≡ own_mechanisms hash ∷ [])
+holds_in hash stored (OwesChallenge text) s given sent =
+    ForChallenged s.phase (λ c. (c.server_first ≡ text) × HasChallenge hash (stored s.provider) s.nonce c given sent (own_mechanisms hash ∷ []))
+holds_in hash stored AwaitsResponse s given sent =
+    ForChallenged s.phase (λ c. HasChallenge hash (stored s.provider) s.nonce c given sent (own_mechanisms hash ∷ challenge_body c.server_first ∷ []))
+holds_in hash stored (OwesOutcome text) s given sent = HasProof hash (stored s.provider) s.nonce text given sent []
+holds_in hash stored Passed s given sent = (text : List ℕ) × HasProof hash (stored s.provider) s.nonce text given sent (outcome_body sasl.Ok (Some text) ∷ [])
+holds_in hash stored (OwesRefusal code) s given sent = HasToRefuse hash (stored s.provider) s.nonce code given sent
+holds_in hash stored (Refused code) s given sent = HasRefused hash (stored s.provider) s.nonce code given sent
 
 -- the bodies that an end was given and those that it sent
 abbrev pub server_holds : {P : Type 0} → (P → List ℕ → Option StoredPassword) → ServerEnd P → List SaslBody → List SaslBody → Type 0
-server_holds stored x given sent = holds_in stored x.stage x.server given sent
+server_holds stored x given sent = holds_in x.hash stored x.stage x.server given sent
 
 -- why a listener fails, by what it was given and what it sent
 abbrev pub server_causes : {P : Type 0} → (P → List ℕ → Option StoredPassword) → ServerEnd P → NegotiationError → List SaslBody → List SaslBody → Type 0
 server_causes stored x (Memory a) given sent = ⊥
 server_causes stored x (ProtocolHeaderMismatch h) given sent = ⊥
 server_causes stored x NotImplemented given sent = ⊥
-server_causes stored x (SaslError code None) given sent = HasRefused (stored x.server.provider) x.server.nonce code given sent
+server_causes stored x (SaslError code None) given sent = HasRefused x.hash (stored x.server.provider) x.server.nonce code given sent
 server_causes stored x (SaslError code (Some payload)) given sent = ⊥
 server_causes stored x (ScramError kind) given sent = ⊥
 server_causes stored x (Io kind) given sent = ⊥
@@ -197,8 +199,9 @@ server_causes stored x DecodeError given sent = ⊥
 server_causes stored x IllegalState given sent = ⊥
 server_causes stored x FramingError given sent = ⊥
 
--- two ends have the same users and the same nonce
+-- two ends have the same hash function, the same users and the same nonce
 pub record ServerSame {P : Type 0} (x y : ServerEnd P) : Type 0 where
+  pub hash : x.hash ≡ y.hash
   pub provider : x.server.provider ≡ y.server.provider
   pub nonce : x.server.nonce ≡ y.server.nonce
 
@@ -228,45 +231,45 @@ RefusesWith code Receive = ⊥
 RefusesWith code (Refuse other) = other ≡ code
 RefusesWith code Pass = ⊥
 
-refusal_in : {P : Type 0} (stored : P → List ℕ → Option StoredPassword) (stage : ServerStage) (s : ServerState P) (code : SaslCode) (given sent : List SaslBody)
-    → RefusesWith code (turn_in stage) → holds_in stored stage s given sent → HasRefused (stored s.provider) s.nonce code given sent
-refusal_in stored OwesMechanisms s code given sent h held = absurd h
-refusal_in stored AwaitsInit s code given sent h held = absurd h
-refusal_in stored (OwesChallenge text) s code given sent h held = absurd h
-refusal_in stored AwaitsResponse s code given sent h held = absurd h
-refusal_in stored (OwesOutcome text) s code given sent h held = absurd h
-refusal_in stored Passed s code given sent h held = absurd h
-refusal_in stored (OwesRefusal other) s code given sent h held = absurd h
-refusal_in stored (Refused other) s code given sent h held = subst (λ (c : SaslCode). HasRefused (stored s.provider) s.nonce c given sent) h held
+refusal_in : {P : Type 0} (hash : ScramHash) (stored : P → List ℕ → Option StoredPassword) (stage : ServerStage) (s : ServerState P) (code : SaslCode) (given sent : List SaslBody)
+    → RefusesWith code (turn_in stage) → holds_in hash stored stage s given sent → HasRefused hash (stored s.provider) s.nonce code given sent
+refusal_in hash stored OwesMechanisms s code given sent h held = absurd h
+refusal_in hash stored AwaitsInit s code given sent h held = absurd h
+refusal_in hash stored (OwesChallenge text) s code given sent h held = absurd h
+refusal_in hash stored AwaitsResponse s code given sent h held = absurd h
+refusal_in hash stored (OwesOutcome text) s code given sent h held = absurd h
+refusal_in hash stored Passed s code given sent h held = absurd h
+refusal_in hash stored (OwesRefusal other) s code given sent h held = absurd h
+refusal_in hash stored (Refused other) s code given sent h held = subst (λ (c : SaslCode). HasRefused hash (stored s.provider) s.nonce c given sent) h held
 
 pub server_refusal : {P : Type 0} (stored : P → List ℕ → Option StoredPassword) (x : ServerEnd P) (code : SaslCode) (given sent : List SaslBody)
     → server_turn x ≡ Refuse code → server_holds stored x given sent → server_causes stored x (refused_with code) given sent
 server_refusal stored x code given sent h held =
-    refusal_in stored x.stage x.server code given sent (subst (RefusesWith code) (sym h) refl) held
+    refusal_in x.hash stored x.stage x.server code given sent (subst (RefusesWith code) (sym h) refl) held
 
 pub server_same_self : {P : Type 0} (x : ServerEnd P) → ServerSame x x
-server_same_self x = record { provider = refl; nonce = refl }
+server_same_self x = record { hash = refl; provider = refl; nonce = refl }
 
 pub server_same_then : {P : Type 0} (x y z : ServerEnd P) → ServerSame x y → ServerSame y z → ServerSame x z
-server_same_then x y z a b = record { provider = a.provider ∙ b.provider; nonce = a.nonce ∙ b.nonce }
+server_same_then x y z a b = record { hash = a.hash ∙ b.hash; provider = a.provider ∙ b.provider; nonce = a.nonce ∙ b.nonce }
 
 -- ---- the gate
 
 -- an end that has read and written nothing
-abbrev pub server_begun : {P : Type 0} → P → List ℕ → ServerEnd P
-server_begun provider nonce = record { server = record { provider = provider; nonce = nonce; phase = Unasked }; stage = OwesMechanisms }
+abbrev pub server_begun : {P : Type 0} → ScramHash → P → List ℕ → ServerEnd P
+server_begun hash provider nonce = record { hash = hash; server = record { provider = provider; nonce = nonce; phase = Unasked }; stage = OwesMechanisms }
 
 -- a gate that begins, over a codec: its header is queued
-abbrev pub server_start : {L P : Type 0} → Codec L → P → List ℕ → Negotiating L (ServerEnd P)
-server_start codec provider nonce = record {
+abbrev pub server_start : {L P : Type 0} → Codec L → ScramHash → P → List ℕ → Negotiating L (ServerEnd P)
+server_start codec hash provider nonce = record {
   codec = record codec { output = codec.output ++ sasl_header };
   phase = Header;
-  exchange = server_begun provider nonce;
+  exchange = server_begun hash provider nonce;
 }
 
 -- what was read and written says that the client knows the password of a user: the exchange is whole, and its check
 -- holds. `stored` is what the provider has
-pub record ServerPassed (stored : List ℕ → Option StoredPassword) (nonce wrote read : List ℕ) : Type 0 where
+pub record ServerPassed (hash : ScramHash) (stored : List ℕ → Option StoredPassword) (nonce wrote read : List ℕ) : Type 0 where
   pub user : List ℕ
   pub hostname : Option (List ℕ)
   pub client_first : List ℕ
@@ -275,17 +278,17 @@ pub record ServerPassed (stored : List ℕ → Option StoredPassword) (nonce wro
   pub server_final : List ℕ
   pub more : List ℕ
   pub rest : List ℕ
-  pub wrote_is : wrote ≡ said (own_mechanisms ∷ challenge_body server_first ∷ outcome_body sasl.Ok (Some server_final) ∷ []) ++ more
-  pub read_is : Heard read (init_body own_mechanism (Some client_first) hostname ∷ response_body client_final ∷ []) rest
-  pub check : ServerCheck sha256 64 32 stored nonce user client_first server_first client_final server_final
+  pub wrote_is : wrote ≡ said (own_mechanisms hash ∷ challenge_body server_first ∷ outcome_body sasl.Ok (Some server_final) ∷ []) ++ more
+  pub read_is : Heard read (init_body (mechanism_of hash) (Some client_first) hostname ∷ response_body client_final ∷ []) rest
+  pub check : ServerCheck (digest_of hash) (block_of hash) (output_of hash) stored nonce user client_first server_first client_final server_final
 
 -- nothing but SASL was written, or the exchange is whole
-abbrev pub ServerGated : (List ℕ → Option StoredPassword) → List ℕ → List ℕ → List ℕ → Type 0
-ServerGated stored nonce wrote read = IsOnlySasl wrote ⊎ ServerPassed stored nonce wrote read
+abbrev pub ServerGated : ScramHash → (List ℕ → Option StoredPassword) → List ℕ → List ℕ → List ℕ → Type 0
+ServerGated hash stored nonce wrote read = IsOnlySasl wrote ⊎ ServerPassed hash stored nonce wrote read
 
 -- that of an end
 abbrev pub HasServerPassed : {P : Type 0} → (P → List ℕ → Option StoredPassword) → ServerEnd P → List LinkEvent → Type 0
-HasServerPassed stored x events = ServerPassed (stored x.server.provider) x.server.nonce (wrote_of events) (read_of events)
+HasServerPassed stored x events = ServerPassed x.hash (stored x.server.provider) x.server.nonce (wrote_of events) (read_of events)
 
 -- a poll of a gate, and what it says of the whole history: only SASL was written, and where it passed, the check holds
 pub record ServerPolled {L P : Type 0} (link : Ghosts L) (stored : P → List ℕ → Option StoredPassword) (old : Negotiating L (ServerEnd P)) (left : ℕ) (result : Result GatePoll NegotiationError) (new : Negotiating L (ServerEnd P)) (left' : ℕ) : Type 0 where

@@ -3,6 +3,7 @@ use Rattle.std.specs.Prelude.{ℕ, List, Option}
 use Rattle.sasl_gate.specs.declared.scram.client.ClientAnswer.{ClientAnswer}
 use Rattle.sasl_gate.specs.declared.scram.client.ClientPhase.{ClientPhase}
 use Rattle.sasl_gate.specs.declared.scram.client.ClientPhase.TheVariants.{Unanswered, Answered, Verified}
+use Rattle.sasl_gate.specs.declared.scram.hash.ScramHash.{ScramHash}
 use Rattle.sasl_gate.specs.declared.scram.server.Challenge.{Challenge}
 use Rattle.sasl_gate.specs.declared.scram.server.ServerPhase.{ServerPhase}
 use Rattle.sasl_gate.specs.declared.scram.server.ServerPhase.TheVariants.{Unasked, Challenged, Proved}
@@ -16,6 +17,11 @@ pub record ClientState : Type 0 where
   pub password : List ℕ
   pub nonce : List ℕ
   pub phase : ClientPhase
+
+-- a client with a hash function
+pub record HashedClient : Type 0 where
+  pub hash : ScramHash
+  pub client : ClientState
 
 -- a client that waits for the server final, and a fact on what it answered
 abbrev pub ForAnswered : ClientPhase → (ClientAnswer → Type 0) → Type 0
@@ -52,6 +58,11 @@ pub record ServerState (P : Type 0) : Type 0 where
   pub provider : P
   pub nonce : List ℕ
   pub phase : ServerPhase
+
+-- a listener with a hash function
+pub record HashedServer (P : Type 0) : Type 0 where
+  pub hash : ScramHash
+  pub server : ServerState P
 
 -- a listener that waits for the client final, and a fact on its challenge
 abbrev pub ForChallenged : ServerPhase → (Challenge → Type 0) → Type 0

@@ -1,5 +1,5 @@
 -- One step of a negotiation.
-use Rattle.std.specs.Prelude.{◌≡◌, ◌+◌, ◌≤◌, ℕ, List, length, Option, Some, None, Result, Ok, Err, ⊤, ◌⊎◌}
+use Rattle.std.specs.Prelude.{◌≡◌, ◌+◌, ℕ, List, Option, Some, None, Result, Ok, Err, ⊤, ◌⊎◌}
 use Rattle.amqp_composites.specs.declared.sasl_body.SaslBody.{SaslBody}
 use Rattle.amqp_frames.specs.Sasl.{SpellsSasl}
 use Rattle.sasl_gate.specs.Frames.{HasSaslFrame, canonical_of}

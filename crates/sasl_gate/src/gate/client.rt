@@ -1,18 +1,21 @@
-//! The client's end of a SASL negotiation with SCRAM-SHA-256 (OASIS AMQP 1.0, part 5, section 5.3; RFC 7677).
+//! The client's end of a SASL negotiation with SCRAM (OASIS AMQP 1.0, part 5, section 5.3; RFC 5802; RFC 7677).
 ghost use Rattle.std.specs.Prelude.{◌≡◌, ◌^◌, ◌↔◌, ℕ, Option, Some, Ok, Contains, IsTrue, IfOk, IfErr, OnOk};
 ghost use Rattle.std.specs.Borrow.{Lends, sem};
 ghost use Rattle.amqp_composites.specs.declared.sasl_body.SaslBody.TheVariants.{Mechanisms, Challenge, Outcome};
 ghost use Rattle.sasl_gate.specs.declared.gate.exchange.Turn.TheVariants.{Receive};
-ghost use Rattle.sasl_gate.specs.ClientGate.{username_of, password_of, nonce_of, ClientEnd, client_turn, client_left, client_owes, client_holds, client_causes, client_init, ClientSame, client_mechanism, client_refusal, client_same_self, client_same_then, client_begun, client_start, IsAllowedProfile, IsStartRefusal, IsTextAnswer, ClientPolled};
+ghost use Rattle.sasl_gate.specs.ClientGate.{hash_of, username_of, password_of, nonce_of, ClientEnd, client_turn, client_left, client_owes, client_holds, client_causes, client_init, ClientSame, client_mechanism, client_refusal, client_same_self, client_same_then, client_begun, client_start, IsAllowedProfile, IsStartRefusal, IsTextAnswer, ClientPolled};
+ghost use Rattle.sasl_gate.specs.Hashes.{mechanism_of};
 ghost use Rattle.sasl_gate.specs.Negotiation.{IsPassed};
 ghost use Rattle.sasl_gate.specs.Profile.{IsNonce};
-ghost use Rattle.sasl_gate.specs.ScramBodies.{own_mechanism, outcome_body, Received};
+ghost use Rattle.sasl_gate.specs.ScramBodies.{outcome_body, Received};
 
 use crate::gate::error::NegotiationError;
 use crate::gate::exchange::{Exchange, Turn, Verdict};
 use crate::gate::negotiation::{GatePoll, Negotiation};
-use crate::scram::client::{ClientPhase, ScramClient};
+use crate::scram::any_client::AnyScramClient;
+use crate::scram::client::ClientPhase;
 use crate::scram::error::ScramErrorKind;
+use crate::scram::hash::ScramHash;
 use amqp_composites::sasl::{SaslChallenge, SaslInit, SaslMechanisms, SaslOutcome, SaslResponse};
 use amqp_composites::sasl_body::SaslBody;
 use amqp_composites::sasl_code::SaslCode;
@@ -20,12 +23,8 @@ use amqp_text::symbol::SymbolError;
 use amqp_text::{Binary, Symbol, Text};
 use amqp_wire::codec::FramedCodec;
 use amqp_wire::link::Link;
-use kdf_core::Sha256Fn;
 use std::alloc::{AllocError, Global};
 use std::marker::Model;
-
-/// The mechanism's name in the list of mechanisms and in the init (RFC 7677, section 4).
-pub const SCRAM_SHA_256: &str = "SCRAM-SHA-256";
 
 /// The most reads of a poll that give bytes.
 pub const READS_OF_POLL: u64 = 1 << 63;
@@ -33,8 +32,26 @@ pub const READS_OF_POLL: u64 = 1 << 63;
 /// What a client authenticates with.
 #[derive(Debug, Drop)]
 pub enum SaslProfile {
+    /// SCRAM-SHA-1 (RFC 5802).
+    ScramSha1 {
+        /// The user: 1 or more characters from 0x20 to 0x7e.
+        username: Text,
+        /// The password: characters from 0x20 to 0x7e.
+        password: Text,
+        /// The client's nonce: 1 or more characters from 0x21 to 0x7e other than the comma, new for each exchange.
+        nonce: Text,
+    },
     /// SCRAM-SHA-256 (RFC 7677).
     ScramSha256 {
+        /// The user: 1 or more characters from 0x20 to 0x7e.
+        username: Text,
+        /// The password: characters from 0x20 to 0x7e.
+        password: Text,
+        /// The client's nonce: 1 or more characters from 0x21 to 0x7e other than the comma, new for each exchange.
+        nonce: Text,
+    },
+    /// SCRAM-SHA-512: the form of RFC 7677 with SHA-512.
+    ScramSha512 {
         /// The user: 1 or more characters from 0x20 to 0x7e.
         username: Text,
         /// The password: characters from 0x20 to 0x7e.
@@ -50,20 +67,33 @@ impl SaslProfile {
         ensures { IfOk result (λ p. p ≡ self.now) }
     {
         match self {
+            SaslProfile::ScramSha1 {
+                username,
+                password,
+                nonce,
+            } => Ok(SaslProfile::ScramSha1 {
+                username: username.try_clone(alloc)?,
+                password: password.try_clone(alloc)?,
+                nonce: nonce.try_clone(alloc)?,
+            }),
             SaslProfile::ScramSha256 {
                 username,
                 password,
                 nonce,
-            } => {
-                let username = username.try_clone(alloc)?;
-                let password = password.try_clone(alloc)?;
-                let nonce = nonce.try_clone(alloc)?;
-                Ok(SaslProfile::ScramSha256 {
-                    username,
-                    password,
-                    nonce,
-                })
-            }
+            } => Ok(SaslProfile::ScramSha256 {
+                username: username.try_clone(alloc)?,
+                password: password.try_clone(alloc)?,
+                nonce: nonce.try_clone(alloc)?,
+            }),
+            SaslProfile::ScramSha512 {
+                username,
+                password,
+                nonce,
+            } => Ok(SaslProfile::ScramSha512 {
+                username: username.try_clone(alloc)?,
+                password: password.try_clone(alloc)?,
+                nonce: nonce.try_clone(alloc)?,
+            }),
         }
     }
 }
@@ -85,10 +115,10 @@ pub enum ClientStage {
     Passed,
 }
 
-/// The client's end of an exchange with SCRAM-SHA-256.
+/// The client's end of an exchange with SCRAM.
 #[derive(Drop)]
 pub struct ClientExchange {
-    client: ScramClient<Sha256Fn>,
+    client: AnyScramClient,
     stage: ClientStage,
     hostname: Option<Text>,
 }
@@ -98,16 +128,16 @@ impl Model for ClientExchange {
 
     ghost Value = { ClientEnd };
 
-    ghost view = { λ x. record { client = x.client; stage = x.stage; hostname = x.hostname } };
+    ghost view = { λ x. record { hash = x.client.hash; client = x.client.client; stage = x.stage; hostname = x.hostname } };
 
-    ghost invariant = { λ x. IsClientStage x.stage x.client.phase };
+    ghost invariant = { λ x. IsClientStage x.stage x.client.client.phase };
 }
 
 // The mechanism's name.
-pub(crate) fn own_name(alloc: Global) -> Result<Symbol, AllocError>
-    ensures { IfOk result (λ name. name ≡ own_mechanism) }
+pub(crate) fn own_name(alloc: Global, hash: ScramHash) -> Result<Symbol, AllocError>
+    ensures { IfOk result (λ name. name ≡ mechanism_of hash) }
 {
-    match Symbol::from_slice(alloc, SCRAM_SHA_256.as_bytes()) {
+    match Symbol::from_slice(alloc, hash.mechanism().as_bytes()) {
         Ok(name) => Ok(name),
         Err(SymbolError::Memory(error)) => Err(error),
         Err(SymbolError::NotAscii) => unreachable!(),
@@ -115,16 +145,16 @@ pub(crate) fn own_name(alloc: Global) -> Result<Symbol, AllocError>
 }
 
 // Whether this is the mechanism's name.
-pub(crate) fn is_own_name(name: &Symbol) -> bool
-    ensures { IsTrue result ↔ (name.now ≡ own_mechanism) }
+pub(crate) fn is_own_name(hash: ScramHash, name: &Symbol) -> bool
+    ensures { IsTrue result ↔ (name.now ≡ mechanism_of hash) }
 {
-    name.as_slice() == SCRAM_SHA_256.as_bytes()
+    name.as_slice() == hash.mechanism().as_bytes()
 }
 
-fn has_own_name(names: &[Symbol]) -> bool
-    ensures { IsTrue result ↔ Contains names.now own_mechanism }
+fn has_own_name(hash: ScramHash, names: &[Symbol]) -> bool
+    ensures { IsTrue result ↔ Contains names.now (mechanism_of hash) }
 {
-    names.iter().any(is_own_name)
+    names.iter().any(|name| is_own_name(hash, name))
 }
 
 fn clone_hostname(alloc: Global, hostname: &Option<Text>) -> Result<Option<Text>, AllocError>
@@ -146,18 +176,28 @@ fn is_ok(code: SaslCode) -> bool
 }
 
 // The SCRAM client of a profile.
-fn scram_client(profile: SaslProfile) -> Result<ScramClient<Sha256Fn>, ScramErrorKind>
+fn scram_client(profile: SaslProfile) -> Result<AnyScramClient, ScramErrorKind>
     requires { IsNonce (nonce_of profile) }
-    ensures ok { IfOk result (λ c. c ≡ record { user = username_of profile; password = password_of profile; nonce = nonce_of profile; phase = ClientPhase.Unanswered }) }
+    ensures ok { IfOk result (λ c. c ≡ record { hash = hash_of profile; client = record { user = username_of profile; password = password_of profile; nonce = nonce_of profile; phase = ClientPhase.Unanswered } }) }
     ensures allowed { OnOk result (IsAllowedProfile profile) }
     ensures err { IfErr result (λ e. (e ≡ ScramErrorKind.TextNotAllowed) × (¬ IsAllowedProfile profile)) }
 {
     match profile {
+        SaslProfile::ScramSha1 {
+            username,
+            password,
+            nonce,
+        } => AnyScramClient::new(ScramHash::Sha1, username, password, nonce),
         SaslProfile::ScramSha256 {
             username,
             password,
             nonce,
-        } => ScramClient::new(username, password, nonce),
+        } => AnyScramClient::new(ScramHash::Sha256, username, password, nonce),
+        SaslProfile::ScramSha512 {
+            username,
+            password,
+            nonce,
+        } => AnyScramClient::new(ScramHash::Sha512, username, password, nonce),
     }
 }
 
@@ -198,7 +238,7 @@ impl ClientExchange {
             Ok(text) => text,
             Err(_) => return Err(AllocError),
         };
-        let mechanism = own_name(alloc)?;
+        let mechanism = own_name(alloc, self.client.hash())?;
         let hostname = clone_hostname(alloc, &self.hostname)?;
         Ok(SaslBody::Init(SaslInit {
             mechanism,
@@ -215,7 +255,10 @@ impl ClientExchange {
             ClientStage::AwaitsMechanisms => {}
             _ => return Verdict::Refused(NegotiationError::IllegalState),
         }
-        if !has_own_name(mechanisms.sasl_server_mechanisms.as_slice()) {
+        if !has_own_name(
+            self.client.hash(),
+            mechanisms.sasl_server_mechanisms.as_slice(),
+        ) {
             return Verdict::Refused(NegotiationError::NotImplemented);
         }
         self.stage = ClientStage::OwesInit;

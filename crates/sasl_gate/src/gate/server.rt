@@ -1,27 +1,28 @@
-//! The listener's end of a SASL negotiation with SCRAM-SHA-256 (OASIS AMQP 1.0, part 5, section 5.3; RFC 7677).
+//! The listener's end of a SASL negotiation with SCRAM (OASIS AMQP 1.0, part 5, section 5.3; RFC 5802; RFC 7677).
 ghost use Rattle.std.specs.Prelude.{◌≡◌, ◌≢◌, ◌⊎◌, ◌^◌, ℕ, List, Option, Some, None, Ok, IfOk, IfErr, IfSome, IfNone};
 ghost use Rattle.std.specs.Borrow.{Lends, sem};
 ghost use Rattle.amqp_composites.specs.declared.sasl_body.SaslBody.TheVariants.{Init, Response};
 ghost use Rattle.sasl_gate.specs.declared.gate.exchange.Turn.TheVariants.{Receive};
 ghost use Rattle.sasl_gate.specs.ServerGate.{ServerEnd, server_turn, server_left, server_owes, server_holds, server_causes, ServerSame, server_mechanism, server_refusal, server_same_self, server_same_then, server_begun, server_start, own_mechanisms, IsTextAnswer, ServerPolled};
+ghost use Rattle.sasl_gate.specs.Hashes.{mechanism_of};
 ghost use Rattle.sasl_gate.specs.Negotiation.{IsPassed};
 ghost use Rattle.sasl_gate.specs.Profile.{IsNonce};
-ghost use Rattle.sasl_gate.specs.ScramBodies.{own_mechanism, init_body, Received};
+ghost use Rattle.sasl_gate.specs.ScramBodies.{init_body, Received};
 
 use crate::gate::client::{READS_OF_POLL, is_own_name, own_name};
 use crate::gate::error::NegotiationError;
 use crate::gate::exchange::{Exchange, Turn, Verdict};
 use crate::gate::negotiation::{GatePoll, Negotiation};
+use crate::scram::any_server::AnyScramServer;
 use crate::scram::error::ScramErrorKind;
+use crate::scram::hash::ScramHash;
 use crate::scram::provider::ScramCredentialProvider;
-use crate::scram::server::ScramServer;
 use amqp_composites::sasl::{SaslChallenge, SaslInit, SaslMechanisms, SaslOutcome, SaslResponse};
 use amqp_composites::sasl_body::SaslBody;
 use amqp_composites::sasl_code::SaslCode;
 use amqp_text::{Binary, SymbolList, Text};
 use amqp_wire::codec::FramedCodec;
 use amqp_wire::link::Link;
-use kdf_core::Sha256Fn;
 use std::alloc::{AllocError, Global};
 use std::marker::Model;
 
@@ -46,10 +47,10 @@ pub enum ServerStage {
     Refused(SaslCode),
 }
 
-/// The listener's end of an exchange with SCRAM-SHA-256, with the users of `P`.
+/// The listener's end of an exchange with SCRAM, with the users of `P`.
 #[derive(Drop)]
 pub struct ServerExchange<P: ScramCredentialProvider> {
-    server: ScramServer<Sha256Fn, P>,
+    server: AnyScramServer<P>,
     stage: ServerStage,
 }
 
@@ -58,16 +59,16 @@ impl<P: ScramCredentialProvider> Model for ServerExchange<P> {
 
     ghost Value = { ServerEnd P };
 
-    ghost view = { λ x. record { server = x.server; stage = x.stage } };
+    ghost view = { λ x. record { hash = x.server.hash; server = x.server.server; stage = x.stage } };
 
-    ghost invariant = { λ x. IsServerStage x.stage x.server.phase };
+    ghost invariant = { λ x. IsServerStage x.stage x.server.server.phase };
 }
 
 // The list of mechanisms.
-fn mechanisms(alloc: Global) -> Result<SaslBody, AllocError>
-    ensures { IfOk result (λ body. body ≡ own_mechanisms) }
+fn mechanisms(alloc: Global, hash: ScramHash) -> Result<SaslBody, AllocError>
+    ensures { IfOk result (λ body. body ≡ own_mechanisms hash) }
 {
-    let name = own_name(alloc)?;
+    let name = own_name(alloc, hash)?;
     let mut names = SymbolList::new(alloc);
     names.push(name)?;
     Ok(SaslBody::Mechanisms(SaslMechanisms {
@@ -76,16 +77,16 @@ fn mechanisms(alloc: Global) -> Result<SaslBody, AllocError>
 }
 
 // The client first of an init of the own mechanism, if it has one.
-fn own_client_first(init: SaslInit) -> Option<Binary>
-    ensures some { IfSome result (λ text. Init init ≡ init_body own_mechanism (Some text) init.hostname) }
-    ensures none { IfNone result ((init.mechanism ≢ own_mechanism) ⊎ (init.initial_response ≡ None)) }
+fn own_client_first(hash: ScramHash, init: SaslInit) -> Option<Binary>
+    ensures some { IfSome result (λ text. Init init ≡ init_body (mechanism_of hash) (Some text) init.hostname) }
+    ensures none { IfNone result ((init.mechanism ≢ mechanism_of hash) ⊎ (init.initial_response ≡ None)) }
 {
     let SaslInit {
         mechanism,
         initial_response,
         ..
     } = init;
-    if is_own_name(&mechanism) {
+    if is_own_name(hash, &mechanism) {
         initial_response
     } else {
         None
@@ -93,14 +94,14 @@ fn own_client_first(init: SaslInit) -> Option<Binary>
 }
 
 impl<P: ScramCredentialProvider> ServerExchange<P> {
-    /// An end that has read and written nothing, with the users of `provider` (part 5, section 5.3.2). `nonce` is to be
-    /// new for each exchange (RFC 5802, section 5.1); takes no memory.
-    pub fn new(provider: P, nonce: Text) -> Self
+    /// An end that has read and written nothing, with the users of `provider` (part 5, section 5.3.2), which offers the
+    /// mechanism of `hash`. `nonce` is to be new for each exchange (RFC 5802, section 5.1); takes no memory.
+    pub fn new(hash: ScramHash, provider: P, nonce: Text) -> Self
         requires { IsNonce nonce }
-        ensures { result ≡ server_begun provider nonce }
+        ensures { result ≡ server_begun hash provider nonce }
     {
         ServerExchange {
-            server: ScramServer::new(provider, nonce),
+            server: AnyScramServer::new(hash, provider, nonce),
             stage: ServerStage::OwesMechanisms,
         }
     }
@@ -136,7 +137,7 @@ impl<P: ScramCredentialProvider> ServerExchange<P> {
                 return Ok(Verdict::Taken);
             }
         }
-        match own_client_first(init) {
+        match own_client_first(self.server.hash(), init) {
             Some(text) => self.on_client_first(alloc, text),
             None => {
                 self.refuse(SaslCode::Auth);
@@ -148,7 +149,7 @@ impl<P: ScramCredentialProvider> ServerExchange<P> {
     // Takes the client first that came with an init of the own mechanism.
     fn on_client_first(&mut self, alloc: Global, text: Binary) -> Result<Verdict, AllocError>
         requires { self.old.stage ≡ ServerStage.AwaitsInit }
-        ensures { (hostname : Option (List ℕ)) → Received (server_mechanism P.stored) self.old (init_body own_mechanism (Some text) hostname) result self.new }
+        ensures { (hostname : Option (List ℕ)) → Received (server_mechanism P.stored) self.old (init_body (mechanism_of self.old.hash) (Some text) hostname) result self.new }
     {
         match self.server.on_client_first(alloc, text.as_slice()) {
             Ok(challenge) => {
@@ -211,7 +212,7 @@ impl<P: ScramCredentialProvider> Exchange for ServerExchange<P> {
 
     fn next_body(&self, alloc: Global) -> Result<SaslBody, AllocError> {
         match &self.stage {
-            ServerStage::OwesMechanisms => mechanisms(alloc),
+            ServerStage::OwesMechanisms => mechanisms(alloc, self.server.hash()),
             ServerStage::OwesChallenge(text) => {
                 let challenge = text.try_clone(alloc)?;
                 Ok(SaslBody::Challenge(SaslChallenge { challenge }))
@@ -286,19 +287,21 @@ impl<L: Link, P: ScramCredentialProvider> Model for ServerGate<L, P> {
 impl<L: Link, P: ScramCredentialProvider> ServerGate<L, P> {
     ghost use Rattle.sasl_gate.specs.contracts.gate.server.ServerGate.{the_row};
 
-    /// A gate that begins: its SASL header is queued (part 5, section 5.3.2). `nonce` is to be new for each exchange.
+    /// A gate that begins: its SASL header is queued (part 5, section 5.3.2). It offers the mechanism of `hash`. `nonce`
+    /// is to be new for each exchange.
     /// The one error is want of memory, which hands the codec back as it was.
     pub fn new(
         alloc: Global,
         codec: FramedCodec<L>,
+        hash: ScramHash,
         provider: P,
         nonce: Text,
     ) -> Result<Self, (AllocError, FramedCodec<L>)>
         requires { IsNonce nonce }
-        ensures ok { IfOk result (λ g. g ≡ server_start codec provider nonce) }
+        ensures ok { IfOk result (λ g. g ≡ server_start codec hash provider nonce) }
         ensures err { IfErr result (λ e. e.1 ≡ codec) }
     {
-        match Negotiation::start(alloc, codec, ServerExchange::new(provider, nonce)) {
+        match Negotiation::start(alloc, codec, ServerExchange::new(hash, provider, nonce)) {
             Ok(negotiation) => Ok(ServerGate { negotiation }),
             Err(error) => Err(error),
         }

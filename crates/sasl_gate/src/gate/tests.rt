@@ -1,25 +1,64 @@
+ghost use Rattle.std.specs.Prelude.{◌≡◌};
+ghost use Rattle.sasl_gate.specs.ClientGate.{hash_of, nonce_of};
+
 use crate::scram::profile::is_nonce;
 use crate::{
-    ClientGate, GatePoll, NegotiationError, OneUser, SaslProfile, ServerGate, StoredPassword,
-    poll_client, poll_server,
+    ClientGate, GatePoll, NegotiationError, OneUser, SaslProfile, ScramHash, ServerGate,
+    StoredPassword, poll_client, poll_server,
 };
 use amqp_text::Text;
 use amqp_wire::codec::FramedCodec;
 use amqp_wire::pipe::Pipe;
-use kdf_core::Sha256Fn;
 use std::alloc::Global;
 use std::process::Abort;
 use std::test::Fail;
 
-// A gate of the client of RFC 7677, section 3.
-fn client_gate(rt: &impl Abort, alloc: Global) -> Result<ClientGate<Pipe>, Fail> {
-    let nonce = "rOprNGfwEbeRWgbNEkqO";
+// An exchange of the user `user` with the password `pencil`, 4096 iterations: what each end writes in turn.
+#[derive(Clone, Copy)]
+struct Talk<'a> {
+    hash: ScramHash,
+    client_nonce: &'a str,
+    server_nonce: &'a str,
+    salt: &'a [u8],
+    rows: [(&'a [u8], &'a [u8]); 3],
+    client_writes: usize,
+    server_writes: usize,
+}
+
+fn profile(hash: ScramHash, username: Text, password: Text, nonce: Text) -> SaslProfile
+    ensures hash { hash_of result ≡ hash }
+    ensures nonce { nonce_of result ≡ nonce }
+{
+    match hash {
+        ScramHash::Sha1 => SaslProfile::ScramSha1 {
+            username,
+            password,
+            nonce,
+        },
+        ScramHash::Sha256 => SaslProfile::ScramSha256 {
+            username,
+            password,
+            nonce,
+        },
+        ScramHash::Sha512 => SaslProfile::ScramSha512 {
+            username,
+            password,
+            nonce,
+        },
+    }
+}
+
+fn client_gate(
+    rt: &impl Abort,
+    alloc: Global,
+    hash: ScramHash,
+    nonce: &str,
+) -> Result<ClientGate<Pipe>, Fail> {
     assert!(rt; is_nonce(nonce.as_bytes()));
-    let profile = SaslProfile::ScramSha256 {
-        username: Text::from_str(alloc, "user")?,
-        password: Text::from_str(alloc, "pencil")?,
-        nonce: Text::from_str(alloc, nonce)?,
-    };
+    let username = Text::from_str(alloc, "user")?;
+    let password = Text::from_str(alloc, "pencil")?;
+    let nonce = Text::from_str(alloc, nonce)?;
+    let profile = profile(hash, username, password, nonce);
     let codec = FramedCodec::new(alloc, Pipe::new(alloc), 512, 512);
     match ClientGate::new(alloc, codec, profile.try_clone(alloc)?, None) {
         Ok(gate) => Ok(gate),
@@ -27,44 +66,30 @@ fn client_gate(rt: &impl Abort, alloc: Global) -> Result<ClientGate<Pipe>, Fail>
     }
 }
 
-// A gate of the listener of RFC 7677, section 3.
-fn server_gate(rt: &impl Abort, alloc: Global) -> Result<ServerGate<Pipe, OneUser>, Fail> {
-    let nonce = "%hvYDpWUa2RaTCAfuxFIlj)hNlF$k0";
-    assert!(rt; is_nonce(nonce.as_bytes()));
-    let salt = b"\x5b\x6d\x99\x68\x9d\x12\x35\x8e\xec\xa0\x4b\x14\x12\x36\xfa\x81";
-    let stored = StoredPassword::derive::<Sha256Fn>(alloc, "pencil", salt, 4096)?;
+fn server_gate(
+    rt: &impl Abort,
+    alloc: Global,
+    talk: &Talk<'_>,
+) -> Result<ServerGate<Pipe, OneUser>, Fail> {
+    assert!(rt; is_nonce(talk.server_nonce.as_bytes()));
+    assert!(rt; !talk.salt.is_empty() && talk.salt.len() <= 64);
+    let stored = StoredPassword::derive_for(alloc, talk.hash, "pencil", talk.salt, 4096)?;
     let user = Text::from_str(alloc, "user")?;
     let password = Text::from_str(alloc, "pencil")?;
     let provider = OneUser::new(user, password, Some(stored))?;
-    let nonce = Text::from_str(alloc, nonce)?;
+    let nonce = Text::from_str(alloc, talk.server_nonce)?;
     let codec = FramedCodec::new(alloc, Pipe::new(alloc), 512, 512);
-    match ServerGate::new(alloc, codec, provider, nonce) {
+    match ServerGate::new(alloc, codec, talk.hash, provider, nonce) {
         Ok(gate) => Ok(gate),
         Err(_) => Err("no gate".into()),
     }
 }
 
-// The texts are those of RFC 7677, section 3, in the frames of part 5, section 5.3.
-#[test]
-fn both_gates_pass(rt: HostRuntime) -> Result<(), Fail> {
-    let mut client = client_gate(&rt, rt.alloc())?;
-    let mut server = server_gate(&rt, rt.alloc())?;
-    let rows: [(&[u8], &[u8]); 3] = [
-        (
-            b"AMQP\x03\x01\x00\x00",
-            b"AMQP\x03\x01\x00\x00\x00\x00\x00\x20\x02\x01\x00\x00\x00\x53\x40\xc0\x13\x01\xe0\x10\x01\xa3\x0dSCRAM-SHA-256",
-        ),
-        (
-            b"\x00\x00\x00\x3f\x02\x01\x00\x00\x00\x53\x41\xc0\x32\x02\xa3\x0dSCRAM-SHA-256\xa0\x20n,,n=user,r=rOprNGfwEbeRWgbNEkqO",
-            b"\x00\x00\x00\x66\x02\x01\x00\x00\x00\x53\x42\xc0\x59\x01\xa0\x56r=rOprNGfwEbeRWgbNEkqO%hvYDpWUa2RaTCAfuxFIlj)hNlF$k0,s=W22ZaJ0SNY7soEsUEjb6gQ==,i=4096",
-        ),
-        (
-            b"\x00\x00\x00\x7a\x02\x01\x00\x00\x00\x53\x43\xc0\x6d\x01\xa0\x6ac=biws,r=rOprNGfwEbeRWgbNEkqO%hvYDpWUa2RaTCAfuxFIlj)hNlF$k0,p=dHzbZapWIk4jUhN+Ute9ytag9zjfMHgsqmmiz7AndVQ=",
-            b"\x00\x00\x00\x40\x02\x01\x00\x00\x00\x53\x44\xc0\x33\x02\x50\x00\xa0\x2ev=6rriTRBi23WpRR/wtup+mMhUZUn/dB5nLTJRsjl95G4=",
-        ),
-    ];
+fn both_pass(rt: &impl Abort, alloc: Global, talk: &Talk<'_>) -> Result<(), Fail> {
+    let mut client = client_gate(rt, alloc, talk.hash, talk.client_nonce)?;
+    let mut server = server_gate(rt, alloc, talk)?;
     let mut answer: &[u8] = b"";
-    for (says, answers) in rows {
+    for (says, answers) in talk.rows {
         client.link().give(answer)?;
         assert_eq!(rt; poll_client(&mut client, 0)?, GatePoll::Pending);
         assert!(rt; client.link().output().ends_with(says));
@@ -76,16 +101,100 @@ fn both_gates_pass(rt: HostRuntime) -> Result<(), Fail> {
     client.link().give(answer)?;
     assert_eq!(rt; poll_client(&mut client, 1)?, GatePoll::Passed);
     assert_eq!(rt; poll_server(&mut server, 1)?, GatePoll::Passed);
-    assert_eq!(rt; client.link().output().len(), 8 + 63 + 122);
+    assert_eq!(rt; client.link().output().len(), talk.client_writes);
     let link = server.abandon().into_link();
-    assert_eq!(rt; link.output().len(), 8 + 32 + 102 + 64);
+    assert_eq!(rt; link.output().len(), talk.server_writes);
     Ok(())
+}
+
+// The texts are those of RFC 5802, section 5, in the frames of part 5, section 5.3.
+#[test]
+fn both_pass_sha_1(rt: HostRuntime) -> Result<(), Fail> {
+    let talk = Talk {
+        hash: ScramHash::Sha1,
+        client_nonce: "fyko+d2lbbFgONRv9qkxdawL",
+        server_nonce: "3rfcNHYJY1ZVvWVs7j",
+        salt: b"\x41\x25\xc2\x47\xe4\x3a\xb1\xe9\x3c\x6d\xff\x76",
+        rows: [
+            (
+                b"AMQP\x03\x01\x00\x00",
+                b"AMQP\x03\x01\x00\x00\x00\x00\x00\x1e\x02\x01\x00\x00\x00\x53\x40\xc0\x11\x01\xe0\x0e\x01\xa3\x0bSCRAM-SHA-1",
+            ),
+            (
+                b"\x00\x00\x00\x41\x02\x01\x00\x00\x00\x53\x41\xc0\x34\x02\xa3\x0bSCRAM-SHA-1\xa0\x24n,,n=user,r=fyko+d2lbbFgONRv9qkxdawL",
+                b"\x00\x00\x00\x56\x02\x01\x00\x00\x00\x53\x42\xc0\x49\x01\xa0\x46r=fyko+d2lbbFgONRv9qkxdawL3rfcNHYJY1ZVvWVs7j,s=QSXCR+Q6sek8bf92,i=4096",
+            ),
+            (
+                b"\x00\x00\x00\x62\x02\x01\x00\x00\x00\x53\x43\xc0\x55\x01\xa0\x52c=biws,r=fyko+d2lbbFgONRv9qkxdawL3rfcNHYJY1ZVvWVs7j,p=v0X8v3Bz2T0CJGbJQyF0X+HI4Ts=",
+                b"\x00\x00\x00\x30\x02\x01\x00\x00\x00\x53\x44\xc0\x23\x02\x50\x00\xa0\x1ev=rmF9pqV8S7suAoZWja4dJRkFsKQ=",
+            ),
+        ],
+        client_writes: 8 + 65 + 98,
+        server_writes: 8 + 30 + 86 + 48,
+    };
+    both_pass(&rt, rt.alloc(), &talk)
+}
+
+// The texts are those of RFC 7677, section 3, in the frames of part 5, section 5.3.
+#[test]
+fn both_pass_sha_256(rt: HostRuntime) -> Result<(), Fail> {
+    let talk = Talk {
+        hash: ScramHash::Sha256,
+        client_nonce: "rOprNGfwEbeRWgbNEkqO",
+        server_nonce: "%hvYDpWUa2RaTCAfuxFIlj)hNlF$k0",
+        salt: b"\x5b\x6d\x99\x68\x9d\x12\x35\x8e\xec\xa0\x4b\x14\x12\x36\xfa\x81",
+        rows: [
+            (
+                b"AMQP\x03\x01\x00\x00",
+                b"AMQP\x03\x01\x00\x00\x00\x00\x00\x20\x02\x01\x00\x00\x00\x53\x40\xc0\x13\x01\xe0\x10\x01\xa3\x0dSCRAM-SHA-256",
+            ),
+            (
+                b"\x00\x00\x00\x3f\x02\x01\x00\x00\x00\x53\x41\xc0\x32\x02\xa3\x0dSCRAM-SHA-256\xa0\x20n,,n=user,r=rOprNGfwEbeRWgbNEkqO",
+                b"\x00\x00\x00\x66\x02\x01\x00\x00\x00\x53\x42\xc0\x59\x01\xa0\x56r=rOprNGfwEbeRWgbNEkqO%hvYDpWUa2RaTCAfuxFIlj)hNlF$k0,s=W22ZaJ0SNY7soEsUEjb6gQ==,i=4096",
+            ),
+            (
+                b"\x00\x00\x00\x7a\x02\x01\x00\x00\x00\x53\x43\xc0\x6d\x01\xa0\x6ac=biws,r=rOprNGfwEbeRWgbNEkqO%hvYDpWUa2RaTCAfuxFIlj)hNlF$k0,p=dHzbZapWIk4jUhN+Ute9ytag9zjfMHgsqmmiz7AndVQ=",
+                b"\x00\x00\x00\x40\x02\x01\x00\x00\x00\x53\x44\xc0\x33\x02\x50\x00\xa0\x2ev=6rriTRBi23WpRR/wtup+mMhUZUn/dB5nLTJRsjl95G4=",
+            ),
+        ],
+        client_writes: 8 + 63 + 122,
+        server_writes: 8 + 32 + 102 + 64,
+    };
+    both_pass(&rt, rt.alloc(), &talk)
+}
+
+// Nonces and salt of RFC 7677, section 3; proof and signature were computed with Python's hashlib and hmac.
+#[test]
+fn both_pass_sha_512(rt: HostRuntime) -> Result<(), Fail> {
+    let talk = Talk {
+        hash: ScramHash::Sha512,
+        client_nonce: "rOprNGfwEbeRWgbNEkqO",
+        server_nonce: "%hvYDpWUa2RaTCAfuxFIlj)hNlF$k0",
+        salt: b"\x5b\x6d\x99\x68\x9d\x12\x35\x8e\xec\xa0\x4b\x14\x12\x36\xfa\x81",
+        rows: [
+            (
+                b"AMQP\x03\x01\x00\x00",
+                b"AMQP\x03\x01\x00\x00\x00\x00\x00\x20\x02\x01\x00\x00\x00\x53\x40\xc0\x13\x01\xe0\x10\x01\xa3\x0dSCRAM-SHA-512",
+            ),
+            (
+                b"\x00\x00\x00\x3f\x02\x01\x00\x00\x00\x53\x41\xc0\x32\x02\xa3\x0dSCRAM-SHA-512\xa0\x20n,,n=user,r=rOprNGfwEbeRWgbNEkqO",
+                b"\x00\x00\x00\x66\x02\x01\x00\x00\x00\x53\x42\xc0\x59\x01\xa0\x56r=rOprNGfwEbeRWgbNEkqO%hvYDpWUa2RaTCAfuxFIlj)hNlF$k0,s=W22ZaJ0SNY7soEsUEjb6gQ==,i=4096",
+            ),
+            (
+                b"\x00\x00\x00\xa6\x02\x01\x00\x00\x00\x53\x43\xc0\x99\x01\xa0\x96c=biws,r=rOprNGfwEbeRWgbNEkqO%hvYDpWUa2RaTCAfuxFIlj)hNlF$k0,p=gMGXRcevScNtxZ6/8lQYpGtnsNAc3mGcmNomv+xnoOMw+3R2xNJdMNnzMlTN8PPC6wdp6dybEmDYXYTxwnYPJQ==",
+                b"\x00\x00\x00\x6c\x02\x01\x00\x00\x00\x53\x44\xc0\x5f\x02\x50\x00\xa0\x5av=ZQnYEgWQMFmmsM8aQMF0nDDCy/AgCzkwk8CmMZYcMg0vSVlKDanekLtifDSeVGT4+5ZxXnJq199RVG2rR7N7Zw==",
+            ),
+        ],
+        client_writes: 8 + 63 + 166,
+        server_writes: 8 + 32 + 102 + 108,
+    };
+    both_pass(&rt, rt.alloc(), &talk)
 }
 
 // The header of AMQP in place of that of the SASL layer.
 #[test]
 fn client_refuses_a_header(rt: HostRuntime) -> Result<(), Fail> {
-    let mut gate = client_gate(&rt, rt.alloc())?;
+    let mut gate = client_gate(&rt, rt.alloc(), ScramHash::Sha256, "rOprNGfwEbeRWgbNEkqO")?;
     gate.link().give(b"AMQP\x00\x01\x00\x00")?;
     match poll_client(&mut gate, 0) {
         Err(NegotiationError::ProtocolHeaderMismatch(header)) => {

@@ -1,15 +1,17 @@
 //! What a listener keeps of a password.
 
 ghost use Rattle.std.specs.Prelude.{◌≡◌, ◌≤◌, length, IfOk, IfErr};
+ghost use Rattle.sasl_gate.specs.Hashes.{digest_of, block_of, output_of};
 ghost use Rattle.sasl_gate.specs.Keys.{salted_of, server_key_of, stored_key_of};
 ghost use Rattle.sasl_gate.specs.Profile.{IsAllowedCount, IsAllowedPassword};
 ghost use Rattle.sasl_gate.specs.Refusals.{IsTextRefusal};
 
 use crate::scram::error::ScramErrorKind;
+use crate::scram::hash::ScramHash;
 use crate::scram::keys::{salted_into, server_key_into, stored_key_into};
 use crate::scram::profile::is_allowed_password;
 use amqp_text::Binary;
-use kdf_core::HashFn;
+use kdf_core::{HashFn, Sha1Fn, Sha256Fn, Sha512Fn};
 use std::alloc::Global;
 
 /// What a listener keeps of a password (RFC 5802, section 3): it can check who knows the password, and not tell it.
@@ -61,5 +63,26 @@ impl StoredPassword {
             salt: Binary::from_slice(alloc, salt)?,
             iterations,
         })
+    }
+
+    /// The same with a hash function that is data.
+    pub fn derive_for(
+        alloc: Global,
+        hash: ScramHash,
+        password: &str,
+        salt: &[u8],
+        iterations: u32,
+    ) -> Result<Self, ScramErrorKind>
+        requires salt { (1 ≤ length salt.now) × (length salt.now ≤ 64) }
+        requires iterations { IsAllowedCount iterations }
+        ensures ok { IfOk result (λ p. p ≡ stored_of (digest_of hash) (block_of hash) (output_of hash) password.now salt.now iterations) }
+        ensures allowed { IfOk result (λ _. IsAllowedPassword password.now) }
+        ensures err { IfErr result (λ e. IsTextRefusal (IsAllowedPassword password.now) e) }
+    {
+        match hash {
+            ScramHash::Sha1 => Self::derive::<Sha1Fn>(alloc, password, salt, iterations),
+            ScramHash::Sha256 => Self::derive::<Sha256Fn>(alloc, password, salt, iterations),
+            ScramHash::Sha512 => Self::derive::<Sha512Fn>(alloc, password, salt, iterations),
+        }
     }
 }
