@@ -7,22 +7,21 @@ use Rattle.amqp_composites.specs.declared.sasl_code.SaslCode.TheVariants as sasl
 use Rattle.amqp_wire.specs.Events.{LinkEvent, read_of, wrote_of}
 use Rattle.sasl_gate.specs.declared.gate.client.ClientStage.{ClientStage}
 use Rattle.sasl_gate.specs.declared.gate.client.ClientStage.TheVariants as client
-use Rattle.sasl_gate.specs.declared.gate.client.SaslProfile.TheVariants as profile
 use Rattle.sasl_gate.specs.declared.gate.exchange.Turn.TheVariants.{Pass}
 use Rattle.sasl_gate.specs.declared.gate.server.ServerStage.{ServerStage}
 use Rattle.sasl_gate.specs.declared.gate.server.ServerStage.TheVariants as server
-use Rattle.sasl_gate.specs.ClientGate.{ClientEnd, turn_in as client_turn_in, holds_in as client_holds_in, HasPassed as ClientHasPassed, ClientPassed}
+use Rattle.sasl_gate.specs.declared.scram.hash.ScramHash.{ScramHash}
+use Rattle.sasl_gate.specs.ClientGate.{hash_of, username_of, password_of, nonce_of, ClientEnd, turn_in as client_turn_in, holds_in as client_holds_in, HasPassed as ClientHasPassed, ClientPassed}
 use Rattle.sasl_gate.specs.Frames.{HasSaslFrame, Heard, said}
 use Rattle.sasl_gate.specs.ScramBodies.{outcome_body, IsOnlySasl}
 use Rattle.sasl_gate.specs.ServerGate.{ServerEnd, turn_in as server_turn_in, holds_in as server_holds_in, HasProof, ServerPassed}
 use Rattle.sasl_gate.specs.States.{Account, ServerState}
 use Rattle.sasl_gate.proofs.Negotiations.{heard_more}
-use Rattle.amqp_opening.specs.declared.acceptor.AcceptSasl.TheVariants as accept
 use Rattle.amqp_opening.specs.declared.authentication.Authentication.{Authentication}
 use Rattle.amqp_opening.specs.declared.authentication.Authentication.TheVariants.{Idle, Client, Listener}
 use Rattle.amqp_opening.specs.declared.authentication.SaslCall.{SaslCall}
 use Rattle.amqp_opening.specs.declared.authentication.SaslCall.TheVariants as call
-use Rattle.amqp_opening.specs.Authentication.{stored_for, peer_mechanism, same_by, MadeFor}
+use Rattle.amqp_opening.specs.Authentication.{accept_hash, accept_username, accept_password, accept_salt, accept_iterations, accept_nonce, stored_for, peer_mechanism, same_by, MadeFor}
 use Rattle.amqp_opening.specs.Gated.{BeginsHeader, IsGatedBy, stored_alone}
 use Rattle.amqp_opening.specs.Opening.{HasPassed, IsGuarded}
 
@@ -46,7 +45,7 @@ client_passed_in client.AwaitsOutcome x given sent t h = cc
 client_passed_in client.Passed x given sent t h = h
 
 client_passed : (After : List ℕ → Type 0) (x : ClientEnd) (more rest wrote read : List ℕ) → Whole (Client x) more rest wrote read → After more
-    → (p : ClientPassed x.client.user x.client.password x.client.nonce x.hostname wrote read) × After p.more
+    → (p : ClientPassed x.hash x.client.user x.client.password x.client.nonce x.hostname wrote read) × After p.more
 client_passed After x more rest wrote read h after =
     let c : ClientHasPassed x h.given h.sent = client_passed_in x.stage x h.given h.sent h.turn h.held in (
       record {
@@ -64,22 +63,22 @@ client_passed After x more rest wrote read h after =
       after,
     )
 
-server_passed_in : (s : ServerStage) (x : ServerState Account) (given sent : List SaslBody) → server_turn_in s ≡ Pass → server_holds_in stored_for s x given sent
-    → (text : List ℕ) × HasProof (stored_for x.provider) x.nonce text given sent (outcome_body sasl.Ok (Some text) ∷ [])
-server_passed_in server.OwesMechanisms x given sent t h = cc
-server_passed_in server.AwaitsInit x given sent t h = cc
-server_passed_in (server.OwesChallenge text) x given sent t h = cc
-server_passed_in server.AwaitsResponse x given sent t h = cc
-server_passed_in (server.OwesOutcome text) x given sent t h = cc
-server_passed_in server.Passed x given sent t h = h
-server_passed_in (server.OwesRefusal code) x given sent t h = cc
-server_passed_in (server.Refused code) x given sent t h = cc
+server_passed_in : (hash : ScramHash) (s : ServerStage) (x : ServerState Account) (given sent : List SaslBody) → server_turn_in s ≡ Pass → server_holds_in hash stored_for s x given sent
+    → (text : List ℕ) × HasProof hash (stored_for x.provider) x.nonce text given sent (outcome_body sasl.Ok (Some text) ∷ [])
+server_passed_in hash server.OwesMechanisms x given sent t h = cc
+server_passed_in hash server.AwaitsInit x given sent t h = cc
+server_passed_in hash (server.OwesChallenge text) x given sent t h = cc
+server_passed_in hash server.AwaitsResponse x given sent t h = cc
+server_passed_in hash (server.OwesOutcome text) x given sent t h = cc
+server_passed_in hash server.Passed x given sent t h = h
+server_passed_in hash (server.OwesRefusal code) x given sent t h = cc
+server_passed_in hash (server.Refused code) x given sent t h = cc
 
 server_passed : (After : List ℕ → Type 0) (x : ServerEnd Account) (more rest wrote read : List ℕ) → Whole (Listener x) more rest wrote read → After more
-    → (p : ServerPassed (stored_for x.server.provider) x.server.nonce wrote read) × After p.more
+    → (p : ServerPassed x.hash (stored_for x.server.provider) x.server.nonce wrote read) × After p.more
 server_passed After x more rest wrote read h after =
-    let t = server_passed_in x.stage x.server h.given h.sent h.turn h.held in
-    let c : HasProof (stored_for x.server.provider) x.server.nonce t.0 h.given h.sent (outcome_body sasl.Ok (Some t.0) ∷ []) = t.1 in (
+    let t = server_passed_in x.hash x.stage x.server h.given h.sent h.turn h.held in
+    let c : HasProof x.hash (stored_for x.server.provider) x.server.nonce t.0 h.given h.sent (outcome_body sasl.Ok (Some t.0) ∷ []) = t.1 in (
       record {
         user = c.user;
         hostname = c.hostname;
@@ -97,20 +96,22 @@ server_passed After x more rest wrote read h after =
     )
 
 gated_whole : (After : List ℕ → Type 0) (asked : SaslCall) (x : Authentication) (more rest wrote read : List ℕ) → MadeFor asked x → Whole x more rest wrote read → After more → IsGatedBy After asked wrote read
-gated_whole After (call.Client (profile.ScramSha256 user password nonce) hostname) Idle more rest wrote read made h after = absurd made
-gated_whole After (call.Client (profile.ScramSha256 user password nonce) hostname) (Client x) more rest wrote read made h after =
-    inr (subst (λ (u : List ℕ). (p : ClientPassed u password nonce hostname wrote read) × After p.more) made.user_is
-    (subst (λ (u : List ℕ). (p : ClientPassed x.client.user u nonce hostname wrote read) × After p.more) made.password_is
-    (subst (λ (u : List ℕ). (p : ClientPassed x.client.user x.client.password u hostname wrote read) × After p.more) made.nonce_is
-    (subst (λ (u : Option (List ℕ)). (p : ClientPassed x.client.user x.client.password x.client.nonce u wrote read) × After p.more) made.hostname_is
-    (client_passed After x more rest wrote read h after)))))
-gated_whole After (call.Client (profile.ScramSha256 user password nonce) hostname) (Listener x) more rest wrote read made h after = absurd made
-gated_whole After (call.Listener (accept.ScramSha256 user password salt iterations nonce)) Idle more rest wrote read made h after = absurd made
-gated_whole After (call.Listener (accept.ScramSha256 user password salt iterations nonce)) (Client x) more rest wrote read made h after = absurd made
-gated_whole After (call.Listener (accept.ScramSha256 user password salt iterations nonce)) (Listener x) more rest wrote read made h after =
-    inr (subst (λ (a : Account). (p : ServerPassed (stored_for a) nonce wrote read) × After p.more) made.account
-    (subst (λ (u : List ℕ). (p : ServerPassed (stored_for x.server.provider) u wrote read) × After p.more) made.nonce_is
-    (server_passed After x more rest wrote read h after)))
+gated_whole After (call.Client p hostname) Idle more rest wrote read made h after = absurd made
+gated_whole After (call.Client p hostname) (Client x) more rest wrote read made h after =
+    inr (subst (λ (d : ScramHash). (q : ClientPassed d (username_of p) (password_of p) (nonce_of p) hostname wrote read) × After q.more) made.hash_is
+    (subst (λ (u : List ℕ). (q : ClientPassed x.hash u (password_of p) (nonce_of p) hostname wrote read) × After q.more) made.user_is
+    (subst (λ (u : List ℕ). (q : ClientPassed x.hash x.client.user u (nonce_of p) hostname wrote read) × After q.more) made.password_is
+    (subst (λ (u : List ℕ). (q : ClientPassed x.hash x.client.user x.client.password u hostname wrote read) × After q.more) made.nonce_is
+    (subst (λ (u : Option (List ℕ)). (q : ClientPassed x.hash x.client.user x.client.password x.client.nonce u wrote read) × After q.more) made.hostname_is
+    (client_passed After x more rest wrote read h after))))))
+gated_whole After (call.Client p hostname) (Listener x) more rest wrote read made h after = absurd made
+gated_whole After (call.Listener a) Idle more rest wrote read made h after = absurd made
+gated_whole After (call.Listener a) (Client x) more rest wrote read made h after = absurd made
+gated_whole After (call.Listener a) (Listener x) more rest wrote read made h after =
+    inr (subst (λ (d : ScramHash). (q : ServerPassed d (stored_alone (accept_hash a) (accept_username a) (accept_password a) (accept_salt a) (accept_iterations a)) (accept_nonce a) wrote read) × After q.more) made.hash_is
+    (subst (λ (c : Account). (q : ServerPassed x.hash (stored_for c) (accept_nonce a) wrote read) × After q.more) made.account
+    (subst (λ (u : List ℕ). (q : ServerPassed x.hash (stored_for x.server.provider) u wrote read) × After q.more) made.nonce_is
+    (server_passed After x more rest wrote read h after))))
 
 -- an exchange that has passed, where `bytes` were written and `later` was read behind it
 pub gated_passed : (After : List ℕ → Type 0) (asked : SaslCall) (x : Authentication) (rest unwritten bytes later wrote read : List ℕ) (events : List LinkEvent) → MadeFor asked x
@@ -128,8 +129,8 @@ gated_passed After asked x rest unwritten bytes later wrote read events made h a
 
 -- only the SASL layer was written
 pub gated_only : (After : List ℕ → Type 0) (asked : SaslCall) (wrote read : List ℕ) → IsOnlySasl wrote → IsGatedBy After asked wrote read
-gated_only After (call.Client (profile.ScramSha256 user password nonce) hostname) wrote read only = inl only
-gated_only After (call.Listener (accept.ScramSha256 user password salt iterations nonce)) wrote read only = inl only
+gated_only After (call.Client p hostname) wrote read only = inl only
+gated_only After (call.Listener a) wrote read only = inl only
 
 -- nothing was written
 pub gated_nothing : (After : List ℕ → Type 0) (asked : SaslCall) (wrote read : List ℕ) → wrote ≡ [] → IsGatedBy After asked wrote read
@@ -149,40 +150,40 @@ gated_from After asked x events made (inr h) after = gated_guarded After asked x
 
 -- what is read later changes nothing of that
 pub gated_later : (After : List ℕ → Type 0) (asked : SaslCall) (wrote read later : List ℕ) → IsGatedBy After asked wrote read → IsGatedBy After asked wrote (read ++ later)
-gated_later After (call.Client (profile.ScramSha256 user password nonce) hostname) wrote read later (inl only) = inl only
-gated_later After (call.Client (profile.ScramSha256 user password nonce) hostname) wrote read later (inr h) =
-    let p : ClientPassed user password nonce hostname wrote read = h.0 in
+gated_later After (call.Client p hostname) wrote read later (inl only) = inl only
+gated_later After (call.Client p hostname) wrote read later (inr h) =
+    let q : ClientPassed (hash_of p) (username_of p) (password_of p) (nonce_of p) hostname wrote read = h.0 in
     inr (
       record {
-        names = p.names;
-        server_first = p.server_first;
-        client_final = p.client_final;
-        server_final = p.server_final;
-        more = p.more;
-        rest = p.rest ++ later;
-        wrote_is = p.wrote_is;
-        read_is = heard_more read later p.rest _ p.read_is;
-        listed = p.listed;
-        check = p.check;
+        names = q.names;
+        server_first = q.server_first;
+        client_final = q.client_final;
+        server_final = q.server_final;
+        more = q.more;
+        rest = q.rest ++ later;
+        wrote_is = q.wrote_is;
+        read_is = heard_more read later q.rest _ q.read_is;
+        listed = q.listed;
+        check = q.check;
       },
       h.1,
     )
-gated_later After (call.Listener (accept.ScramSha256 user password salt iterations nonce)) wrote read later (inl only) = inl only
-gated_later After (call.Listener (accept.ScramSha256 user password salt iterations nonce)) wrote read later (inr h) =
-    let p : ServerPassed (stored_alone user password salt iterations) nonce wrote read = h.0 in
+gated_later After (call.Listener a) wrote read later (inl only) = inl only
+gated_later After (call.Listener a) wrote read later (inr h) =
+    let q : ServerPassed (accept_hash a) (stored_alone (accept_hash a) (accept_username a) (accept_password a) (accept_salt a) (accept_iterations a)) (accept_nonce a) wrote read = h.0 in
     inr (
       record {
-        user = p.user;
-        hostname = p.hostname;
-        client_first = p.client_first;
-        server_first = p.server_first;
-        client_final = p.client_final;
-        server_final = p.server_final;
-        more = p.more;
-        rest = p.rest ++ later;
-        wrote_is = p.wrote_is;
-        read_is = heard_more read later p.rest _ p.read_is;
-        check = p.check;
+        user = q.user;
+        hostname = q.hostname;
+        client_first = q.client_first;
+        server_first = q.server_first;
+        client_final = q.client_final;
+        server_final = q.server_final;
+        more = q.more;
+        rest = q.rest ++ later;
+        wrote_is = q.wrote_is;
+        read_is = heard_more read later q.rest _ q.read_is;
+        check = q.check;
       },
       h.1,
     )
@@ -190,15 +191,15 @@ gated_later After (call.Listener (accept.ScramSha256 user password salt iteratio
 -- ---- the exchange stays that of the call
 
 pub same_made : (asked : SaslCall) (x y : Authentication) → same_by x y → MadeFor asked x → MadeFor asked y
-same_made (call.Client (profile.ScramSha256 user password nonce) hostname) Idle y s m = absurd m
-same_made (call.Client (profile.ScramSha256 user password nonce) hostname) (Client x) Idle s m = absurd s
-same_made (call.Client (profile.ScramSha256 user password nonce) hostname) (Client x) (Client y) s m =
-    record { user_is = sym s.user ∙ m.user_is; password_is = sym s.password ∙ m.password_is; nonce_is = sym s.nonce ∙ m.nonce_is; hostname_is = sym s.hostname ∙ m.hostname_is; asked = m.asked }
-same_made (call.Client (profile.ScramSha256 user password nonce) hostname) (Client x) (Listener y) s m = absurd s
-same_made (call.Client (profile.ScramSha256 user password nonce) hostname) (Listener x) y s m = absurd m
-same_made (call.Listener (accept.ScramSha256 user password salt iterations nonce)) Idle y s m = absurd m
-same_made (call.Listener (accept.ScramSha256 user password salt iterations nonce)) (Client x) y s m = absurd m
-same_made (call.Listener (accept.ScramSha256 user password salt iterations nonce)) (Listener x) Idle s m = absurd s
-same_made (call.Listener (accept.ScramSha256 user password salt iterations nonce)) (Listener x) (Client y) s m = absurd s
-same_made (call.Listener (accept.ScramSha256 user password salt iterations nonce)) (Listener x) (Listener y) s m =
-    record { account = sym s.provider ∙ m.account; nonce_is = sym s.nonce ∙ m.nonce_is; asked = m.asked }
+same_made (call.Client p hostname) Idle y s m = absurd m
+same_made (call.Client p hostname) (Client x) Idle s m = absurd s
+same_made (call.Client p hostname) (Client x) (Client y) s m =
+    record { hash_is = sym s.hash ∙ m.hash_is; user_is = sym s.user ∙ m.user_is; password_is = sym s.password ∙ m.password_is; nonce_is = sym s.nonce ∙ m.nonce_is; hostname_is = sym s.hostname ∙ m.hostname_is; asked = m.asked }
+same_made (call.Client p hostname) (Client x) (Listener y) s m = absurd s
+same_made (call.Client p hostname) (Listener x) y s m = absurd m
+same_made (call.Listener a) Idle y s m = absurd m
+same_made (call.Listener a) (Client x) y s m = absurd m
+same_made (call.Listener a) (Listener x) Idle s m = absurd s
+same_made (call.Listener a) (Listener x) (Client y) s m = absurd s
+same_made (call.Listener a) (Listener x) (Listener y) s m =
+    record { hash_is = sym s.hash ∙ m.hash_is; account = sym s.provider ∙ m.account; nonce_is = sym s.nonce ∙ m.nonce_is; asked = m.asked }

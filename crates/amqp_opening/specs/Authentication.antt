@@ -4,8 +4,6 @@ use Rattle.std.specs.Str.{bytes_eq}
 use Rattle.amqp_composites.specs.declared.sasl_body.SaslBody.{SaslBody}
 use Rattle.amqp_composites.specs.declared.sasl_code.SaslCode.{SaslCode}
 use Rattle.base64.specs.GeneralPurpose.{IsBytes}
-use Rattle.sha2.specs.Sha256.{sha256}
-use Rattle.sasl_gate.specs.declared.gate.client.SaslProfile.TheVariants as profile
 use Rattle.sasl_gate.specs.declared.gate.error.NegotiationError.{NegotiationError}
 use Rattle.sasl_gate.specs.declared.gate.error.NegotiationError.TheVariants.{Memory, ProtocolHeaderMismatch, NotImplemented, SaslError, ScramError, Io, DecodeError, IllegalState, FramingError}
 use Rattle.sasl_gate.specs.declared.gate.exchange.Exchange.{Ghosts as Mechanism}
@@ -13,18 +11,66 @@ use Rattle.sasl_gate.specs.declared.gate.exchange.Turn.{Turn}
 use Rattle.sasl_gate.specs.declared.gate.exchange.Turn.TheVariants.{Receive, Refuse}
 use Rattle.sasl_gate.specs.declared.scram.error.ScramErrorKind.{ScramErrorKind}
 use Rattle.sasl_gate.specs.declared.scram.error.ScramErrorKind.TheVariants as scram
+use Rattle.sasl_gate.specs.declared.scram.hash.ScramHash.{ScramHash}
+use Rattle.sasl_gate.specs.declared.scram.hash.ScramHash.TheVariants.{Sha1, Sha256, Sha512}
 use Rattle.sasl_gate.specs.declared.scram.stored.StoredPassword.{StoredPassword}
 use Rattle.sasl_gate.specs.Check.{stored_of}
-use Rattle.sasl_gate.specs.ClientGate.{ClientEnd, client_holds, client_causes, client_owes, client_turn, client_left, ClientSame, client_refusal, client_same_self, client_same_then}
+use Rattle.sasl_gate.specs.ClientGate.{hash_of, username_of, password_of, nonce_of, ClientEnd, client_holds, client_causes, client_owes, client_turn, client_left, ClientSame, client_refusal, client_same_self, client_same_then}
 use Rattle.sasl_gate.specs.Exchange.{refused_with}
+use Rattle.sasl_gate.specs.Hashes.{digest_of, block_of, output_of}
 use Rattle.sasl_gate.specs.Profile.{IsAllowedUser, IsAllowedPassword, IsAllowedCount, IsNonce}
 use Rattle.sasl_gate.specs.ServerGate.{ServerEnd, server_holds, server_causes, server_owes, server_turn, server_left, ServerSame, server_refusal, server_same_self, server_same_then}
 use Rattle.sasl_gate.specs.States.{Account}
-use Rattle.amqp_opening.specs.declared.acceptor.AcceptSasl.TheVariants as accept
+use Rattle.amqp_opening.specs.declared.acceptor.AcceptSasl.{AcceptSasl}
+use Rattle.amqp_opening.specs.declared.acceptor.AcceptSasl.TheVariants.{ScramSha1, ScramSha256, ScramSha512}
 use Rattle.amqp_opening.specs.declared.authentication.Authentication.{Authentication}
 use Rattle.amqp_opening.specs.declared.authentication.Authentication.TheVariants.{Idle, Client, Listener}
 use Rattle.amqp_opening.specs.declared.authentication.SaslCall.{SaslCall}
 use Rattle.amqp_opening.specs.declared.authentication.SaslCall.TheVariants as call
+
+-- ---- what a listener is asked for, whatever its hash function
+
+-- the hash function of its mechanism (RFC 5802; RFC 7677)
+abbrev pub accept_hash : AcceptSasl → ScramHash
+accept_hash (ScramSha1 user password salt iterations nonce) = Sha1
+accept_hash (ScramSha256 user password salt iterations nonce) = Sha256
+accept_hash (ScramSha512 user password salt iterations nonce) = Sha512
+
+-- the user that it lets in
+abbrev pub accept_username : AcceptSasl → List ℕ
+accept_username (ScramSha1 user password salt iterations nonce) = user
+accept_username (ScramSha256 user password salt iterations nonce) = user
+accept_username (ScramSha512 user password salt iterations nonce) = user
+
+-- the user's password
+abbrev pub accept_password : AcceptSasl → List ℕ
+accept_password (ScramSha1 user password salt iterations nonce) = password
+accept_password (ScramSha256 user password salt iterations nonce) = password
+accept_password (ScramSha512 user password salt iterations nonce) = password
+
+-- the salt (RFC 5802, section 3)
+abbrev pub accept_salt : AcceptSasl → List ℕ
+accept_salt (ScramSha1 user password salt iterations nonce) = salt
+accept_salt (ScramSha256 user password salt iterations nonce) = salt
+accept_salt (ScramSha512 user password salt iterations nonce) = salt
+
+-- the iteration count (RFC 5802, section 3)
+abbrev pub accept_iterations : AcceptSasl → ℕ
+accept_iterations (ScramSha1 user password salt iterations nonce) = iterations
+accept_iterations (ScramSha256 user password salt iterations nonce) = iterations
+accept_iterations (ScramSha512 user password salt iterations nonce) = iterations
+
+-- its own nonce (RFC 5802, section 5.1)
+abbrev pub accept_nonce : AcceptSasl → List ℕ
+accept_nonce (ScramSha1 user password salt iterations nonce) = nonce
+accept_nonce (ScramSha256 user password salt iterations nonce) = nonce
+accept_nonce (ScramSha512 user password salt iterations nonce) = nonce
+
+-- SCRAM with a hash function
+abbrev pub scram_acceptor : ScramHash → List ℕ → List ℕ → List ℕ → ℕ → List ℕ → AcceptSasl
+scram_acceptor Sha1 user password salt iterations nonce = ScramSha1 user password salt iterations nonce
+scram_acceptor Sha256 user password salt iterations nonce = ScramSha256 user password salt iterations nonce
+scram_acceptor Sha512 user password salt iterations nonce = ScramSha512 user password salt iterations nonce
 
 -- what a listener with one user has stored for a name
 abbrev pub stored_for : Account → List ℕ → Option StoredPassword
@@ -90,45 +136,48 @@ IsAskedListener user password salt iterations nonce = IsAllowedUser user × IsAl
 
 -- user, password, nonce, salt and count of a layer that was asked for are allowed
 abbrev pub IsAskedSo : SaslCall → Type 0
-IsAskedSo (call.Client (profile.ScramSha256 user password nonce) hostname) = IsAskedClient user password nonce
-IsAskedSo (call.Listener (accept.ScramSha256 user password salt iterations nonce)) = IsAskedListener user password salt iterations nonce
+IsAskedSo (call.Client p hostname) = IsAskedClient (username_of p) (password_of p) (nonce_of p)
+IsAskedSo (call.Listener a) = IsAskedListener (accept_username a) (accept_password a) (accept_salt a) (accept_iterations a) (accept_nonce a)
 
--- a client's end for this user, password, nonce and host, all of which are allowed
-pub record IsClientFor (user password nonce : List ℕ) (hostname : Option (List ℕ)) (x : ClientEnd) : Type 0 where
+-- a client's end with this hash function for this user, password, nonce and host, all of which are allowed
+pub record IsClientFor (hash : ScramHash) (user password nonce : List ℕ) (hostname : Option (List ℕ)) (x : ClientEnd) : Type 0 where
+  pub hash_is : x.hash ≡ hash
   pub user_is : x.client.user ≡ user
   pub password_is : x.client.password ≡ password
   pub nonce_is : x.client.nonce ≡ nonce
   pub hostname_is : x.hostname ≡ hostname
   pub asked : IsAskedClient user password nonce
 
--- a listener's end for this user, with what is kept of the password with a salt and a count (RFC 5802, section 3), all of which are allowed
-pub record IsListenerFor (user password salt : List ℕ) (iterations : ℕ) (nonce : List ℕ) (x : ServerEnd Account) : Type 0 where
-  pub account : x.server.provider ≡ record { user = user; password = password; stored = Some (stored_of sha256 64 32 password salt iterations) }
+-- a listener's end with this hash function for this user, with what is kept of the password with a salt and a count (RFC 5802, section 3),
+-- all of which are allowed
+pub record IsListenerFor (hash : ScramHash) (user password salt : List ℕ) (iterations : ℕ) (nonce : List ℕ) (x : ServerEnd Account) : Type 0 where
+  pub hash_is : x.hash ≡ hash
+  pub account : x.server.provider ≡ record { user = user; password = password; stored = Some (stored_of (digest_of hash) (block_of hash) (output_of hash) password salt iterations) }
   pub nonce_is : x.server.nonce ≡ nonce
   pub asked : IsAskedListener user password salt iterations nonce
 
 -- the exchange is the one that a call begins
 abbrev pub MadeFor : SaslCall → Authentication → Type 0
-MadeFor (call.Client (profile.ScramSha256 user password nonce) hostname) Idle = ⊥
-MadeFor (call.Client (profile.ScramSha256 user password nonce) hostname) (Client x) = IsClientFor user password nonce hostname x
-MadeFor (call.Client (profile.ScramSha256 user password nonce) hostname) (Listener x) = ⊥
-MadeFor (call.Listener (accept.ScramSha256 user password salt iterations nonce)) Idle = ⊥
-MadeFor (call.Listener (accept.ScramSha256 user password salt iterations nonce)) (Client x) = ⊥
-MadeFor (call.Listener (accept.ScramSha256 user password salt iterations nonce)) (Listener x) = IsListenerFor user password salt iterations nonce x
+MadeFor (call.Client p hostname) Idle = ⊥
+MadeFor (call.Client p hostname) (Client x) = IsClientFor (hash_of p) (username_of p) (password_of p) (nonce_of p) hostname x
+MadeFor (call.Client p hostname) (Listener x) = ⊥
+MadeFor (call.Listener a) Idle = ⊥
+MadeFor (call.Listener a) (Client x) = ⊥
+MadeFor (call.Listener a) (Listener x) = IsListenerFor (accept_hash a) (accept_username a) (accept_password a) (accept_salt a) (accept_iterations a) (accept_nonce a) x
 
 -- what was asked for an exchange is allowed
 pub asked_so : (asked : SaslCall) (x : Authentication) → MadeFor asked x → IsAskedSo asked
-asked_so (call.Client (profile.ScramSha256 user password nonce) hostname) Idle m = absurd m
-asked_so (call.Client (profile.ScramSha256 user password nonce) hostname) (Client x) m = m.asked
-asked_so (call.Client (profile.ScramSha256 user password nonce) hostname) (Listener x) m = absurd m
-asked_so (call.Listener (accept.ScramSha256 user password salt iterations nonce)) Idle m = absurd m
-asked_so (call.Listener (accept.ScramSha256 user password salt iterations nonce)) (Client x) m = absurd m
-asked_so (call.Listener (accept.ScramSha256 user password salt iterations nonce)) (Listener x) m = m.asked
+asked_so (call.Client p hostname) Idle m = absurd m
+asked_so (call.Client p hostname) (Client x) m = m.asked
+asked_so (call.Client p hostname) (Listener x) m = absurd m
+asked_so (call.Listener a) Idle m = absurd m
+asked_so (call.Listener a) (Client x) m = absurd m
+asked_so (call.Listener a) (Listener x) m = m.asked
 
 -- user and password are in the profile
 abbrev pub HasAllowedTexts : SaslCall → Type 0
-HasAllowedTexts (call.Client (profile.ScramSha256 user password nonce) hostname) = IsAllowedUser user × IsAllowedPassword password
-HasAllowedTexts (call.Listener (accept.ScramSha256 user password salt iterations nonce)) = IsAllowedUser user × IsAllowedPassword password
+HasAllowedTexts (call.Client p hostname) = IsAllowedUser (username_of p) × IsAllowedPassword (password_of p)
+HasAllowedTexts (call.Listener a) = IsAllowedUser (accept_username a) × IsAllowedPassword (accept_password a)
 
 -- why a call begins no exchange
 abbrev pub IsCallRefusal : SaslCall → NegotiationError → Type 0

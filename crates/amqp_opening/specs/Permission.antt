@@ -1,12 +1,12 @@
 -- Which exchanges of the SASL layer may be asked for.
 use Rattle.std.specs.Prelude.{◌≤◌, ℕ, List, length}
 use Rattle.sasl_gate.specs.declared.gate.client.SaslProfile.{SaslProfile}
-use Rattle.sasl_gate.specs.declared.gate.client.SaslProfile.TheVariants as profile
+use Rattle.sasl_gate.specs.ClientGate.{nonce_of}
 use Rattle.sasl_gate.specs.Profile.{IsNonce, IsAllowedCount}
 use Rattle.amqp_opening.specs.declared.acceptor.AcceptSasl.{AcceptSasl}
-use Rattle.amqp_opening.specs.declared.acceptor.AcceptSasl.TheVariants as accept
 use Rattle.amqp_opening.specs.declared.authentication.SaslCall.{SaslCall}
 use Rattle.amqp_opening.specs.declared.authentication.SaslCall.TheVariants as call
+use Rattle.amqp_opening.specs.Authentication.{accept_salt, accept_iterations, accept_nonce}
 
 -- what a listener is told about its user
 pub record IsAllowedAccept (salt : List ℕ) (iterations : ℕ) (nonce : List ℕ) : Type 0 where
@@ -17,11 +17,11 @@ pub record IsAllowedAccept (salt : List ℕ) (iterations : ℕ) (nonce : List �
 
 -- what a client may authenticate with
 abbrev pub IsAllowedProfile : SaslProfile → Type 0
-IsAllowedProfile (profile.ScramSha256 username password nonce) = IsNonce nonce
+IsAllowedProfile p = IsNonce (nonce_of p)
 
 -- whom a listener may let in
 abbrev pub IsAllowedSasl : AcceptSasl → Type 0
-IsAllowedSasl (accept.ScramSha256 username password salt iterations nonce) = IsAllowedAccept salt iterations nonce
+IsAllowedSasl a = IsAllowedAccept (accept_salt a) (accept_iterations a) (accept_nonce a)
 
 -- an exchange that may be asked for
 abbrev pub IsAllowedSaslCall : SaslCall → Type 0

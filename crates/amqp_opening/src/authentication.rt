@@ -1,21 +1,20 @@
 //! The SASL exchange of an end: a client's, or a listener's with one user (OASIS AMQP 1.0, part 5, section 5.3).
 ghost use Rattle.std.specs.Prelude.{◌≡◌, ◌≤◌, List, [], length, IfOk, IfErr};
 ghost use Rattle.base64.specs.GeneralPurpose.{IsBytes};
-ghost use Rattle.sha2.specs.Sha256.{sha256};
 ghost use Rattle.sasl_gate.specs.Check.{stored_of};
+ghost use Rattle.sasl_gate.specs.Hashes.{digest_of, block_of, output_of};
 ghost use Rattle.sasl_gate.specs.Profile.{IsAllowedPassword, IsAllowedCount};
 ghost use Rattle.sasl_gate.specs.Refusals.{IsTextRefusal};
 ghost use Rattle.amqp_opening.specs.Authentication.{holds_by, causes_by, owes_by, turn_by, left_by, same_by, peer_refusal, peer_same_self, peer_same_then, MadeFor, IsCallRefusal, IsErrorOf};
 ghost use Rattle.amqp_opening.specs.Permission.{IsAllowedProfile, IsAllowedSasl, IsAllowedSaslCall};
 
-use crate::acceptor::AcceptSasl;
+use crate::acceptor::{AcceptSasl, Accepting};
 use amqp_composites::sasl_body::SaslBody;
 use amqp_text::Text;
-use kdf_core::Sha256Fn;
 use sasl_gate::gate::exchange::{Exchange, Turn, Verdict};
 use sasl_gate::{
-    ClientExchange, NegotiationError, OneUser, SaslProfile, ScramErrorKind, ServerExchange,
-    StoredPassword,
+    ClientExchange, NegotiationError, OneUser, SaslProfile, ScramErrorKind, ScramHash,
+    ServerExchange, StoredPassword,
 };
 use std::alloc::{AllocError, Global};
 
@@ -125,17 +124,18 @@ fn client_exchange(
 // What a listener keeps of the password, with a salt, which is bytes.
 fn stored_with(
     alloc: Global,
+    hash: ScramHash,
     password: &str,
     salt: &[u8],
     iterations: u32,
 ) -> Result<StoredPassword, ScramErrorKind>
     requires salt { (1 ≤ length salt.now) × (length salt.now ≤ 64) }
     requires iterations { IsAllowedCount iterations }
-    ensures ok { IfOk result (λ p. p ≡ stored_of sha256 64 32 password.now salt.now iterations) }
+    ensures ok { IfOk result (λ p. p ≡ stored_of (digest_of hash) (block_of hash) (output_of hash) password.now salt.now iterations) }
     ensures bytes { IsBytes salt.now }
     ensures err { IfErr result (λ e. IsTextRefusal (IsAllowedPassword password.now) e) }
 {
-    StoredPassword::derive::<Sha256Fn>(alloc, password, salt, iterations)
+    StoredPassword::derive_for(alloc, hash, password, salt, iterations)
 }
 
 // The one user of a listener, with what it keeps of the password.
@@ -148,19 +148,20 @@ fn listener_exchange(
     ensures begins { IfOk result (λ x. holds_by x [] []) }
     ensures err { IfErr result (IsCallRefusal (SaslCall.Listener acceptor)) }
 {
-    let AcceptSasl::ScramSha256 {
+    let Accepting {
+        hash,
         username,
         password,
         salt,
         iterations,
         nonce,
-    } = acceptor;
-    let stored = match stored_with(alloc, password.as_str(), salt.as_slice(), iterations) {
+    } = acceptor.into_parts();
+    let stored = match stored_with(alloc, hash, password.as_str(), salt.as_slice(), iterations) {
         Ok(stored) => stored,
         Err(kind) => return Err(error_of(kind)),
     };
     match OneUser::new(username, password, Some(stored)) {
-        Ok(user) => Ok(Authentication::Listener(ServerExchange::new(user, nonce))),
+        Ok(user) => Ok(Authentication::Listener(ServerExchange::new(hash, user, nonce))),
         Err(kind) => Err(NegotiationError::ScramError(kind)),
     }
 }

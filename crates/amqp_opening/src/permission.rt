@@ -19,7 +19,9 @@ pub fn is_allowed_profile(profile: &SaslProfile) -> bool
     ensures { IsTrue result ↔ IsAllowedProfile profile.now }
 {
     match profile {
-        SaslProfile::ScramSha256 { nonce, .. } => is_nonce(nonce.as_bytes()),
+        SaslProfile::ScramSha1 { nonce, .. }
+        | SaslProfile::ScramSha256 { nonce, .. }
+        | SaslProfile::ScramSha512 { nonce, .. } => is_nonce(nonce.as_bytes()),
     }
 }
 
@@ -29,7 +31,19 @@ pub fn is_allowed_acceptor(acceptor: &AcceptSasl) -> bool
     ensures { IsTrue result ↔ IsAllowedSasl acceptor.now }
 {
     match acceptor {
-        AcceptSasl::ScramSha256 {
+        AcceptSasl::ScramSha1 {
+            salt,
+            iterations,
+            nonce,
+            ..
+        }
+        | AcceptSasl::ScramSha256 {
+            salt,
+            iterations,
+            nonce,
+            ..
+        }
+        | AcceptSasl::ScramSha512 {
             salt,
             iterations,
             nonce,

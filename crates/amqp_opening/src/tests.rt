@@ -6,7 +6,7 @@ use amqp_text::{Binary, Text};
 use amqp_wire::codec::FramedCodec;
 use amqp_wire::pipe::Pipe;
 use sasl_gate::gate::exchange::Exchange;
-use sasl_gate::{NegotiationError, SASL_HEADER, SaslProfile};
+use sasl_gate::{NegotiationError, SASL_HEADER, SaslProfile, ScramHash};
 use std::alloc::Global;
 use std::process::Abort;
 use std::test::Fail;
@@ -72,15 +72,16 @@ fn client(rt: &impl Abort, alloc: Global) -> Result<Authentication, Fail> {
     Ok(exchange_for(alloc, call)?)
 }
 
-// The exchange of the listener of RFC 7677, section 3, with a short salt.
-fn listener(rt: &impl Abort, alloc: Global) -> Result<Authentication, Fail> {
-    let acceptor = AcceptSasl::ScramSha256 {
-        username: Text::from_str(alloc, "user")?,
-        password: Text::from_str(alloc, "pencil")?,
-        salt: Binary::from_slice(alloc, b"salt")?,
-        iterations: 2,
-        nonce: Text::from_str(alloc, "%hvYDpWUa2RaTCAfuxFIlj)hNlF$k0")?,
-    };
+// The exchange of the listener of RFC 7677, section 3, with this hash function and a short salt.
+fn listener(rt: &impl Abort, alloc: Global, hash: ScramHash) -> Result<Authentication, Fail> {
+    let acceptor = AcceptSasl::scram(
+        hash,
+        Text::from_str(alloc, "user")?,
+        Text::from_str(alloc, "pencil")?,
+        Binary::from_slice(alloc, b"salt")?,
+        2,
+        Text::from_str(alloc, "%hvYDpWUa2RaTCAfuxFIlj)hNlF$k0")?,
+    );
     let call = SaslCall::Listener(acceptor.try_clone(alloc)?);
     assert!(rt; is_allowed(&call));
     Ok(exchange_for(alloc, call)?)
@@ -111,9 +112,24 @@ fn other_headers_are_refused(rt: HostRuntime) -> Result<(), Fail> {
     let exchange = client(&rt, alloc)?;
     let sasl = begun(alloc, Authentication::Idle, Some(exchange))?;
     refused(&rt, sasl, &AMQP_HEADER, error, &SASL_HEADER)?;
-    let exchange = listener(&rt, alloc)?;
+    let exchange = listener(&rt, alloc, ScramHash::Sha256)?;
     let sasl = begun(alloc, Authentication::Idle, Some(exchange))?;
     refused(&rt, sasl, &AMQP_HEADER, error, &SASL_HEADER)
+}
+
+// Part 5, section 5.3.2: the listener offers its mechanism behind its header.
+#[test]
+fn listener_offers_its_mechanism(rt: HostRuntime) -> Result<(), Fail> {
+    let alloc = rt.alloc();
+    let exchange = listener(&rt, alloc, ScramHash::Sha1)?;
+    let sasl = begun(alloc, Authentication::Idle, Some(exchange))?;
+    let (name, codec) = codec_after(sasl, &SASL_HEADER)?;
+    assert!(rt; name == "pending");
+    let link = codec.into_link();
+    let output =
+        b"AMQP\x03\x01\x00\x00\x00\x00\x00\x1e\x02\x01\x00\x00\x00\x53\x40\xc0\x11\x01\xe0\x0e\x01\xa3\x0bSCRAM-SHA-1";
+    assert!(rt; link.output() == output.as_slice());
+    Ok(())
 }
 
 // The AMQP header comes byte by byte, the last one with what follows it.

@@ -27,6 +27,8 @@ fn lines_of_the_grammar(rt: HostRuntime) -> Result<(), Fail> {
         "c 0 open id=c\n",
         "c 0 open id=\n",
         "c 0 open id=c sasl=none saslhost=h\n",
+        "c 0 open id=c sasl=sha1 user=u pass=p nonce=n\n",
+        "c 0 open id=c sasl=sha512 user=u pass=p nonce=n\n",
         "c 0 open nonce=n pass=p user=u sasl=sha256 id=\n",
         "c 0 open id=%C3%a4=%25 sasl=sha256 user=%20 pass=a=b nonce=%2C\n",
         "c 0 open id=c sasl=sha256 user= pass=%7f nonce=\n",
@@ -35,6 +37,8 @@ fn lines_of_the_grammar(rt: HostRuntime) -> Result<(), Fail> {
         "l 0 accept id=l host=h max=512 channels=1 idle=1000 sasl=none\n",
         "l 0 accept id=l sasl=sha256 user=u pass=p salt= rounds=0 nonce=n\n",
         "l 0 accept rounds=4294967295 id=l sasl=sha256 user=u pass=p salt=W22ZaJ0SNY7soEsUEjb6gQ== nonce=n\n",
+        "l 0 accept id=l sasl=sha1 user=u pass=p salt=AA== rounds=1 nonce=n\n",
+        "l 0 accept id=l sasl=sha512 user=u pass=p salt=AA== rounds=1 nonce=n\n",
         "c 0 close\n",
         "l 0 close error=amqp:x\n",
         "l 0 close error=\n",
@@ -105,7 +109,10 @@ fn openings_outside_the_grammar(rt: HostRuntime) -> Result<(), Fail> {
         "c 0 open id=c sasl=none nonce=n\n",
         "c 0 open id=c user=u pass=p nonce=n\n",
         "c 0 open id=c sasl=\n",
-        "c 0 open id=c sasl=sha512 user=u pass=p nonce=n\n",
+        "c 0 open id=c sasl=sha224 user=u pass=p nonce=n\n",
+        "c 0 open id=c sasl=SHA1 user=u pass=p nonce=n\n",
+        "c 0 open id=c sasl=sha1 user=u pass=p\n",
+        "c 0 open id=c sasl=sha512\n",
         "c 0 open id=c sasl=sha256 user=u pass=p\n",
         "c 0 open id=c sasl=sha256 pass=p nonce=n\n",
         "c 0 open id=c sasl=sha256 user=u nonce=n\n",
@@ -118,6 +125,8 @@ fn openings_outside_the_grammar(rt: HostRuntime) -> Result<(), Fail> {
         "c 0 open id=\u{e4} sasl=sha256 user=u pass=p nonce=n\n",
         "l 0 accept id=l saslhost=h\n",
         "l 0 accept id=l sasl=none rounds=1\n",
+        "l 0 accept id=l sasl=sha224 user=u pass=p salt=AA== rounds=1 nonce=n\n",
+        "l 0 accept id=l sasl=sha512 user=u pass=p rounds=1 nonce=n\n",
         "l 0 accept id=l sasl=sha256 user=u pass=p rounds=1 nonce=n\n",
         "l 0 accept id=l sasl=sha256 user=u pass=p salt=AA== nonce=n\n",
         "l 0 accept id=l sasl=sha256 user=u pass=p salt=AA rounds=1 nonce=n\n",
@@ -225,7 +234,10 @@ fn what_a_client_opens_with(rt: HostRuntime) -> Result<(), Fail> {
         username,
         password,
         nonce,
-    } = sasl;
+    } = sasl
+    else {
+        return Err(Fail::from("another hash function"));
+    };
     assert_eq!(rt; username.as_str(), "a=b");
     assert_eq!(rt; password.as_str(), "%~");
     assert_eq!(rt; nonce.as_str(), ",\u{20ac}");
@@ -234,7 +246,7 @@ fn what_a_client_opens_with(rt: HostRuntime) -> Result<(), Fail> {
 
 #[test]
 fn whom_a_listener_lets_in(rt: HostRuntime) -> Result<(), Fail> {
-    let line = "l 0 accept id=l sasl=sha256 user=user pass=pencil salt=AAH/ rounds=4096 nonce=n\n";
+    let line = "l 0 accept id=l sasl=sha512 user=user pass=pencil salt=AAH/ rounds=4096 nonce=n\n";
     let Some(step) = only_step(rt.alloc(), line)? else {
         return Err(Fail::from("a line of the grammar is refused"));
     };
@@ -247,11 +259,14 @@ fn whom_a_listener_lets_in(rt: HostRuntime) -> Result<(), Fail> {
     else {
         return Err(Fail::from("no accept"));
     };
-    let AcceptSasl::ScramSha256 {
+    let AcceptSasl::ScramSha512 {
         salt,
         iterations,
         ..
-    } = sasl;
+    } = sasl
+    else {
+        return Err(Fail::from("another hash function"));
+    };
     assert_eq!(rt; salt.as_slice(), [0, 1, 255].as_slice());
     assert_eq!(rt; *iterations, 4096);
     Ok(())

@@ -3,14 +3,15 @@ ghost use Rattle.std.specs.Prelude.{◌≡◌};
 ghost use Rattle.amqp_script.specs.Words.{words_left};
 ghost use Rattle.amqp_script.specs.Keys.{has_only as only_test};
 ghost use Rattle.amqp_script.specs.Fields.{Says};
-ghost use Rattle.amqp_script.specs.Sasl.{kind_of_word, kind_in, open_keys, accept_keys, profile_in, acceptor_in, client_sasl_in, listener_sasl_in};
+ghost use Rattle.amqp_script.specs.Sasl.{hash_of_word, kind_of_word, kind_in, open_keys, accept_keys, scram_profile as profile_with, profile_in, acceptor_in, client_sasl_in, listener_sasl_in};
 
 use crate::script::fields::{required, salt, text, uint};
 use crate::script::keys::{Key, has_only, value_at};
 use crate::script::line_error::LineError;
 use crate::script::words::{Words, is_text};
+use amqp_text::Text;
 use amqp_words::AcceptSasl;
-use sasl_gate::SaslProfile;
+use sasl_gate::{SaslProfile, ScramHash};
 use std::alloc::Global;
 
 /// The kind of a SASL layer.
@@ -18,8 +19,8 @@ use std::alloc::Global;
 pub enum SaslKind {
     /// There is no SASL layer.
     Absent,
-    /// SCRAM-SHA-256 (RFC 7677).
-    ScramSha256,
+    /// SCRAM with this hash function (RFC 5802; RFC 7677).
+    Scram(ScramHash),
 }
 
 const OPEN_KEYS: [Key; 7] = [
@@ -68,6 +69,22 @@ const ACCEPT_SCRAM_KEYS: [Key; 11] = [
     Key::Nonce,
 ];
 
+/// The hash function of this name.
+fn read_hash(word: &[u8]) -> Option<ScramHash>
+    ensures { result ≡ hash_of_word word.now }
+{
+    if is_text(word, b"sha1") {
+        return Some(ScramHash::Sha1);
+    }
+    if is_text(word, b"sha256") {
+        return Some(ScramHash::Sha256);
+    }
+    if is_text(word, b"sha512") {
+        return Some(ScramHash::Sha512);
+    }
+    None
+}
+
 /// The kind of this name.
 fn read_kind(word: &[u8]) -> Result<SaslKind, LineError>
     ensures { Says (kind_of_word word.now) result }
@@ -75,10 +92,10 @@ fn read_kind(word: &[u8]) -> Result<SaslKind, LineError>
     if is_text(word, b"none") {
         return Ok(SaslKind::Absent);
     }
-    if is_text(word, b"sha256") {
-        return Ok(SaslKind::ScramSha256);
+    match read_hash(word) {
+        Some(hash) => Ok(SaslKind::Scram(hash)),
+        None => Err(LineError::Outside),
     }
-    Err(LineError::Outside)
 }
 
 /// The kind that the arguments name.
@@ -97,7 +114,7 @@ pub fn fits_open(kind: SaslKind, arguments: Words<'_>) -> bool
 {
     match kind {
         SaslKind::Absent => has_only(&OPEN_KEYS, arguments),
-        SaslKind::ScramSha256 => has_only(&OPEN_SCRAM_KEYS, arguments),
+        SaslKind::Scram(_) => has_only(&OPEN_SCRAM_KEYS, arguments),
     }
 }
 
@@ -107,38 +124,51 @@ pub fn fits_accept(kind: SaslKind, arguments: Words<'_>) -> bool
 {
     match kind {
         SaslKind::Absent => has_only(&ACCEPT_KEYS, arguments),
-        SaslKind::ScramSha256 => has_only(&ACCEPT_SCRAM_KEYS, arguments),
+        SaslKind::Scram(_) => has_only(&ACCEPT_SCRAM_KEYS, arguments),
     }
 }
 
-fn profile(alloc: Global, arguments: Words<'_>) -> Result<SaslProfile, LineError>
-    ensures { Says (profile_in (words_left arguments.entry)) result }
+/// SCRAM with a hash function, at a client.
+fn scram_profile(hash: ScramHash, username: Text, password: Text, nonce: Text) -> SaslProfile
+    ensures { result ≡ profile_with hash username password nonce }
+{
+    match hash {
+        ScramHash::Sha1 => SaslProfile::ScramSha1 {
+            username,
+            password,
+            nonce,
+        },
+        ScramHash::Sha256 => SaslProfile::ScramSha256 {
+            username,
+            password,
+            nonce,
+        },
+        ScramHash::Sha512 => SaslProfile::ScramSha512 {
+            username,
+            password,
+            nonce,
+        },
+    }
+}
+
+fn profile(alloc: Global, hash: ScramHash, arguments: Words<'_>) -> Result<SaslProfile, LineError>
+    ensures { Says (profile_in hash (words_left arguments.entry)) result }
 {
     let username = text(alloc, required(arguments, Key::User)?)?;
     let password = text(alloc, required(arguments, Key::Pass)?)?;
     let nonce = text(alloc, required(arguments, Key::Nonce)?)?;
-    Ok(SaslProfile::ScramSha256 {
-        username,
-        password,
-        nonce,
-    })
+    Ok(scram_profile(hash, username, password, nonce))
 }
 
-fn acceptor(alloc: Global, arguments: Words<'_>) -> Result<AcceptSasl, LineError>
-    ensures { Says (acceptor_in (words_left arguments.entry)) result }
+fn acceptor(alloc: Global, hash: ScramHash, arguments: Words<'_>) -> Result<AcceptSasl, LineError>
+    ensures { Says (acceptor_in hash (words_left arguments.entry)) result }
 {
     let username = text(alloc, required(arguments, Key::User)?)?;
     let password = text(alloc, required(arguments, Key::Pass)?)?;
     let salt = salt(alloc, required(arguments, Key::Salt)?)?;
     let iterations = uint(required(arguments, Key::Rounds)?)?;
     let nonce = text(alloc, required(arguments, Key::Nonce)?)?;
-    Ok(AcceptSasl::ScramSha256 {
-        username,
-        password,
-        salt,
-        iterations,
-        nonce,
-    })
+    Ok(AcceptSasl::scram(hash, username, password, salt, iterations, nonce))
 }
 
 /// What a client authenticates with, if there is a SASL layer.
@@ -151,8 +181,8 @@ pub fn client_sasl(
 {
     match kind {
         SaslKind::Absent => Ok(None),
-        SaslKind::ScramSha256 => {
-            let profile = profile(alloc, arguments)?;
+        SaslKind::Scram(hash) => {
+            let profile = profile(alloc, hash, arguments)?;
             Ok(Some(profile))
         }
     }
@@ -168,8 +198,8 @@ pub fn listener_sasl(
 {
     match kind {
         SaslKind::Absent => Ok(None),
-        SaslKind::ScramSha256 => {
-            let acceptor = acceptor(alloc, arguments)?;
+        SaslKind::Scram(hash) => {
+            let acceptor = acceptor(alloc, hash, arguments)?;
             Ok(Some(acceptor))
         }
     }
