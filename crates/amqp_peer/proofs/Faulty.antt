@@ -1,5 +1,5 @@
 -- Why the transport of a connection failed, in words of its history.
-use Rattle.std.proofs.Common.{◌≡◌, inl, inr, ℕ, List, [], ◌++◌, refl, sym, ap, ◌∙◌, subst, append_assoc, arith}
+use Rattle.std.proofs.Common.{◌≡◌, ◌≤◌, inl, inr, ℕ, List, [], ◌∷◌, ◌++◌, length, Some, refl, sym, ap, ◌∙◌, subst, append_assoc, arith}
 use Rattle.std.proofs.lemmas.List.{append-nil}
 use Rattle.amqp_wire.specs.declared.link.Link.{Ghosts}
 use Rattle.amqp_wire.specs.declared.link.Held.TheVariants.{Failed as FailedWrite}
@@ -18,6 +18,7 @@ use Rattle.amqp_engine.specs.Faults.{IsFault}
 use Rattle.amqp_engine.specs.Sentence.{Ran, read_limit}
 use Rattle.amqp_engine.specs.State.{State}
 use Rattle.amqp_words.specs.declared.call.Call.{Call}
+use Rattle.amqp_peer.specs.declared.prepared.Prepared.{Prepared}
 use Rattle.amqp_peer.specs.Causes.{prepared_in, has_layer, idle_with, largest_of, IsLayerRead, IsReadTo, BeginsWithOpen, EndsExchange, HasIdled, TransportCause, IsRecent, IsBrokenBy}
 use Rattle.amqp_peer.specs.History.{Local, made_in, link_in, latest_in, given_in, sent_in, moment_in, since_in, at_link}
 use Rattle.amqp_peer.specs.Peering.{IsRunning}
@@ -72,6 +73,14 @@ limit_after call s s' h r k prep none =
     let own : largest_of (prepared_in (made_in (moved r ++ h))) ≡ s.settings.largest_read = ap (λ (cs : List (ℕ × Call)). largest_of (prepared_in cs)) (made_after h (passed r)) ∙ ap largest_of (prep ∙ k.prepared) ∙ sym k.own in
     k.runs.bounded.reads ∙ sym (ap (λ (n : ℕ). read_limit n (given_in (moved r ++ h))) own ∙ ap (λ (u : List Frame). read_limit s.settings.largest_read u) (given_none h r none))
 
+-- a call was made before it
+called_by : (cs : List (ℕ × Call)) (p : Prepared) → prepared_in cs ≡ Some p → 1 ≤ length cs
+called_by [] p e = absurd (cc e)
+called_by (c ∷ cs) p e = omega arith
+
+called_after : {L : Type 0} {link : Ghosts L} (call : Call) (s s' : State L) (h : List Local) (r : Ran link s s') → IsRunning call s h → prepared_in (made_in h) ≡ prepared_of call → 1 ≤ length (made_in (moved r ++ h))
+called_after call s s' h r k prep = called_by (made_in (moved r ++ h)) k.p (ap prepared_in (made_after h (passed r)) ∙ prep ∙ k.prepared)
+
 -- the link failed in it, or its input ended
 failed_after : {L : Type 0} {link : Ghosts L} {s s' : State L} (P : List LinkEvent → Type 0) (h : List Local) (r : Ran link s s') → ((es fs : List LinkEvent) → P es → P (es ++ fs)) → P r.events → P (link_in (moved r ++ h)) × P (latest_in (moved r ++ h))
 failed_after P h r more c =
@@ -93,7 +102,7 @@ broken_after link at call s s' h r fault.DecodeError k prep m none c =
 broken_after link at call s s' h r fault.NotImplemented k prep m none c =
     broken_at fault.NotImplemented (moved r ++ h) (record { limit = s.wire.codec.decoder; rest = s.wire.codec.input ++ read_of r.events; is_limit = limit_after call s s' h r k prep none; read = read_after call s s' h r k none; foreign = c }) tt
 broken_after link at call s s' h r fault.FramingError k prep m none (inl c) =
-    broken_at fault.FramingError (moved r ++ h) (inl (record { limit = s.wire.codec.decoder; rest = s.wire.codec.input ++ read_of r.events; is_limit = limit_after call s s' h r k prep none; read = read_after call s s' h r k none; refused = c })) tt
+    broken_at fault.FramingError (moved r ++ h) (inl (record { called = called_after call s s' h r k prep; limit = s.wire.codec.decoder; rest = s.wire.codec.input ++ read_of r.events; is_limit = limit_after call s s' h r k prep none; read = read_after call s s' h r k none; refused = c })) tt
 broken_after link at call s s' h r fault.FramingError k prep m none (inr c) = absurd (owes_little s k.runs.limited c)
 
 -- a frame of a call was too large, and then nothing was read or queued

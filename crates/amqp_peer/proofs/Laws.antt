@@ -32,7 +32,7 @@ use Rattle.amqp_peer.specs.declared.peer.Progress.{Progress}
 use Rattle.amqp_peer.specs.declared.peer.Progress.TheVariants as progress
 use Rattle.amqp_peer.specs.declared.prepared.Prepared.{Prepared}
 use Rattle.amqp_peer.specs.Calls.{IsFirstCall, IsClose, IsValidCall}
-use Rattle.amqp_peer.specs.Causes.{prepared_in, AllCaused, IsQueued, IsTakenUp, IsTied, IsLast, IsSpent, uncalled, answered, left, mistaken, broken}
+use Rattle.amqp_peer.specs.Causes.{prepared_in, AllCaused, IsQueued, IsTakenUp, IsTied, StartsWithin, IsLast, IsSpent, uncalled, answered, left, mistaken, broken}
 use Rattle.amqp_peer.specs.Gated.{IsTalk, IsGatedIn, IsGated}
 use Rattle.amqp_peer.specs.Held.{IsMidway, IsReadyWith, IsExchangedWith, IsExchanged, IsBusyWith, IsBusy, IsLeavingIn, IsActive, IsSorted, link_at, with_link}
 use Rattle.amqp_peer.specs.History.{Local, made_in, link_in, given_in, sent_in, replied_in, read_in, wrote_in}
@@ -124,6 +124,7 @@ running_with call s w h k =
       runs = engine_with k.unwritten k.arrived s w (record { events = k.since; given = given_in h; sent = sent_in h }) k.runs;
       began = k.began;
       opens = k.opens;
+      starts = k.starts;
       says = k.says;
       idle = k.idle;
       own = k.own;
@@ -361,10 +362,18 @@ tied_none h g s q =
       said = q;
       framed = subst (λ (xs : List Frame). All IsFramed xs) (sym s) (All-nil IsFramed);
       sized = subst (λ (xs : List Frame). AllWithin (write_limit (given_in h)) xs) (sym s) tt;
+      starts = subst (StartsWithin 512) (sym s) tt;
     }
 
 tied_running : {L : Type 0} (call : Call) (s : State L) (h : List Local) → IsRunning call s h → IsTied h
-tied_running call s h k = record { heard = inr (s.wire.codec.input ++ [], read_running call s h [] k); said = queued_running call s h k; framed = k.runs.framed; sized = subst (λ (n : ℕ). AllWithin n (sent_in h)) (k.runs.limited.told ∙ k.runs.bounded.writes) k.runs.sized }
+tied_running call s h k =
+    record {
+      heard = inr (s.wire.codec.input ++ [], read_running call s h [] k);
+      said = queued_running call s h k;
+      framed = k.runs.framed;
+      sized = subst (λ (n : ℕ). AllWithin n (sent_in h)) (k.runs.limited.told ∙ k.runs.bounded.writes) k.runs.sized;
+      starts = k.starts;
+    }
 
 sent_early : {L : Type 0} (s : Stage) (call : Call) (o : Opened L Authentication) (p : Option Prepared) (h : List Local) → IsHeldAt s call o p h → sent_in h ≡ []
 sent_early stage.Idle call o p h k = absurd k

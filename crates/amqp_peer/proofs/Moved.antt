@@ -11,7 +11,7 @@ use Rattle.amqp_engine.specs.State.{State}
 use Rattle.amqp_engine.proofs.Says.{goes_on}
 use Rattle.amqp_words.specs.declared.call.Call.{Call}
 use Rattle.amqp_words.specs.declared.reply.NamedReply.{NamedReply}
-use Rattle.amqp_peer.specs.Causes.{prepared_in, has_layer, AllCaused, BeginsWithOpen, EndsExchange}
+use Rattle.amqp_peer.specs.Causes.{prepared_in, has_layer, AllCaused, BeginsWithOpen, StartsWithin, EndsExchange}
 use Rattle.amqp_peer.specs.History.{Local, made_in, link_in, given_in, sent_in, replied_in, moment_in, since_in, at_link, got, put, IsInside}
 use Rattle.amqp_peer.specs.Peering.{IsRunning}
 use Rattle.amqp_peer.proofs.Histories.{link_in-append, given_in-append, sent_in-append, replied_in-append, inside-append, moment_in-inside, made_in-keeps, given_in-at, sent_in-at, replied_in-at, link_in-at, inside-at, since_in-at, caused-at, given_in-got, sent_in-got, link_in-got, replied_in-got, inside-got, caused-got, sent_in-put, given_in-put, link_in-put, replied_in-put, inside-put, caused-put, since_in-put, once_more}
@@ -86,6 +86,11 @@ since_after at r h m (inr k) s = k.2 ∙ sym m ∙ sym (since_one r.events r.giv
 pub begins_more : (xs ys : List Frame) → BeginsWithOpen xs → BeginsWithOpen (xs ++ ys)
 begins_more xs ys b = record { channel = b.channel; first = b.first; more = b.more ++ ys; is = ap (λ (u : List Frame). u ++ ys) b.is }
 
+-- and the first frame stays within its size
+starts_more : (limit : ℕ) (xs ys : List Frame) → BeginsWithOpen xs → StartsWithin limit xs → StartsWithin limit (xs ++ ys)
+starts_more limit [] ys b s = absurd (cc b.is)
+starts_more limit (x ∷ xs) ys b s = s
+
 -- a connection that went on goes on behind its headers
 pub running_grows : {L : Type 0} (link : Ghosts L) (at : ℕ) (call : Call) (old new : State L) (h : List Local) (r : Ran link old new) → IsMoment at old r.given new → IsDue (made_in h) old.phase r.queued → moment_in h ≡ at → IsRunning call old h → IsRunning call new (moved r ++ h)
 running_grows {L} link at call old new h r moment d m k =
@@ -108,6 +113,7 @@ running_grows {L} link at call old new h r moment d m k =
           (goes_on link k.unwritten k.arrived old new (record { events = k.since; given = given_in h; sent = sent_in h }) r k.runs));
       began = once_more EndsExchange (moved r) h k.began;
       opens = subst BeginsWithOpen (sym (sent_after h p)) (begins_more (sent_in h) r.queued k.opens);
+      starts = subst (StartsWithin 512) (sym (sent_after h p)) (starts_more 512 (sent_in h) r.queued k.opens k.starts);
       says = has_said (moved r ++ h) (made_in h) (given_in h ++ r.given) (sent_in h ++ r.queued) (made_after h p) (given_after h p) (sent_after h p)
           (said_stays (prepared_in (made_in h)) (made_in h) (given_in h) r.given (sent_in h ++ r.queued)
           (said_due old.phase new.phase old.reason (prepared_in (made_in h)) (made_in h) (given_in h) (sent_in h) r.queued d k.runs.said k.runs.heard (r.said (sent_in h) k.runs.said) k.says));

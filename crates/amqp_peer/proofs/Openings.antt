@@ -16,6 +16,7 @@ use Rattle.amqp_engine.specs.Sentence.{Has as EngineHas, write_limit}
 use Rattle.amqp_engine.specs.Phases.{has_failed}
 use Rattle.amqp_engine.specs.Settings.{open_of}
 use Rattle.amqp_engine.specs.State.{State, open_frame}
+use Rattle.amqp_engine.proofs.Runs.{within}
 use Rattle.amqp_engine.proofs.Says.{starts, starts_calm}
 use Rattle.sasl_gate.specs.declared.gate.error.NegotiationError.{NegotiationError}
 use Rattle.sasl_gate.specs.Negotiation.{IsHeldUp}
@@ -36,7 +37,7 @@ use Rattle.amqp_peer.specs.declared.held.Held.TheVariants.{Early, Late, Unopened
 use Rattle.amqp_peer.specs.declared.peer.Progress.{Progress}
 use Rattle.amqp_peer.specs.declared.peer.Progress.TheVariants as progress
 use Rattle.amqp_peer.specs.declared.prepared.Prepared.{Prepared}
-use Rattle.amqp_peer.specs.Causes.{MadeIn, has_layer, IsQueued, IsOpenCause, in_opening, OpenCauseIn, BeginsWithOpen, opening as own_opening, prepared_in}
+use Rattle.amqp_peer.specs.Causes.{MadeIn, has_layer, IsQueued, IsOpenCause, in_opening, OpenCauseIn, BeginsWithOpen, StartsWithin, opening as own_opening, prepared_in}
 use Rattle.amqp_peer.specs.Held.{IsReadyWith, IsMidway, IsBusyWith, IsBusy, IsExchangedWith, bound, link_at}
 use Rattle.amqp_peer.specs.History.{Local, Put, Exchanged, Replied, made_in, link_in, given_in, sent_in, moment_in, at_link}
 use Rattle.amqp_peer.specs.Layers.{HasLayer}
@@ -324,6 +325,7 @@ begins_running {L} at call o p s h r c t own k =
           (starts o.negotiation.codec.output o.negotiation.codec.input w p.end s c refl refl));
       began = record { later = Put (open_frame p.end) ∷ []; earlier = Exchanged ∷ h; split = refl; held = let i = intro_read o.has_sasl o.negotiation.exchange (amqp_header ++ o.negotiation.codec.input) o.negotiation.codec.output (link_in h) opening in (i.head, o.negotiation.codec.input, i.is) };
       opens = subst (λ (xs : List Frame). BeginsWithOpen (xs ++ open_frame p.end ∷ [])) (sym k.sent) (record { channel = 0; first = open_of p.end; more = []; is = refl });
+      starts = subst (λ (xs : List Frame). StartsWithin 512 (xs ++ open_frame p.end ∷ [])) (sym k.sent) (within 512 (open_frame p.end) c.0);
       says = subst (λ (xs : List Frame). IsSaidFor (prepared_in (made_in h)) (made_in h) (given_in h) (xs ++ open_frame p.end ∷ [])) (sym k.sent) (inr (inl (record { own = p; is_own = own ∙ k.prepared; more = []; each = tt; is = refl })));
       idle = ap (λ (z : State L). z.wire.clock.idle) c.1;
       own = ap (λ (z : State L). z.settings.largest_read) c.1;

@@ -75,7 +75,7 @@ answer_not p.Failed s x e = absurd (cc e)
 
 front_part : (kind limit : ℕ) (bytes : List ℕ) → IsFront kind limit bytes Partial → IsPart bytes
 front_part kind limit bytes (inl a) = inl a
-front_part kind limit bytes (inr a) = inr a.1
+front_part kind limit bytes (inr a) = inr a.less
 
 ends_not : {L : Type 0} (input : List ℕ) (old new : Wire L) → old.codec.input ≡ input → Ends {X = Frame} old (Ok next.Pending) new → ⊥
 ends_not [] old new e n = absurd (cc (n.whole e).0)

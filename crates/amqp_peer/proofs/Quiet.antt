@@ -21,7 +21,7 @@ use Rattle.amqp_peer.specs.declared.held.Held.TheVariants.{Early, Late, Unopened
 use Rattle.amqp_peer.specs.declared.peer.Progress.{Progress}
 use Rattle.amqp_peer.specs.declared.peer.Progress.TheVariants as progress
 use Rattle.amqp_peer.specs.declared.prepared.Prepared.{Prepared}
-use Rattle.amqp_peer.specs.Causes.{has_layer, IsLayerWritten, IsTail, IsQueued, BeginsWithOpen, IsOther, IsBrokenBy, AllCaused, EndsExchange}
+use Rattle.amqp_peer.specs.Causes.{has_layer, IsLayerWritten, IsTail, IsQueued, BeginsWithOpen, StartsWithin, IsOther, IsBrokenBy, AllCaused, EndsExchange}
 use Rattle.amqp_peer.specs.Gated.{IsGatedIn}
 use Rattle.amqp_peer.specs.History.{Local, Made, Polled, Replied, made_in, link_in, given_in, sent_in, since_in, Once}
 use Rattle.amqp_peer.specs.Peering.{Peering, Has, HasIn, HasCalled, IsHeld, IsHeldAt, IsExchanging, IsRunning, IsUnmadeAt, IsUnmade, IsFaultIn, IsMadeIn, EarlyFault, LateFault, IsBrokenIn, IsBrokenHeld, HasNoFrames}
@@ -92,6 +92,7 @@ running_quiet call s h h' q k =
           (subst (λ (xs : List Frame). EngineHas k.unwritten k.arrived s (record { events = k.since; given = xs; sent = sent_in h })) (sym q.heard) k.runs);
       began = once_quiet EndsExchange h h' q k.began;
       opens = subst BeginsWithOpen (sym q.said) k.opens;
+      starts = subst (StartsWithin 512) (sym q.said) k.starts;
       says = has_said h' (made_in h') (given_in h) (sent_in h) refl q.heard q.said (said_added (made_in h) (made_in h') (given_in h) (sent_in h) q.calls k.says);
       idle = k.idle;
       own = k.own;

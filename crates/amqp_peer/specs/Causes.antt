@@ -1,5 +1,5 @@
 -- Why something was replied, by the calls, by what passed at the link and by the frames that were read and queued.
-use Rattle.std.specs.Prelude.{◌≡◌, ◌⊎◌, ◌<◌, ◌≤◌, ◌+◌, ℕ, List, [], ◌∷◌, ◌++◌, Bool, true, false, max, Option, Some, None, ⊤, All}
+use Rattle.std.specs.Prelude.{◌≡◌, ◌⊎◌, ◌<◌, ◌≤◌, ◌+◌, ℕ, List, [], ◌∷◌, ◌++◌, length, Bool, true, false, max, Option, Some, None, ⊤, All}
 use Rattle.amqp_composites.specs.declared.error.Error.{Error as AmqpError}
 use Rattle.amqp_composites.specs.declared.open.Open.{Open}
 use Rattle.amqp_composites.specs.declared.close.Close.{Close}
@@ -22,7 +22,7 @@ use Rattle.amqp_engine.specs.declared.error.Error.TheVariants as connection
 use Rattle.amqp_engine.specs.Calls.{IsTooLarge}
 use Rattle.amqp_engine.specs.Heard.{IsGreeted, IsRejected}
 use Rattle.amqp_engine.specs.Phases.{kind_of, IsInner}
-use Rattle.amqp_engine.specs.Sentence.{bytes_of_all, AllWithin, read_limit, write_limit}
+use Rattle.amqp_engine.specs.Sentence.{bytes_of_all, size_of_frame, AllWithin, read_limit, write_limit}
 use Rattle.amqp_engine.specs.Settings.{open_of}
 use Rattle.amqp_engine.specs.State.{open_frame, close_frame, IsFramed}
 use Rattle.sasl_gate.specs.declared.gate.error.NegotiationError.{NegotiationError}
@@ -165,13 +165,19 @@ pub record IsOut (h : List Local) : Type 0 where
 abbrev pub IsTakenUp : List Local → Type 0
 IsTakenUp h = (sent_in h ≡ []) ⊎ ((rest : List ℕ) × IsReadTo h rest × IsPart rest)
 
+-- the first frame, if there is one, is within that size
+abbrev pub StartsWithin : ℕ → List Frame → Type 0
+StartsWithin limit [] = ⊤
+StartsWithin limit (x ∷ xs) = size_of_frame x ≤ limit
+
 -- The frames of an end are those of the bytes that it read, if it has any, and wrote; each that it wrote is read again as it is (part 2,
--- section 2.3), and none is above the limit that its peer's Open tells, which is 512 before (section 2.4.1).
+-- section 2.3). None is above the limit that its peer's Open tells, and the first, which is Open, is of at most 512 bytes (section 2.4.1).
 pub record IsTied (h : List Local) : Type 0 where
   pub heard : (given_in h ≡ []) ⊎ ((rest : List ℕ) × IsReadTo h rest)
   pub said : IsQueued h
   pub framed : All IsFramed (sent_in h)
   pub sized : AllWithin (write_limit (given_in h)) (sent_in h)
+  pub starts : StartsWithin 512 (sent_in h)
 
 -- ---- causes
 
@@ -219,9 +225,10 @@ pub record IsOverlarge (h : List Local) : Type 0 where
   pub own : IsOwn (made_in h) x
   pub large : IsTooLarge limit x
 
--- what was read ends in a frame whose size is refused under the limit of this end, or whose body would lie outside of it (part 2, section
--- 2.3.1)
+-- after a call, what was read ends in a frame whose size is refused under the limit of this end, or whose body would lie outside of it
+-- (part 2, section 2.3.1)
 pub record IsRefusedAt (h : List Local) : Type 0 where
+  pub called : 1 ≤ length (made_in h)
   pub limit : ℕ
   pub rest : List ℕ
   pub is_limit : limit ≡ read_limit (largest_of (prepared_in (made_in h))) (given_in h)

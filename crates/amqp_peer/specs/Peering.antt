@@ -26,7 +26,7 @@ use Rattle.amqp_peer.specs.declared.peer.Progress.{Progress}
 use Rattle.amqp_peer.specs.declared.peer.Progress.TheVariants as progress
 use Rattle.amqp_peer.specs.declared.prepared.Prepared.{Prepared}
 use Rattle.amqp_peer.specs.Calls.{IsFirstCall, IsClose}
-use Rattle.amqp_peer.specs.Causes.{MadeIn, has_layer, BeginsWithOpen, IsOther, AllCaused, IsBrokenBy, IsBroken, EndsExchange, IsQueued, largest_of}
+use Rattle.amqp_peer.specs.Causes.{MadeIn, has_layer, BeginsWithOpen, IsOther, AllCaused, IsBrokenBy, IsBroken, EndsExchange, IsQueued, StartsWithin, largest_of}
 use Rattle.amqp_peer.specs.Gated.{IsGatedIn}
 use Rattle.amqp_peer.specs.Held.{IsMidway, IsBusy, IsLeavingIn, link_at, with_link, nothing_held}
 use Rattle.amqp_peer.specs.History.{Local, made_in, link_in, given_in, sent_in, replied_in, read_in, wrote_in, since_in, Once}
@@ -99,6 +99,7 @@ pub record IsRunning {L : Type 0} (call : Call) (s : State L) (h : List Local) :
   pub runs : EngineHas unwritten arrived s (record { events = since; given = given_in h; sent = sent_in h })
   pub began : Once EndsExchange h
   pub opens : BeginsWithOpen (sent_in h)
+  pub starts : StartsWithin 512 (sent_in h)
   pub says : HasSaid h
   pub idle : s.wire.clock.idle ≡ idle_of p.idle
   pub own : s.settings.largest_read ≡ largest_of (Some p)

@@ -252,8 +252,7 @@ impl<L: Link> Held<L> {
 
     /// Whether the connection has begun and stopped.
     pub fn has_stopped(&self) -> bool
-        requires { IsLate self.now }
-        ensures { result ≡ true → IsActive self.now → ⊥ }
+        ensures { IsTrue result ↔ IsStopped self.now }
     {
         match self {
             Held::Late(engine) => engine.stop_reason().is_some(),
