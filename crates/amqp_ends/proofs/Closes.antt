@@ -1,5 +1,5 @@
 -- Where nobody calls close, nobody says a Close.
-use Rattle.std.proofs.Common.{◌≡◌, ◌⊎◌, inl, inr, ℕ, List, [], ◌∷◌, ◌++◌, Option, sym, ◌∙◌, subst}
+use Rattle.std.proofs.Common.{inl, inr, ℕ, List, [], ◌∷◌, ◌++◌, Option, sym, subst}
 use Rattle.std.specs.Prelude.{map}
 use Rattle.amqp_composites.specs.declared.close.Close.{Close}
 use Rattle.amqp_composites.specs.declared.error.Error.{Error as AmqpError}

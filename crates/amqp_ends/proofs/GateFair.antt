@@ -1,29 +1,22 @@
 -- Why a negotiation fails between two ends.
-use Rattle.std.proofs.Common.{◌≡◌, ◌⊎◌, ◌≤◌, inl, inr, ℕ, List, [], ◌∷◌, ◌++◌, length, take, Bool, true, Option, Some, None, refl, sym, ap, ◌∙◌, subst}
+use Rattle.std.proofs.Common.{◌≡◌, ◌⊎◌, ◌≤◌, inl, inr, ℕ, List, [], ◌∷◌, ◌++◌, length, take, Bool, true, Option, Some, None, refl, sym, ◌∙◌, subst}
 use Rattle.amqp_composites.specs.declared.sasl_body.SaslBody.{SaslBody}
 use Rattle.amqp_engine.specs.Sentence.{bytes_of_all}
-use Rattle.sha2.specs.Sha256.{sha256}
 use Rattle.amqp_wire.specs.Events.{LinkEvent, read_of}
-use Rattle.sasl_gate.specs.declared.gate.client.SaslProfile.TheVariants as profile
+use Rattle.sasl_gate.specs.declared.gate.client.SaslProfile.{SaslProfile}
 use Rattle.sasl_gate.specs.declared.gate.error.NegotiationError.{NegotiationError}
 use Rattle.sasl_gate.specs.declared.gate.error.NegotiationError.TheVariants.{Memory, ProtocolHeaderMismatch, NotImplemented, SaslError, ScramError, Io, DecodeError, IllegalState, FramingError}
 use Rattle.sasl_gate.specs.declared.gate.exchange.Turn.TheVariants.{Pass}
 use Rattle.sasl_gate.specs.declared.scram.error.ScramErrorKind.TheVariants.{TextNotAllowed}
-use Rattle.sasl_gate.specs.Check.{stored_of}
-use Rattle.sasl_gate.specs.ClientGate.{ClientEnd, client_holds}
 use Rattle.sasl_gate.specs.Negotiation.{HeaderCause, IsHeard, IsOverlong, at_link, at_header, at_frame, by_body, too_long}
-use Rattle.sasl_gate.specs.Profile.{IsAllowedUser, IsNonce}
-use Rattle.sasl_gate.specs.ServerGate.{ServerEnd, server_holds}
-use Rattle.sasl_gate.specs.States.{Account}
-use Rattle.amqp_opening.specs.declared.acceptor.AcceptSasl.TheVariants as accept
+use Rattle.amqp_opening.specs.declared.acceptor.AcceptSasl.{AcceptSasl}
 use Rattle.amqp_opening.specs.declared.authentication.Authentication.{Authentication}
 use Rattle.amqp_opening.specs.declared.authentication.Authentication.TheVariants as exchange
 use Rattle.amqp_opening.specs.declared.authentication.SaslCall.{SaslCall}
 use Rattle.amqp_opening.specs.declared.authentication.SaslCall.TheVariants as layer
-use Rattle.amqp_opening.specs.Authentication.{IsAskedClient, IsAskedListener, IsClientFor, IsListenerFor, MadeFor, HasAllowedTexts, holds_by, owes_by, peer_mechanism, stored_for, turn_by}
+use Rattle.amqp_opening.specs.Authentication.{MadeFor, HasAllowedTexts, holds_by, owes_by, peer_mechanism, turn_by}
 use Rattle.amqp_opening.specs.Opening.{HasEnding, HasEndedSasl, IsPlainCause, IsSaslCause, IsSaslCauseAfter, at_amqp_header, at_plain_header, in_negotiation}
 use Rattle.amqp_opening.specs.Opening.{at_link as at_plain_link}
-use Rattle.amqp_pairs.specs.Joined.{AreEnds}
 use Rattle.amqp_pairs.specs.Streams.{IsSaid}
 use Rattle.amqp_words.specs.declared.call.Call.{Call}
 use Rattle.amqp_words.specs.declared.call.Call.TheVariants.{Open, Accept, Close}
@@ -76,48 +69,31 @@ opposite_layers near there (inr (a, b)) = inr (layer_of Listener near a, layer_o
 
 -- ---- the ends of an exchange
 
-module _ (user password nonce : List ℕ) (hostname : Option (List ℕ)) (user' password' salt : List ℕ) (count : ℕ) (nonce' : List ℕ) where
-  ends_of : (x : ClientEnd) (y : ServerEnd Account) → IsClientFor user password nonce hostname x → IsListenerFor user' password' salt count nonce' y
-      → IsAskedClient user password nonce → IsAskedListener user' password' salt count nonce' → (gc sc gl sl : List SaslBody) → client_holds x gc sc → server_holds stored_for y gl sl
-      → AreEnds x y salt count gc sc gl sl
-  ends_of x y m n (u, p, k) (u', p', s, c, k') gc sc gl sl held held' = record {
-    user_is = subst IsAllowedUser (sym m.user_is) u;
-    nonce_is = subst IsNonce (sym m.nonce_is) k;
-    own_is = subst IsNonce (sym n.nonce_is) k';
-    stored_is = ap (λ (a : Account). a.stored) n.account ∙ ap (λ (w : List ℕ). Some (stored_of sha256 64 32 w salt count)) (sym (ap (λ (a : Account). a.password) n.account));
-    salt_is = s;
-    count_is = c;
-    client = held;
-    listener = held';
-  }
+module _ (p : SaslProfile) (hostname : Option (List ℕ)) (a : AcceptSasl) (e : NegotiationError) (events : List LinkEvent) (calm : IsCalm events) (given sent given' sent' : List SaslBody)
+    (tc al lr tl ac more : List ℕ) (s : IsSaid (read_of events) tc al sent') (h : IsHeard lr given') (t : IsSaid lr tl ac sent) where
+  -- a client faces a listener
+  client_at : (x y : Authentication) → MadeFor (layer.Client p hostname) x → MadeFor (layer.Listener a) y
+      → holds_by x given sent → holds_by y given' sent' → IsBehind (turn_by y ≡ Pass) al more
+      → (c : IsSaslCause peer_mechanism x e events) → IsSaslCauseAfter peer_mechanism x e events given sent c
+      → IsFairNegotiation (Some (layer.Client p hostname)) (Some (layer.Listener a)) e
+  client_at exchange.Idle y m n held held' b c f = absurd m
+  client_at (exchange.Listener x) y m n held held' b c f = absurd m
+  client_at (exchange.Client x) exchange.Idle m n held held' b c f = absurd n
+  client_at (exchange.Client x) (exchange.Client y) m n held held' b c f = absurd n
+  client_at (exchange.Client x) (exchange.Listener y) m n held held' b c f =
+      client_fair p hostname a x y m n given sent given' sent' held held' events calm tc al lr tl ac more s b h t e c f
 
-  module _ (e : NegotiationError) (events : List LinkEvent) (calm : IsCalm events) (given sent given' sent' : List SaslBody) (tc al lr tl ac more : List ℕ)
-      (s : IsSaid (read_of events) tc al sent') (h : IsHeard lr given') (t : IsSaid lr tl ac sent) where
-    -- a client faces a listener
-    client_at : (x y : Authentication) → MadeFor (layer.Client (profile.ScramSha256 user password nonce) hostname) x → MadeFor (layer.Listener (accept.ScramSha256 user' password' salt count nonce')) y
-        → holds_by x given sent → holds_by y given' sent' → IsBehind (turn_by y ≡ Pass) al more
-        → (c : IsSaslCause peer_mechanism x e events) → IsSaslCauseAfter peer_mechanism x e events given sent c
-        → IsFairNegotiation (Some (layer.Client (profile.ScramSha256 user password nonce) hostname)) (Some (layer.Listener (accept.ScramSha256 user' password' salt count nonce'))) e
-    client_at exchange.Idle y m n held held' b c a = absurd m
-    client_at (exchange.Listener x) y m n held held' b c a = absurd m
-    client_at (exchange.Client x) exchange.Idle m n held held' b c a = absurd n
-    client_at (exchange.Client x) (exchange.Client y) m n held held' b c a = absurd n
-    client_at (exchange.Client x) (exchange.Listener y) m n held held' b c a =
-        client_fair user password nonce hostname user' password' salt count nonce' x y m n given sent given' sent' (ends_of x y m n m.asked n.asked given sent given' sent' held held')
-        events calm tc al lr tl ac more s b h t e c a
-
-    -- a listener faces a client
-    listener_at : (x y : Authentication) → MadeFor (layer.Listener (accept.ScramSha256 user' password' salt count nonce')) x → MadeFor (layer.Client (profile.ScramSha256 user password nonce) hostname) y
-        → holds_by x given sent → holds_by y given' sent' → IsBehind (turn_by y ≡ Pass) al more
-        → (c : IsSaslCause peer_mechanism x e events) → IsSaslCauseAfter peer_mechanism x e events given sent c
-        → IsFairNegotiation (Some (layer.Listener (accept.ScramSha256 user' password' salt count nonce'))) (Some (layer.Client (profile.ScramSha256 user password nonce) hostname)) e
-    listener_at exchange.Idle y m n held held' b c a = absurd m
-    listener_at (exchange.Client x) y m n held held' b c a = absurd m
-    listener_at (exchange.Listener x) exchange.Idle m n held held' b c a = absurd n
-    listener_at (exchange.Listener x) (exchange.Listener y) m n held held' b c a = absurd n
-    listener_at (exchange.Listener x) (exchange.Client y) m n held held' b c a =
-        listener_fair user password nonce hostname user' password' salt count nonce' y x n m given' sent' given sent (ends_of y x n m n.asked m.asked given' sent' given sent held' held)
-        events calm lr tl ac tc al more h t s b e c a
+  -- a listener faces a client
+  listener_at : (x y : Authentication) → MadeFor (layer.Listener a) x → MadeFor (layer.Client p hostname) y
+      → holds_by x given sent → holds_by y given' sent' → IsBehind (turn_by y ≡ Pass) al more
+      → (c : IsSaslCause peer_mechanism x e events) → IsSaslCauseAfter peer_mechanism x e events given sent c
+      → IsFairNegotiation (Some (layer.Listener a)) (Some (layer.Client p hostname)) e
+  listener_at exchange.Idle y m n held held' b c f = absurd m
+  listener_at (exchange.Client x) y m n held held' b c f = absurd m
+  listener_at (exchange.Listener x) exchange.Idle m n held held' b c f = absurd n
+  listener_at (exchange.Listener x) (exchange.Listener y) m n held held' b c f = absurd n
+  listener_at (exchange.Listener x) (exchange.Client y) m n held held' b c f =
+      listener_fair p hostname a y x n m given' sent' given sent held' held events calm lr tl ac tc al more h t s b e c f
 
 module _ (g far : List Local) (calm : IsCalm (link_in g)) (f : Faces g far) (e : NegotiationError) where
   -- ---- an end without a layer
@@ -125,7 +101,7 @@ module _ (g far : List Local) (calm : IsCalm (link_in g)) (f : Faces g far) (e :
   plain : (there : Option SaslCall) → layer_in (made_in far) ≡ there → IsPlainCause e (link_in g) → IsFairNegotiation None there e
   plain there is (at_plain_link l) = absurd (link_blameless e (link_in g) calm l)
   plain None is (at_plain_header long other what) = absurd (other (plain_front (read_in g) (plain_read g far f.left f.far_tied f.reads is) long))
-  plain (Some d) is (at_plain_header long other what) = subst (IsFairNegotiation None (Some d)) (sym what) tt
+  plain (Some d) is (at_plain_header long other what) = subst (IsFairNegotiation None (Some d)) (sym what) (inl tt)
 
   -- ---- an end with a layer, to whose exchange nothing is said
 
@@ -181,11 +157,11 @@ module _ (g far : List Local) (calm : IsCalm (link_in g)) (f : Faces g far) (e :
         → IsFairNegotiation (Some c) (Some d) e
     both (layer.Client p host) (layer.Client q host') m k o = absurd (elim o as (λ _. ⊥) [ inl (a, b) ↦ b | inr (a, b) ↦ a ])
     both (layer.Listener p) (layer.Listener q) m k o = absurd (elim o as (λ _. ⊥) [ inl (a, b) ↦ a | inr (a, b) ↦ b ])
-    both (layer.Client (profile.ScramSha256 user password nonce) host) (layer.Listener (accept.ScramSha256 user' password' salt count nonce')) m k o =
-        client_at user password nonce host user' password' salt count nonce' e (link_in g) calm n.given n.sent k.given k.sent (f.left ++ k.out) k.after (read_in far) (f.far_left ++ n.out) n.after (bytes_of_all (sent_in far))
+    both (layer.Client p host) (layer.Listener a) m k o =
+        client_at p host a e (link_in g) calm n.given n.sent k.given k.sent (f.left ++ k.out) k.after (read_in far) (f.far_left ++ n.out) n.after (bytes_of_all (sent_in far))
         (hears _ k) k.heard said x k.x m k.made n.held k.held k.behind cause n.about
-    both (layer.Listener (accept.ScramSha256 user' password' salt count nonce')) (layer.Client (profile.ScramSha256 user password nonce) host) m k o =
-        listener_at user password nonce host user' password' salt count nonce' e (link_in g) calm n.given n.sent k.given k.sent (f.left ++ k.out) k.after (read_in far) (f.far_left ++ n.out) n.after (bytes_of_all (sent_in far))
+    both (layer.Listener a) (layer.Client p host) m k o =
+        listener_at p host a e (link_in g) calm n.given n.sent k.given k.sent (f.left ++ k.out) k.after (read_in far) (f.far_left ++ n.out) n.after (bytes_of_all (sent_in far))
         (hears _ k) k.heard said x k.x m k.made n.held k.held k.behind cause n.about
 
   -- ---- any end
@@ -218,7 +194,7 @@ module _ (g far : List Local) (calm : IsCalm (link_in g)) (f : Faces g far) (e :
   by_calls (call ∷ []) there is k o c = by_call call.1 (layer_in (call ∷ [])) there refl is k o c
   by_calls (call ∷ earlier ∷ calls) there is k o c = by_calls (earlier ∷ calls) there is k o c
 
--- a negotiation between two ends fails for their kinds or accounts, or for a user, a password or a body of the own end
+-- a negotiation between two ends fails for their kinds, mechanisms or accounts, or for a user, a password or a body of the own end
 pub negotiation_fair : (g far : List Local) → IsCalm (link_in g) → Faces g far → (e : NegotiationError) → OpenCauseIn (made_in g) e (link_in g)
     → IsFairNegotiation (layer_in (made_in g)) (layer_in (made_in far)) e
 negotiation_fair g far calm f e c =

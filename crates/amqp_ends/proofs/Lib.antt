@@ -3,6 +3,7 @@ pub mod Rests
 pub mod Tidy
 pub mod Hearing
 pub mod Said
+pub mod Sizes
 pub mod Honesty
 pub mod Closes
 pub mod Standing
@@ -13,6 +14,7 @@ pub mod QuietLayers
 pub mod Quiet
 pub mod Wants
 pub mod GateWords
+pub mod GateEnds
 pub mod GateClient
 pub mod GateListener
 pub mod GateFair

@@ -28,7 +28,7 @@ none_left (y ∷ ys) rest a p e =
 pub all_taken : (h far : List Local) → RestsBehind h → IsAllOut far → IsTied far → read_in h ≡ wrote_in far → given_in h ≡ map amqp_again (sent_in far)
 all_taken h far r s t e =
     let q = s.queued in
-    let u : IsTied far = record { heard = t.heard; said = q; framed = t.framed; sized = t.sized } in
+    let u : IsTied far = record { heard = t.heard; said = q; framed = t.framed; sized = t.sized; starts = t.starts } in
     let f = stream_at h far r.rest [] r.read u (append-nil (read_in h) ∙ e) in
     let left : r.rest ≡ bytes_of_all f.others = sym (append-nil r.rest) ∙ ap (λ (x : List ℕ). r.rest ++ x) (sym s.none) ∙ f.stream in
     let none = none_left f.others r.rest (framed_behind f.first f.others (subst (λ (xs : List Frame). All IsFramed xs) f.split t.framed)) r.part left in

@@ -41,7 +41,7 @@ pub record Placed (c : SaslCall) (h : List Local) : Type 0 where
 -- a rest that begins with no whole frame
 pub part_of : (rest : List ℕ) → IsFront 1 512 rest Partial → IsPart rest
 part_of rest (inl few) = inl few
-part_of rest (inr (size, few)) = inr few
+part_of rest (inr cut) = inr cut.less
 
 -- ---- the bytes
 

@@ -1,7 +1,7 @@
 -- What the other end queued begins with no frame that is refused.
-use Rattle.std.proofs.Common.{◌≡◌, ◌⊎◌, ◌<◌, ◌≤◌, ◌+◌, ◌*◌, inl, inr, ℕ, List, [], ◌∷◌, ◌++◌, length, take, drop, refl, sym, ap, ◌∙◌, subst, arith, length-append, All}
+use Rattle.std.proofs.Common.{◌≡◌, ◌<◌, ◌≤◌, ◌+◌, ◌*◌, inl, inr, ℕ, List, [], ◌∷◌, ◌++◌, length, take, drop, refl, sym, ap, ◌∙◌, subst, arith, length-append, All}
 use Rattle.std.proofs.Math.Path.{ap₂}
-use Rattle.std.proofs.lemmas.List.{take-append-le, take_at, get_or-take}
+use Rattle.std.proofs.lemmas.List.{take-append-le, take_at, get_or-take, get_or_append_left}
 use Rattle.std.proofs.lemmas.List.Elements.{All-head}
 use Rattle.std.specs.Prelude.{slice_index}
 use Rattle.amqp_wire.specs.declared.frame.Front.TheVariants.{Refused, Foreign}
@@ -13,8 +13,9 @@ use Rattle.amqp_transport.specs.Causes.{IsUnspelled}
 use Rattle.amqp_transport.specs.Kinds.{amqp_spells, amqp_bytes, amqp_channel, amqp_again}
 use Rattle.amqp_transport.specs.Stream.{IsFrame}
 use Rattle.amqp_transport.proofs.Readings.{frame_size, written}
-use Rattle.amqp_engine.specs.Sentence.{bytes_of_all, AllWithin, size_of_frame}
+use Rattle.amqp_engine.specs.Sentence.{bytes_of_all, size_of_frame}
 use Rattle.amqp_engine.specs.State.{IsFramed}
+use Rattle.amqp_peer.specs.Causes.{StartsWithin}
 
 -- the bytes of a frame
 abbrev bytes_of : Frame → List ℕ
@@ -77,16 +78,19 @@ foreign_not rest left limit (y ∷ ys) a e (whole, least, most, type) =
 
 -- ---- its size is within the limit, and its body begins behind the eight bytes
 
-pub refused_not : (rest left : List ℕ) (limit : ℕ) (others : List Frame) → All IsFramed others → AllWithin limit others → rest ++ left ≡ bytes_of_all others → IsFront 0 limit rest Refused → ⊥
+byte_early : (y : Frame) (rest left more : List ℕ) (i : ℕ) → i < length rest → i < length (bytes_of y) → rest ++ left ≡ bytes_of y ++ more → slice_index rest i ≡ slice_index (bytes_of y) i
+byte_early y rest left more i l m e = sym (get_or_append_left rest left 0 i l) ∙ ap (λ (u : List ℕ). slice_index u i) e ∙ get_or_append_left (bytes_of y) more 0 i m
+
+pub refused_not : (rest left : List ℕ) (limit : ℕ) (others : List Frame) → All IsFramed others → StartsWithin limit others → rest ++ left ≡ bytes_of_all others → IsFront 0 limit rest Refused → ⊥
 refused_not rest left limit [] a w e (inl (l, s)) = nothing_there rest left l e
-refused_not rest left limit [] a w e (inr (whole, s)) = nothing_there rest left whole.size.there e
+refused_not rest left limit [] a w e (inr r) = nothing_there rest left r.size.there e
 refused_not rest left limit (y ∷ ys) a w e (inl (l, s)) =
     let b = begins y rest left (bytes_of_all ys) (All-head IsFramed y ys a) l e in
     let n : size_of rest ≡ size_of_frame y = b.size ∙ bytes_length y in
-    elim s [ inl less ↦ omega (arith, n, less) | inr more ↦ omega (arith, n, more, w.0) ]
-refused_not rest left limit (y ∷ ys) a w e (inr (whole, s)) =
-    let b = begins y rest left (bytes_of_all ys) (All-head IsFramed y ys a) whole.size.there e in
+    elim s [ inl less ↦ omega (arith, n, less) | inr more ↦ omega (arith, n, more, w) ]
+refused_not rest left limit (y ∷ ys) a w e (inr r) =
+    let b = begins y rest left (bytes_of_all ys) (All-head IsFramed y ys a) r.size.there e in
     let long : 8 ≤ length (bytes_of y) = omega (arith, b.frame.body.size_is, b.frame.body.whole.size.least) in
-    let front = whole_front y rest left (bytes_of_all ys) (omega (arith, b.size, whole.all)) e in
-    let start : start_of rest ≡ b.frame.start = ap (λ (i : ℕ). 4 * i) (byte_at y rest 4 (omega arith) front) ∙ sym b.frame.body.start_is in
-    elim s [ inl less ↦ omega (arith, start, less, b.frame.body.least) | inr more ↦ omega (arith, start, more, b.frame.body.most, b.size) ]
+    let byte = byte_early y rest left (bytes_of_all ys) 4 (omega (arith, r.there)) (omega (arith, long)) e in
+    let start : start_of rest ≡ b.frame.start = ap (λ (i : ℕ). 4 * i) byte ∙ sym b.frame.body.start_is in
+    elim r.bad [ inl less ↦ omega (arith, start, less, b.frame.body.least) | inr more ↦ omega (arith, start, more, b.frame.body.most, b.size) ]

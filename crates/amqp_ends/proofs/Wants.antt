@@ -1,10 +1,11 @@
 -- What a call waits for where nothing is in flight.
-use Rattle.std.proofs.Common.{◌≡◌, ◌⊎◌, inl, inr, ℕ, List, [], ◌∷◌, ◌++◌, Option, Some, None, refl, sym, ap, ◌∙◌, subst, append-nil}
+use Rattle.std.proofs.Common.{◌≡◌, ◌⊎◌, ◌≤◌, inl, inr, ℕ, List, [], ◌∷◌, ◌++◌, length, Option, Some, None, refl, sym, ap, ◌∙◌, subst, arith, append-nil}
 use Rattle.std.specs.Prelude.{map}
 use Rattle.amqp_composites.specs.declared.error.Error.{Error as AmqpError}
 use Rattle.amqp_transport.specs.declared.frames.Frame.{Frame}
 use Rattle.amqp_transport.specs.Kinds.{amqp_again}
 use Rattle.amqp_engine.specs.Heard.{AllUnclosed}
+use Rattle.amqp_engine.specs.Sentence.{bytes_of_all}
 use Rattle.amqp_opening.specs.declared.authentication.SaslCall.{SaslCall}
 use Rattle.amqp_opening.specs.Opening.{amqp_header}
 use Rattle.amqp_words.specs.declared.call.Call.{Call}
@@ -12,32 +13,31 @@ use Rattle.amqp_words.specs.declared.call.Call.TheVariants.{Close as CloseCall}
 use Rattle.amqp_words.specs.declared.open_error.OpenError.{OpenError}
 use Rattle.amqp_words.specs.declared.reply.Reply.TheVariants as reply
 use Rattle.amqp_words.specs.declared.reply.NamedReply.{NamedReply}
+use Rattle.amqp_peer.specs.declared.peer.PeerKind.{PeerKind}
+use Rattle.amqp_peer.specs.declared.peer.PeerKind.TheVariants.{Client, Listener}
 use Rattle.amqp_peer.specs.declared.prepared.Prepared.{Prepared}
 use Rattle.amqp_peer.specs.Causes.{prepared_in, BeginsWithOpen, EndsWithClose, IsReadTo, HasCause, AllCaused}
 use Rattle.amqp_peer.specs.History.{Local, Made, Polled, AtLink, Exchanged, Got, Put, Replied, made_in, given_in, sent_in, replied_in, read_in}
 use Rattle.amqp_peer.specs.Layers.{layer_in, IsResting}
-use Rattle.amqp_peer.specs.Replies.{pending, connection, open_failed, answered, AreReplies}
-use Rattle.amqp_peer.specs.Rest.{OpenWaits, CloseWaits, HasWaiting, RestsBehind}
+use Rattle.amqp_peer.specs.Replies.{IsConnected, pending, open_failed, AreReplies}
+use Rattle.amqp_peer.specs.Rest.{OpenWaits, CloseWaits, HasWaiting, IsAllOut, RestsBehind}
 use Rattle.amqp_peer.specs.Said.{IsPlain, HasSaid, HasClose, CloseCause, called, answers, mistaken, rejected}
 use Rattle.amqp_ends.specs.Joined.{Meets}
-use Rattle.amqp_ends.specs.Quiet.{IsQuiet}
+use Rattle.amqp_ends.specs.Quiet.{Begins, BeginsIn, AreOpposite, IsQuiet}
 use Rattle.amqp_ends.specs.Standing.{Stands, uncalled, in_headers, behind, parted, refused, broken, vast}
-use Rattle.amqp_ends.specs.Wants.{IsAnswered, AreStill, LastCloses, HasFailed, own, other, many, IsEnded, failed, closed, Wants}
+use Rattle.amqp_ends.specs.Wants.{IsAnswered, AreStill, LastCloses, HasRefused, HasHeader, HasFailed, own, other, many, IsEnded, failed, closed, Wants}
 use Rattle.amqp_ends.specs.Wants.{refused as was_refused}
 use Rattle.amqp_ends.proofs.Closes.{closed_not, plain_unclosed, unclosed_given}
 use Rattle.amqp_ends.proofs.Hearing.{hears}
 use Rattle.amqp_ends.proofs.Honesty.{tidy_given, other_first_not, stray_not}
 use Rattle.amqp_ends.proofs.QuietFrames.{all_taken, close_taken}
+use Rattle.amqp_ends.proofs.QuietLayers.{wrote_behind}
 use Rattle.amqp_ends.proofs.Quiet.{headers_do_not_wait, openings_do_not_wait, closes_do_not_wait}
 
 -- ---- replies
 
 -- where the connection was made, Open was queued
-abbrev Connects : List NamedReply → Type 0
-Connects [] = ⊥
-Connects (r ∷ rs) = (r.reply ≡ reply.Connection) ⊎ Connects rs
-
-connects_last : (rs : List NamedReply) (r : NamedReply) → Connects (rs ++ r ∷ []) → Connects rs ⊎ (r.reply ≡ reply.Connection)
+connects_last : (rs : List NamedReply) (r : NamedReply) → IsConnected (rs ++ r ∷ []) → IsConnected rs ⊎ (r.reply ≡ reply.Connection)
 connects_last [] r (inl e) = inr e
 connects_last [] r (inr c) = absurd c
 connects_last (s ∷ rs) r (inl e) = inl (inl e)
@@ -47,7 +47,7 @@ not_none : (xs : List Frame) (x : Frame) → xs ++ x ∷ [] ≡ [] → ⊥
 not_none [] x e = absurd (cc e)
 not_none (y ∷ xs) x e = absurd (cc e)
 
-unsent_connects : (h : List Local) → AllCaused h → sent_in h ≡ [] → Connects (replied_in h) → ⊥
+unsent_connects : (h : List Local) → AllCaused h → sent_in h ≡ [] → IsConnected (replied_in h) → ⊥
 unsent_connects [] c s k = k
 unsent_connects (Made at name call ∷ h) c s k = unsent_connects h c s k
 unsent_connects (Polled at ∷ h) c s k = unsent_connects h c s k
@@ -61,14 +61,14 @@ unsent_connects (Replied r ∷ h) c s k = elim (connects_last (replied_in h) r k
 ]
 
 -- an end that called, sent nothing and waits for nothing was refused
-refused_by : (calls : List (ℕ × Call)) (replied : List NamedReply) → AreReplies calls replied → (Connects replied → ⊥) → ((n : ℕ) → replied ≡ pending n ∷ [] → ⊥) → (calls ≡ []) ⊎ ((n : ℕ) × (e : OpenError) × (replied ≡ pending n ∷ open_failed n e ∷ []))
+refused_by : (calls : List (ℕ × Call)) (replied : List NamedReply) → AreReplies calls replied → (IsConnected replied → ⊥) → ((n : ℕ) → replied ≡ pending n ∷ [] → ⊥) → (calls ≡ []) ⊎ ((n : ℕ) × (e : OpenError) × (replied ≡ pending n ∷ open_failed n e ∷ []))
 refused_by [] replied r n w = inl refl
 refused_by (first ∷ []) replied (inl e) n w = absurd (w first.0 e)
-refused_by (first ∷ []) replied (inr (inl e)) n w = absurd (n (subst Connects (sym e) (inr (inl refl))))
+refused_by (first ∷ []) replied (inr (inl e)) n w = absurd (n (subst IsConnected (sym e) (inr (inl refl))))
 refused_by (first ∷ []) replied (inr (inr x)) n w = inr (first.0, x.0, x.1)
-refused_by (close ∷ first ∷ []) replied (inl e) n w = absurd (n (subst Connects (sym e) (inr (inl refl))))
-refused_by (close ∷ first ∷ []) replied (inr (x, i, inl e)) n w = absurd (n (subst Connects (sym e) (inr (inl refl))))
-refused_by (close ∷ first ∷ []) replied (inr (x, i, inr e)) n w = absurd (n (subst Connects (sym e) (inr (inl refl))))
+refused_by (close ∷ first ∷ []) replied (inl e) n w = absurd (n (subst IsConnected (sym e) (inr (inl refl))))
+refused_by (close ∷ first ∷ []) replied (inr (x, i, inl e)) n w = absurd (n (subst IsConnected (sym e) (inr (inl refl))))
+refused_by (close ∷ first ∷ []) replied (inr (x, i, inr e)) n w = absurd (n (subst IsConnected (sym e) (inr (inl refl))))
 refused_by (call ∷ close ∷ first ∷ calls) replied r n w = absurd r
 
 far_refused : (h far : List Local) → IsAnswered far → sent_in far ≡ [] → (HasWaiting far → ⊥) → (made_in far ≡ []) ⊎ IsEnded h far
@@ -220,5 +220,89 @@ closing_in h far left far_left a w (refused s n) = absurd (n (inr w))
 closing_in h far left far_left a w (broken b) = own b
 closing_in h far left far_left a w (vast v) = many (inl v)
 
+-- ---- the AMQP header
+
+header_out : (h : List Local) → IsAllOut h → HasHeader h
+header_out h o = record { head = o.queued.head; behind = bytes_of_all (sent_in h); layer = o.queued.layer; wrote = wrote_behind h o }
+
+-- an end that made its connection has read the Open of the other
+unheard_connects : (h : List Local) → AllCaused h → given_in h ≡ [] → IsConnected (replied_in h) → ⊥
+unheard_connects [] c g k = k
+unheard_connects (Made at name call ∷ h) c g k = unheard_connects h c g k
+unheard_connects (Polled at ∷ h) c g k = unheard_connects h c g k
+unheard_connects (AtLink x ∷ h) c g k = unheard_connects h c g k
+unheard_connects (Exchanged ∷ h) c g k = unheard_connects h c g k
+unheard_connects (Got x ∷ h) c g k = not_none (given_in h) x g
+unheard_connects (Put x ∷ h) c g k = unheard_connects h c g k
+unheard_connects (Replied r ∷ h) c g k = elim (connects_last (replied_in h) r k) [
+  | inl d ↦ unheard_connects h c.1 g d
+  | inr e ↦ absurd (cc (sym g ∙ (subst (HasCause h) e c.0).heard.is))
+]
+
+-- an end that called close had made its connection
+no_close_begins : (kind : PeerKind) (call : Call) (condition : Option (List ℕ)) → call ≡ CloseCall condition → Begins kind call → ⊥
+no_close_begins Client call condition e b = subst (Begins Client) e b
+no_close_begins Listener call condition e b = subst (Begins Listener) e b
+
+close_connects : (kind : PeerKind) (calls : List (ℕ × Call)) (replied : List NamedReply) → BeginsIn kind calls → AreReplies calls replied → LastCloses calls → IsConnected replied
+close_connects kind [] replied b r (name, condition, earlier, e) = absurd (cc e)
+close_connects kind (first ∷ []) replied b r (name, condition, earlier, e) =
+    let same : first ≡ (name, CloseCall condition) = cc e in
+    absurd (no_close_begins kind first.1 condition (ap (λ (x : ℕ × Call). x.1) same) b)
+close_connects kind (close ∷ first ∷ []) replied b (inl e) c = subst IsConnected (sym e) (inr (inl refl))
+close_connects kind (close ∷ first ∷ []) replied b (inr (x, i, inl e)) c = subst IsConnected (sym e) (inr (inl refl))
+close_connects kind (close ∷ first ∷ []) replied b (inr (x, i, inr e)) c = subst IsConnected (sym e) (inr (inl refl))
+close_connects kind (call ∷ close ∷ first ∷ calls) replied b r c = absurd r
+
+far_connects : (h far : List Local) → AreOpposite (made_in h) (made_in far) → IsAnswered far → LastCloses (made_in far) → IsConnected (replied_in far)
+far_connects h far (inl o) a c = close_connects Listener (made_in far) (replied_in far) o.1 a.replies c
+far_connects h far (inr o) a c = close_connects Client (made_in far) (replied_in far) o.1 a.replies c
+
+none_of : (first others given : List Frame) → first ++ others ≡ [] → given ≡ map amqp_again first → given ≡ []
+none_of [] others given e i = i
+none_of (x ∷ first) others given e i = absurd (cc e)
+
+-- so no end is over by its Close while the other waits in the exchange of headers
+parted_not : (h far : List Local) (left far_left : List ℕ) → AreStill h far left far_left → sent_in h ≡ [] → EndsWithClose (sent_in far) → ⊥
+parted_not h far left far_left a u c =
+    let m = meets_back h far left far_left a in
+    let k = hears far h m.left m.tied m.far_tied m.reads in
+    unheard_connects far a.far_answered.caused (none_of k.first k.others (given_in far) (sym k.split ∙ u) k.items)
+    (far_connects h far a.kinds a.far_answered (parted_called h far m (subst AllUnclosed (sym u) tt) c a.far_said))
+
+was_called : (calls : List (ℕ × Call)) → 1 ≤ length calls → calls ≡ [] → ⊥
+was_called calls l e = omega (arith, l, ap length e)
+
+refused_called : (h : List Local) → IsAnswered h → 1 ≤ length (made_in h) → sent_in h ≡ [] → (HasWaiting h → ⊥) → HasRefused h
+refused_called h a l s w = elim (refused_by (made_in h) (replied_in h) a.replies (unsent_connects h a.caused s) (λ n e. w (inl (n, e)))) [
+  | inl n ↦ absurd (was_called (made_in h) l n)
+  | inr r ↦ r
+]
+
+header_resting : (h far : List Local) (left far_left : List ℕ) → AreStill h far left far_left → IsResting (layer_in (made_in h)) h → left ≡ [] → sent_in h ≡ [] → 1 ≤ length (made_in far) → Stands far far_left → HasRefused far ⊎ HasFailed h far
+header_resting h far left far_left a r l u n (uncalled m w) = absurd (was_called (made_in far) n m)
+header_resting h far left far_left a r l u n (in_headers v s f) = absurd (headers_do_not_wait h far (quiet h far left far_left a l f) r (inl s))
+header_resting h far left far_left a r l u n (behind s c f) = absurd (headers_do_not_wait h far (quiet h far left far_left a l f) r (inr s))
+header_resting h far left far_left a r l u n (parted c o w) = absurd (parted_not h far left far_left a u c)
+header_resting h far left far_left a r l u n (refused s w) = inl (refused_called far a.far_answered n s w)
+header_resting h far left far_left a r l u n (broken b) = inr (other b)
+header_resting h far left far_left a r l u n (vast v) = inr (many (inr v))
+
+header_in : (h far : List Local) (left far_left : List ℕ) → AreStill h far left far_left → 1 ≤ length (made_in h) → 1 ≤ length (made_in far) → Stands h left → HasHeader h ⊎ ((HasRefused h ⊎ HasRefused far) ⊎ HasFailed h far)
+header_in h far left far_left a m n (uncalled e w) = absurd (was_called (made_in h) m e)
+header_in h far left far_left a m n (in_headers v r l) = elim (header_resting h far left far_left a r l (resting_unsent (layer_in (made_in h)) h r) n a.far_stands) [
+  | inl e ↦ inr (inl (inr e))
+  | inr f ↦ inr (inr f)
+]
+header_in h far left far_left a m n (behind r c l) = inl (header_out h r.out)
+header_in h far left far_left a m n (parted c o w) = inl (header_out h o)
+header_in h far left far_left a m n (refused s w) = inr (inl (inl (refused_called h a.answered m s w)))
+header_in h far left far_left a m n (broken b) = inr (inr (own b))
+header_in h far left far_left a m n (vast v) = inr (inr (many (inl v)))
+
 pub wants : (h far : List Local) (left far_left : List ℕ) → AreStill h far left far_left → Wants h far
-wants h far left far_left a = record { opening = λ w. opening_in h far left far_left a w a.stands; closing = λ w. closing_in h far left far_left a w a.stands }
+wants h far left far_left a = record {
+  opening = λ w. opening_in h far left far_left a w a.stands;
+  closing = λ w. closing_in h far left far_left a w a.stands;
+  header = λ m n. header_in h far left far_left a m n a.stands;
+}

@@ -1,5 +1,5 @@
--- What an end is never answered whose peer is another end like it (OASIS AMQP 1.0, part 2, section 2.4): what the other says is always
--- frames that can be read, in their order.
+-- What an end is never answered whose peer is another end like it (OASIS AMQP 1.0, part 2, section 2.4): what the other says is
+-- frames of this type whose bodies can be read, in their order.
 use Rattle.std.specs.Prelude.{List, [], ◌∷◌, ⊤}
 use Rattle.amqp_transport.specs.declared.transport.Error.{Error as TransportFault}
 use Rattle.amqp_transport.specs.declared.transport.Error.TheVariants as fault
@@ -12,7 +12,7 @@ use Rattle.amqp_words.specs.declared.reply.Reply.{Reply}
 use Rattle.amqp_words.specs.declared.reply.Reply.TheVariants as reply
 use Rattle.amqp_words.specs.declared.reply.NamedReply.{NamedReply}
 
--- the transport fails for the idle time or for an own frame that is too large: never for the link, nor for what the other end wrote
+-- the transport fails for the idle time or for the size of a frame: never for the link, nor for the type or the body of a frame
 abbrev pub IsHonestFault : TransportFault → Type 0
 IsHonestFault (fault.Memory a) = ⊥
 IsHonestFault (fault.Io kind) = ⊥

@@ -8,7 +8,7 @@ ghost use Rattle.amqp_ends.specs.Gates.{AllFair, Faces, IsFairNegotiation};
 ghost use Rattle.amqp_ends.specs.Joined.{IsCalm};
 
 /// Over a link that does not fail, the negotiation of an end that faces another fails only where one of them has a SASL layer and the
-/// other has none, where their users or passwords differ, or for a user, a password or a body of its own.
+/// other has none, where their mechanisms, users or passwords differ, or for a user, a password or a body of its own.
 pub fn negotiations_are_fair()
     ensures { (g far : List Local) → IsCalm (link_in g) → Faces g far
         → (e : NegotiationError) → OpenCauseIn (made_in g) e (link_in g)

@@ -4,13 +4,14 @@ use Rattle.amqp_composites.specs.declared.sasl_body.SaslBody.{SaslBody}
 use Rattle.amqp_composites.specs.declared.sasl_code.SaslCode.{SaslCode}
 use Rattle.amqp_composites.specs.declared.sasl_code.SaslCode.TheVariants as sasl
 use Rattle.amqp_opening.specs.Authentication.{stored_for}
-use Rattle.sha2.specs.Sha256.{sha256}
 use Rattle.sasl_gate.specs.declared.scram.error.ScramErrorKind.{ScramErrorKind}
 use Rattle.sasl_gate.specs.declared.scram.stored.StoredPassword.{StoredPassword}
-use Rattle.sasl_gate.specs.Check.{stored_of, ServerAnswers}
+use Rattle.sasl_gate.specs.declared.scram.hash.ScramHash.{ScramHash}
+use Rattle.sasl_gate.specs.Check.{stored_of, ClientAnswers, ServerAnswers}
 use Rattle.sasl_gate.specs.ClientGate.{ClientEnd, client_init}
+use Rattle.sasl_gate.specs.Hashes.{digest_of, block_of, output_of, mechanism_of}
 use Rattle.sasl_gate.specs.Refusals.{IsMemory, IsClientFirstRefusal, IsClientFinalRefusal}
-use Rattle.sasl_gate.specs.ScramBodies.{own_mechanism, challenge_body, init_body, response_body}
+use Rattle.sasl_gate.specs.ScramBodies.{challenge_body, init_body, response_body}
 use Rattle.sasl_gate.specs.ServerGate.{ServerEnd, IsRefusalCause, by_client_first, by_client_final, by_mechanism, by_no_response, by_order, by_other_body, is_next, is_of_client, own_mechanisms}
 use Rattle.sasl_gate.specs.States.{Account}
 use Rattle.sasl_gate.specs.Texts.{client_first_of}
@@ -83,24 +84,24 @@ module _ (x : ClientEnd) (y : ServerEnd Account) (salt : List ℕ) (count : ℕ)
 
   -- an init that was given, or will be
   pub init_given : (name : List ℕ) (first hostname : Option (List ℕ)) (rest : List SaslBody) → init_body name first hostname ∷ rest ≡ sc
-      → (name ≡ own_mechanism) × (first ≡ Some (client_first_of x.client.user x.client.nonce))
+      → (name ≡ mechanism_of y.hash) × (first ≡ Some (client_first_of x.client.user x.client.nonce))
   init_given name first hostname rest e =
       let same = first_sent x gc sc (init_body name first hostname) rest sent_by_client e in
-      (ap mechanism_in same, ap payload_in same)
+      (ap mechanism_in same ∙ ap mechanism_of j.ends.same_hash, ap payload_in same)
 
-  pub text_given : (text : List ℕ) (hostname : Option (List ℕ)) (rest : List SaslBody) → init_body own_mechanism (Some text) hostname ∷ rest ≡ sc
+  pub text_given : (text : List ℕ) (hostname : Option (List ℕ)) (rest : List SaslBody) → init_body (mechanism_of y.hash) (Some text) hostname ∷ rest ≡ sc
       → text ≡ client_first_of x.client.user x.client.nonce
   text_given text hostname rest e =
-      let same = first_sent x gc sc (init_body own_mechanism (Some text) hostname) rest sent_by_client e in
+      let same = first_sent x gc sc (init_body (mechanism_of y.hash) (Some text) hostname) rest sent_by_client e in
       ap text_in same
 
   abbrev stored : List ℕ → Option StoredPassword
   stored = stored_for y.server.provider
 
   abbrev keys_of : StoredPassword
-  keys_of = stored_of sha256 64 32 y.server.provider.password salt count
+  keys_of = stored_of (digest_of y.hash) (block_of y.hash) (output_of y.hash) y.server.provider.password salt count
 
-  other_user : (text : List ℕ) (hostname : Option (List ℕ)) (rest : List SaslBody) (kind : ScramErrorKind) → init_body own_mechanism (Some text) hostname ∷ rest ≡ sc
+  other_user : (text : List ℕ) (hostname : Option (List ℕ)) (rest : List SaslBody) (kind : ScramErrorKind) → init_body (mechanism_of y.hash) (Some text) hostname ∷ rest ≡ sc
       → ¬ IsMemory kind → IsClientFirstRefusal stored text kind → x.client.user ≢ y.server.provider.user
   other_user text hostname rest kind e m r =
       missing y.server.provider x.client.user keys_of j.ends.stored_is
@@ -109,34 +110,36 @@ module _ (x : ClientEnd) (y : ServerEnd Account) (salt : List ℕ) (count : ℕ)
   -- a challenge that the listener sent, and that the client answered
   pub answer_of : (client_first name whole first : List ℕ) (keys : StoredPassword) → client_first ≡ client_first_of x.client.user x.client.nonce
       → (a : ServerAnswers stored y.server.nonce client_first name whole first keys)
-      → IsAnswerTo y.server.provider y.server.nonce x.client.user x.client.nonce salt count a.header a.bare name whole first keys
+      → IsAnswerTo y.hash y.server.provider y.server.nonce x.client.user x.client.nonce salt count a.header a.bare name whole first keys
   answer_of client_first name whole first keys is a =
-      answer_to y.server.provider y.server.nonce x.client.user x.client.nonce salt count client_first name whole first keys j.ends.stored_is j.ends.nonce_is is a
+      answer_to y.hash y.server.provider y.server.nonce x.client.user x.client.nonce salt count client_first name whole first keys j.ends.stored_is j.ends.nonce_is is a
 
-  same_first : (list : SaslBody) (first other : List ℕ) (more others : List SaslBody) → gc ≡ list ∷ challenge_body first ∷ more → sl ≡ own_mechanisms ∷ challenge_body other ∷ others → first ≡ other
+  same_first : (list : SaslBody) (first other : List ℕ) (more others : List SaslBody) → gc ≡ list ∷ challenge_body first ∷ more → sl ≡ own_mechanisms y.hash ∷ challenge_body other ∷ others → first ≡ other
   same_first list first other more others g s =
       let left : gc ++ fc ≡ list ∷ challenge_body first ∷ (more ++ fc) = ap (λ (u : List SaslBody). u ++ fc) g in
-      let both : list ∷ challenge_body first ∷ (more ++ fc) ≡ own_mechanisms ∷ challenge_body other ∷ others = sym left ∙ j.reads_listener ∙ s in
+      let both : list ∷ challenge_body first ∷ (more ++ fc) ≡ own_mechanisms y.hash ∷ challenge_body other ∷ others = sym left ∙ j.reads_listener ∙ s in
       let seconds : challenge_body first ≡ challenge_body other = cc in
       ap text_in seconds
 
   other_final : (client_first name whole first text : List ℕ) (hostname : Option (List ℕ)) (keys : StoredPassword) (rest : List SaslBody) (kind : ScramErrorKind)
-      → init_body own_mechanism (Some client_first) hostname ∷ response_body text ∷ rest ≡ sc → IsAsked stored y.server.nonce client_first sl
+      → init_body (mechanism_of y.hash) (Some client_first) hostname ∷ response_body text ∷ rest ≡ sc → IsAsked y.hash stored y.server.nonce client_first sl
       → (a : ServerAnswers stored y.server.nonce client_first name whole first keys) → ¬ IsMemory kind
-      → IsClientFinalRefusal sha256 64 32 keys.stored_key a.header a.bare first whole text kind → x.client.password ≢ y.server.provider.password
+      → IsClientFinalRefusal (digest_of y.hash) (block_of y.hash) (output_of y.hash) keys.stored_key a.header a.bare first whole text kind → x.client.password ≢ y.server.provider.password
   other_final client_first name whole first text hostname keys rest kind e asked a m r =
       let is : client_first ≡ client_first_of x.client.user x.client.nonce = text_given client_first hostname (response_body text ∷ rest) e in
-      let told = second_sent x gc sc (init_body own_mechanism (Some client_first) hostname) text rest sent_by_client e in
+      let told = second_sent x gc sc (init_body (mechanism_of y.hash) (Some client_first) hostname) text rest sent_by_client e in
       let mine = answer_of client_first name whole first keys is a in
       let theirs = answer_of client_first asked.challenge.user asked.challenge.whole asked.first asked.challenge.keys is asked.challenge.answers in
       let read : told.first ≡ asked.first = same_first told.list told.first asked.first told.more asked.more told.given_is asked.sent_is in
-      let c = client_answer x.client.user x.client.password x.client.nonce y.server.nonce salt count told.first told.final told.answered.signature
-      j.ends.nonce_is j.ends.own_is j.ends.salt_is j.ends.count_is (read ∙ theirs.first_is) told.answered.answers in
-      other_password y.server.provider x.client.user x.client.password x.client.nonce y.server.nonce salt count a.header a.bare name whole first told.first told.final told.answered.signature text keys kind
+      let answers = subst (λ (k : ScramHash). ClientAnswers (digest_of k) (block_of k) (output_of k) x.client.user x.client.password x.client.nonce told.first told.final told.answered.signature)
+      j.ends.same_hash told.answered.answers in
+      let c = client_answer y.hash x.client.user x.client.password x.client.nonce y.server.nonce salt count told.first told.final told.answered.signature
+      j.ends.nonce_is j.ends.own_is j.ends.salt_is j.ends.count_is (read ∙ theirs.first_is) answers in
+      other_password y.hash y.server.provider x.client.user x.client.password x.client.nonce y.server.nonce salt count a.header a.bare name whole first told.first told.final told.answered.signature text keys kind
       j.ends.nonce_is j.ends.own_is mine (read ∙ theirs.first_is ∙ sym mine.first_is) c told.text_is m r
 
   -- the listener refuses only another account
-  pub refusal_cause : (code : SaslCode) (given rest : List SaslBody) → given ++ rest ≡ sc → Asked stored y.server.nonce given sl → IsRefusalCause stored y.server.nonce code given
+  pub refusal_cause : (code : SaslCode) (given rest : List SaslBody) → given ++ rest ≡ sc → Asked y.hash stored y.server.nonce given sl → IsRefusalCause y.hash stored y.server.nonce code given
       → (code ≡ sasl.Auth) × IsOtherAccount x y.server.provider
   refusal_cause code given rest e asked (by_client_first text hostname kind g m r c) =
       (c, inl (other_user text hostname rest kind (sym (ap (λ (u : List SaslBody). u ++ rest) g) ∙ e) m r))

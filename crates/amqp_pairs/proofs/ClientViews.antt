@@ -4,7 +4,6 @@ use Rattle.amqp_composites.specs.declared.sasl_body.SaslBody.{SaslBody}
 use Rattle.amqp_composites.specs.declared.sasl_code.SaslCode.TheVariants as sasl
 use Rattle.base64.specs.Engines.{standard}
 use Rattle.base64.specs.GeneralPurpose.{encode_of}
-use Rattle.sha2.specs.Sha256.{sha256}
 use Rattle.sasl_gate.specs.declared.gate.client.ClientStage.{ClientStage}
 use Rattle.sasl_gate.specs.declared.gate.client.ClientStage.TheVariants.{AwaitsMechanisms, OwesInit, AwaitsChallenge, OwesResponse, AwaitsOutcome, Passed}
 use Rattle.sasl_gate.specs.declared.gate.exchange.Turn.TheVariants.{Send, Receive, Pass}
@@ -12,6 +11,7 @@ use Rattle.sasl_gate.specs.declared.scram.client.ClientPhase.{ClientPhase}
 use Rattle.sasl_gate.specs.declared.scram.client.ClientPhase.TheVariants.{Unanswered, Answered, Verified}
 use Rattle.sasl_gate.specs.Check.{ClientAnswers}
 use Rattle.sasl_gate.specs.ClientGate.{ClientEnd, HasAnswer, client_init, holds_in, turn_in}
+use Rattle.sasl_gate.specs.Hashes.{digest_of, block_of, output_of}
 use Rattle.sasl_gate.specs.ScramBodies.{challenge_body, mechanisms_body, outcome_body, response_body}
 use Rattle.sasl_gate.specs.States.{ForAnswered}
 use Rattle.sasl_gate.specs.Texts.{IsServerFinal}
@@ -19,7 +19,7 @@ use Rattle.sasl_gate.specs.Texts.{IsServerFinal}
 -- an answer to a server first
 pub record IsAnswered (x : ClientEnd) (first final : List ℕ) : Type 0 where
   pub signature : List ℕ
-  pub answers : ClientAnswers sha256 64 32 x.client.user x.client.password x.client.nonce first final signature
+  pub answers : ClientAnswers (digest_of x.hash) (block_of x.hash) (output_of x.hash) x.client.user x.client.password x.client.nonce first final signature
 
 pub data ClientView (stage : ClientStage) (x : ClientEnd) (given sent : List SaslBody) : Type 0 where
   awaits_mechanisms : turn_in stage ≡ Receive → given ≡ [] → sent ≡ [] → ClientView stage x given sent

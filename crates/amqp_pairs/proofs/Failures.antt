@@ -28,23 +28,23 @@ use Rattle.amqp_pairs.proofs.OwnCauses.{nothing_refused}
 use Rattle.amqp_pairs.proofs.Streams.{first_said}
 
 -- bodies that were read are the first of those that were sent
-read_first : (read rest coming after : List ℕ) (given sent : List SaslBody) → Heard read given rest → IsSaid read coming after sent
+pub read_first : (read rest coming after : List ℕ) (given sent : List SaslBody) → Heard read given rest → IsSaid read coming after sent
     → (others : List SaslBody) × (sent ≡ given ++ others)
 read_first read rest coming after given sent h s =
     let f = first_said read rest coming after given sent (record { frames = s.frames; after_is = s.after_is; heard = h; stream = s.stream }) in
     (f.others, f.sent_is)
 
-heard_first : (read coming after : List ℕ) (given sent : List SaslBody) → IsHeard read given → IsSaid read coming after sent
+pub heard_first : (read coming after : List ℕ) (given sent : List SaslBody) → IsHeard read given → IsSaid read coming after sent
     → (others : List SaslBody) × (sent ≡ given ++ others)
 heard_first read coming after given sent (inl none) s = (sent, ap (λ (u : List SaslBody). u ++ sent) (sym none))
 heard_first read coming after given sent (inr (rest, h)) s = read_first read rest coming after given sent h s
 
 -- the bodies of which a cause speaks, and the one that was refused
-abbrev Bodies : Turn → List SaslBody → List SaslBody → Type 0
+abbrev pub Bodies : Turn → List SaslBody → List SaslBody → Type 0
 Bodies turn bodies given = (bodies ≡ given) ⊎ ((body : SaslBody) × (bodies ≡ given ++ body ∷ []) × (turn ≡ Receive))
 
 -- a body that was refused is the first of those in flight
-behind : (given bodies others sent : List SaslBody) (body : SaslBody) → bodies ≡ given ++ body ∷ [] → sent ≡ bodies ++ others → given ++ body ∷ others ≡ sent
+pub behind : (given bodies others sent : List SaslBody) (body : SaslBody) → bodies ≡ given ++ body ∷ [] → sent ≡ bodies ++ others → given ++ body ∷ others ≡ sent
 behind given bodies others sent body is e =
     sym (append_assoc given (body ∷ []) others) ∙ ap (λ (u : List SaslBody). u ++ others) (sym is) ∙ sym e
 
@@ -81,20 +81,20 @@ module _ (x : ClientEnd) (y : ServerEnd Account) (salt : List ℕ) (count : ℕ)
   Turned = (e ≡ refused_with sasl.Auth) × IsOtherAccount x y.server.provider
 
   refused_by : (code : SaslCode) (bodies others fc : List SaslBody) → e ≡ refused_with code → Bodies (server_turn y) bodies gl → sc ≡ bodies ++ others → sl ≡ gc ++ fc
-      → HasRefused (stored_for y.server.provider) y.server.nonce code bodies sl → Turned
+      → HasRefused y.hash (stored_for y.server.provider) y.server.nonce code bodies sl → Turned
   refused_by code bodies others fc what (inl is) s q r =
       let j : AreJoined x y salt count gc sc gl sl fc others =
       record { ends = ends; reads_listener = sym q; reads_client = ap (λ (u : List SaslBody). u ++ others) (sym is) ∙ sym s } in
       let why = refused_now x y salt count gc sc gl sl fc others j code
-      (subst (λ (u : List SaslBody). IsRefusalCause (stored_for y.server.provider) y.server.nonce code u) is r.cause) in
+      (subst (λ (u : List SaslBody). IsRefusalCause y.hash (stored_for y.server.provider) y.server.nonce code u) is r.cause) in
       (what ∙ ap refused_with why.0, why.1)
   refused_by code bodies others fc what (inr (body, is, turn)) s q r =
       let j : AreJoined x y salt count gc sc gl sl fc (body ∷ others) =
       record { ends = ends; reads_listener = sym q; reads_client = behind gl bodies others sc body is s } in
-      let asked : Asked (stored_for y.server.provider) y.server.nonce bodies sl =
-      subst (λ (u : List SaslBody). Asked (stored_for y.server.provider) y.server.nonce bodies u) (sym r.told)
-      (asking_asked (stored_for y.server.provider) y.server.nonce bodies r.before (outcome_body code None ∷ [])
-      (asking (stored_for y.server.provider) y.server.nonce bodies r.before r.waited)) in
+      let asked : Asked y.hash (stored_for y.server.provider) y.server.nonce bodies sl =
+      subst (λ (u : List SaslBody). Asked y.hash (stored_for y.server.provider) y.server.nonce bodies u) (sym r.told)
+      (asking_asked y.hash (stored_for y.server.provider) y.server.nonce bodies r.before (outcome_body code None ∷ [])
+      (asking y.hash (stored_for y.server.provider) y.server.nonce bodies r.before r.waited)) in
       let why = refusal_cause x y salt count gc sc gl sl fc (body ∷ others) j code bodies others (sym s) asked r.cause in
       (what ∙ ap refused_with why.0, why.1)
 

@@ -54,6 +54,12 @@ module _ (piece rest coming others : List ℕ) (x : SaslBody) (f : IsSaslFrame p
   long : 8 ≤ length piece
   long = (frame_size piece others x f).1
 
+  byte_early : (i : ℕ) → i < length rest → i < length piece → slice_index rest i ≡ slice_index piece i
+  byte_early i l m = sym (get_or_append_left rest coming 0 i l) ∙ ap (λ (u : List ℕ). slice_index u i) same ∙ get_or_append_left piece others 0 i m
+
+  start_early : 8 ≤ length rest → start_of rest ≡ f.start
+  start_early l = let i = byte_early 4 (omega (arith, l)) (omega (arith, long)) in omega (arith, i, f.body.start_is)
+
   start_there : IsWhole 512 rest → start_of rest ≡ f.start
   start_there w = let i = byte_there 4 (omega (arith, long)) w in omega (arith, i, f.body.start_is)
 
@@ -64,11 +70,11 @@ module _ (piece rest coming others : List ℕ) (x : SaslBody) (f : IsSaslFrame p
   no_bad_size (l, inl low) = let n = size_there l in omega (arith, n, low, long)
   no_bad_size (l, inr high) = let n = size_there l in omega (arith, n, high, (frame_size piece others x f).2)
 
-  no_bad_offset : IsWhole 512 rest → IsBadOffset rest → ⊥
-  no_bad_offset w (inl low) = let s = start_there w in omega (arith, s, low, f.body.least)
-  no_bad_offset w (inr high) =
-      let s = start_there w in
-      let n = size_there w.size.there in
+  no_bad_offset : 8 ≤ length rest → IsBadOffset rest → ⊥
+  no_bad_offset l (inl low) = let s = start_early l in omega (arith, s, low, f.body.least)
+  no_bad_offset l (inr high) =
+      let s = start_early l in
+      let n = size_there (omega (arith, l)) in
       omega (arith, s, n, high, f.body.most)
 
   spelled_there : IsUndecodable rest → ⊥
@@ -92,7 +98,7 @@ module _ (piece rest coming others : List ℕ) (x : SaslBody) (f : IsSaslFrame p
   taken DecodeError c = spelled_there c
   taken IllegalState c = c
   taken FramingError (inl size) = no_bad_size size
-  taken FramingError (inr (w, bad)) = no_bad_offset w bad
+  taken FramingError (inr refused) = no_bad_offset refused.there refused.bad
 
 -- nothing is no frame that is refused
 none_there : (rest : List ℕ) → rest ≡ [] → 4 ≤ length rest → ⊥
@@ -108,7 +114,7 @@ nothing_refused_of rest (Io kind) none c = c
 nothing_refused_of rest DecodeError none u = none_there rest none u.body.whole.size.there
 nothing_refused_of rest IllegalState none c = c
 nothing_refused_of rest FramingError none (inl (l, bad)) = none_there rest none l
-nothing_refused_of rest FramingError none (inr (w, bad)) = none_there rest none w.size.there
+nothing_refused_of rest FramingError none (inr refused) = none_there rest none refused.size.there
 
 -- ---- the frames
 

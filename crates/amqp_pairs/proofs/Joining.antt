@@ -3,20 +3,23 @@ use Rattle.std.proofs.Common.{◌≡◌, ℕ, List, [], ◌∷◌, ◌++◌, Opt
 use Rattle.amqp_composites.specs.declared.sasl_body.SaslBody.{SaslBody}
 use Rattle.amqp_opening.specs.Authentication.{stored_for}
 use Rattle.base64.specs.GeneralPurpose.{IsBytes}
-use Rattle.sha2.specs.Sha256.{sha256}
 use Rattle.sasl_gate.specs.declared.gate.client.SaslProfile.{SaslProfile}
 use Rattle.sasl_gate.specs.Check.{stored_of}
-use Rattle.sasl_gate.specs.ClientGate.{ClientEnd, ClientSame, client_begun, client_holds, nonce_of, username_of}
+use Rattle.sasl_gate.specs.ClientGate.{ClientEnd, ClientSame, client_begun, client_holds, hash_of, nonce_of, username_of}
+use Rattle.sasl_gate.specs.declared.scram.hash.ScramHash.{ScramHash}
+use Rattle.sasl_gate.specs.Hashes.{digest_of, block_of, output_of}
 use Rattle.sasl_gate.specs.Profile.{IsAllowedUser, IsAllowedCount, IsNonce}
 use Rattle.sasl_gate.specs.ServerGate.{ServerEnd, ServerSame, server_begun, server_holds}
 use Rattle.sasl_gate.specs.States.{Account}
 use Rattle.amqp_pairs.specs.Joined.{AreJoined}
 
-pub begun : (profile : SaslProfile) (hostname : Option (List ℕ)) (account : Account) (own salt : List ℕ) (count : ℕ) → IsAllowedUser (username_of profile)
-    → IsNonce (nonce_of profile) → IsNonce own → account.stored ≡ Some (stored_of sha256 64 32 account.password salt count) → IsBytes salt → IsAllowedCount count
-    → AreJoined (client_begun profile hostname) (server_begun account own) salt count [] [] [] [] [] []
-begun profile hostname account own salt count u n o s b c = record {
+pub begun : (profile : SaslProfile) (hostname : Option (List ℕ)) (hash : ScramHash) (account : Account) (own salt : List ℕ) (count : ℕ) → hash ≡ hash_of profile
+    → IsAllowedUser (username_of profile) → IsNonce (nonce_of profile) → IsNonce own
+    → account.stored ≡ Some (stored_of (digest_of hash) (block_of hash) (output_of hash) account.password salt count) → IsBytes salt → IsAllowedCount count
+    → AreJoined (client_begun profile hostname) (server_begun hash account own) salt count [] [] [] [] [] []
+begun profile hostname hash account own salt count same u n o s b c = record {
   ends = record {
+    same_hash = sym same;
     user_is = u;
     nonce_is = n;
     own_is = o;
@@ -43,6 +46,7 @@ module _ (x x' : ClientEnd) (y : ServerEnd Account) (salt : List ℕ) (count : �
       → AreJoined x' y salt count gc (sc ++ body ∷ []) gl sl fc (fl ++ body ∷ [])
   client_sends j s held = record {
     ends = record {
+      same_hash = sym s.hash ∙ j.ends.same_hash;
       user_is = subst (λ (u : List ℕ). IsAllowedUser u) s.user j.ends.user_is;
       nonce_is = subst (λ (n : List ℕ). IsNonce n) s.nonce j.ends.nonce_is;
       own_is = j.ends.own_is;
@@ -60,6 +64,7 @@ module _ (x x' : ClientEnd) (y : ServerEnd Account) (salt : List ℕ) (count : �
       → AreJoined x' y salt count (gc ++ body ∷ []) sc gl sl fc fl
   client_takes j s held = record {
     ends = record {
+      same_hash = sym s.hash ∙ j.ends.same_hash;
       user_is = subst (λ (u : List ℕ). IsAllowedUser u) s.user j.ends.user_is;
       nonce_is = subst (λ (n : List ℕ). IsNonce n) s.nonce j.ends.nonce_is;
       own_is = j.ends.own_is;
@@ -75,15 +80,21 @@ module _ (x x' : ClientEnd) (y : ServerEnd Account) (salt : List ℕ) (count : �
 
 -- ---- the listener
 
+-- what is kept of the password
+abbrev IsStored : ServerEnd Account → List ℕ → ℕ → Type 0
+IsStored y salt count = y.server.provider.stored ≡ Some (stored_of (digest_of y.hash) (block_of y.hash) (output_of y.hash) y.server.provider.password salt count)
+
 module _ (x : ClientEnd) (y y' : ServerEnd Account) (salt : List ℕ) (count : ℕ) (gc sc gl sl fc fl : List SaslBody) (body : SaslBody) where
-  stored_same : y.server.provider.stored ≡ Some (stored_of sha256 64 32 y.server.provider.password salt count) → ServerSame y y'
-      → y'.server.provider.stored ≡ Some (stored_of sha256 64 32 y'.server.provider.password salt count)
-  stored_same e s = subst (λ (a : Account). a.stored ≡ Some (stored_of sha256 64 32 a.password salt count)) s.provider e
+  stored_same : IsStored y salt count → ServerSame y y' → IsStored y' salt count
+  stored_same e s =
+      subst (λ (a : Account). a.stored ≡ Some (stored_of (digest_of y'.hash) (block_of y'.hash) (output_of y'.hash) a.password salt count)) s.provider
+      (subst (λ (k : ScramHash). y.server.provider.stored ≡ Some (stored_of (digest_of k) (block_of k) (output_of k) y.server.provider.password salt count)) s.hash e)
 
   pub listener_sends : AreJoined x y salt count gc sc gl sl fc fl → ServerSame y y' → server_holds stored_for y' gl (sl ++ body ∷ [])
       → AreJoined x y' salt count gc sc gl (sl ++ body ∷ []) (fc ++ body ∷ []) fl
   listener_sends j s held = record {
     ends = record {
+      same_hash = j.ends.same_hash ∙ s.hash;
       user_is = j.ends.user_is;
       nonce_is = j.ends.nonce_is;
       own_is = subst (λ (n : List ℕ). IsNonce n) s.nonce j.ends.own_is;
@@ -101,6 +112,7 @@ module _ (x : ClientEnd) (y y' : ServerEnd Account) (salt : List ℕ) (count : �
       → AreJoined x y' salt count gc sc (gl ++ body ∷ []) sl fc fl
   listener_takes j s held = record {
     ends = record {
+      same_hash = j.ends.same_hash ∙ s.hash;
       user_is = j.ends.user_is;
       nonce_is = j.ends.nonce_is;
       own_is = subst (λ (n : List ℕ). IsNonce n) s.nonce j.ends.own_is;

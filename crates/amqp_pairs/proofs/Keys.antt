@@ -1,14 +1,19 @@
 -- The bytes of digests, keys and proofs.
 use Rattle.std.proofs.Common.{◌≡◌, ℕ, zero, suc, List, [], ◌∷◌, ◌++◌, length, bit_xor, codes, refl, ap, sym, ◌∙◌, arith}
-use Rattle.std.specs.Int.{w32, to_be_bytes}
+use Rattle.std.specs.Int.{w32, w64, to_be_bytes}
 use Rattle.std.specs.Prelude.{slice_index}
 use Rattle.std.specs.Int.Bits.{xor_self, xor_zero_r, xor_assoc}
 use Rattle.std.proofs.lemmas.Nat.{xor_of_8}
 use Rattle.base64.specs.GeneralPurpose.{IsBytes}
-use Rattle.sha2.specs.Sha256.{sha256, digest_bytes}
+use Rattle.sha1.specs.Sha1.{sha1, digest_bytes as digest_bytes_1}
+use Rattle.sha2.specs.Sha256.{sha256, digest_bytes as digest_bytes_256}
+use Rattle.sha2.specs.Sha512.{sha512, digest_bytes as digest_bytes_512}
 use Rattle.kdf_core.specs.Hmac.{hmac_of}
-use Rattle.kdf_core.specs.Lengths.{length-sha256}
+use Rattle.kdf_core.specs.Lengths.{length-sha1, length-sha256, length-sha512}
 use Rattle.kdf_core.specs.Pbkdf2.{xor_of}
+use Rattle.sasl_gate.specs.declared.scram.hash.ScramHash.{ScramHash}
+use Rattle.sasl_gate.specs.declared.scram.hash.ScramHash.TheVariants.{Sha1, Sha256, Sha512}
+use Rattle.sasl_gate.specs.Hashes.{digest_of, block_of, output_of}
 use Rattle.sasl_gate.specs.Keys.{client_key_of, stored_key_of, proof_of, ProofHolds}
 
 -- ---- bytes
@@ -28,14 +33,55 @@ word_bytes n (suc (suc zero)) = omega arith
 word_bytes n (suc (suc (suc zero))) = omega arith
 word_bytes n (suc (suc (suc (suc i)))) = omega arith
 
-digest_is_bytes : (h : List ℕ) (n : ℕ) → IsBytes (digest_bytes h n)
-unfolding digest_bytes
-digest_is_bytes h zero = nil_bytes
-digest_is_bytes h (suc n) = append_bytes (digest_bytes h n) (to_be_bytes w32 (slice_index h n)) (digest_is_bytes h n) (word_bytes (slice_index h n))
+long_word_bytes : (n : ℕ) → IsBytes (to_be_bytes w64 n)
+long_word_bytes n zero = omega arith
+long_word_bytes n (suc zero) = omega arith
+long_word_bytes n (suc (suc zero)) = omega arith
+long_word_bytes n (suc (suc (suc zero))) = omega arith
+long_word_bytes n (suc (suc (suc (suc zero)))) = omega arith
+long_word_bytes n (suc (suc (suc (suc (suc zero))))) = omega arith
+long_word_bytes n (suc (suc (suc (suc (suc (suc zero)))))) = omega arith
+long_word_bytes n (suc (suc (suc (suc (suc (suc (suc zero))))))) = omega arith
+long_word_bytes n (suc (suc (suc (suc (suc (suc (suc (suc i)))))))) = omega arith
 
-pub sha256_bytes : (m : List ℕ) → IsBytes (sha256 m)
+-- ---- digests
+
+bytes_1 : (h : List ℕ) (n : ℕ) → IsBytes (digest_bytes_1 h n)
+unfolding digest_bytes_1
+bytes_1 h zero = nil_bytes
+bytes_1 h (suc n) = append_bytes (digest_bytes_1 h n) (to_be_bytes w32 (slice_index h n)) (bytes_1 h n) (word_bytes (slice_index h n))
+
+bytes_256 : (h : List ℕ) (n : ℕ) → IsBytes (digest_bytes_256 h n)
+unfolding digest_bytes_256
+bytes_256 h zero = nil_bytes
+bytes_256 h (suc n) = append_bytes (digest_bytes_256 h n) (to_be_bytes w32 (slice_index h n)) (bytes_256 h n) (word_bytes (slice_index h n))
+
+bytes_512 : (h : List ℕ) (n : ℕ) → IsBytes (digest_bytes_512 h n)
+unfolding digest_bytes_512
+bytes_512 h zero = nil_bytes
+bytes_512 h (suc n) = append_bytes (digest_bytes_512 h n) (to_be_bytes w64 (slice_index h n)) (bytes_512 h n) (long_word_bytes (slice_index h n))
+
+sha1_bytes : (m : List ℕ) → IsBytes (sha1 m)
+unfolding sha1
+sha1_bytes m = bytes_1 _ 5
+
+sha256_bytes : (m : List ℕ) → IsBytes (sha256 m)
 unfolding sha256
-sha256_bytes m = digest_is_bytes _ 8
+sha256_bytes m = bytes_256 _ 8
+
+sha512_bytes : (m : List ℕ) → IsBytes (sha512 m)
+unfolding sha512
+sha512_bytes m = bytes_512 _ 8
+
+pub digest_is_bytes : (hash : ScramHash) (m : List ℕ) → IsBytes (digest_of hash m)
+digest_is_bytes Sha1 m = sha1_bytes m
+digest_is_bytes Sha256 m = sha256_bytes m
+digest_is_bytes Sha512 m = sha512_bytes m
+
+pub length-digest : (hash : ScramHash) (m : List ℕ) → length (digest_of hash m) ≡ output_of hash
+length-digest Sha1 m = length-sha1 m
+length-digest Sha256 m = length-sha256 m
+length-digest Sha512 m = length-sha512 m
 
 -- ---- lists xored byte by byte
 
@@ -60,26 +106,35 @@ xor_back (x ∷ xs) (y ∷ ys) e =
 
 -- ---- keys
 
-pub length-hmac : (key message : List ℕ) → length (hmac_of sha256 64 key message) ≡ 32
-length-hmac key message = length-sha256 _
+module _ (hash : ScramHash) where
+  abbrev hmac : List ℕ → List ℕ → List ℕ
+  hmac key message = hmac_of (digest_of hash) (block_of hash) key message
 
-pub hmac_bytes : (key message : List ℕ) → IsBytes (hmac_of sha256 64 key message)
-hmac_bytes key message = sha256_bytes _
+  abbrev client_key : List ℕ → List ℕ
+  client_key salted = client_key_of (digest_of hash) (block_of hash) salted
 
--- a client's key and what it is xored with
-paired : (salted auth : List ℕ) → length (client_key_of sha256 64 salted) ≡ length (hmac_of sha256 64 (stored_key_of sha256 64 salted) auth)
-paired salted auth = length-hmac salted (codes "Client Key") ∙ sym (length-hmac (stored_key_of sha256 64 salted) auth)
+  abbrev stored_key : List ℕ → List ℕ
+  stored_key salted = stored_key_of (digest_of hash) (block_of hash) salted
 
-pub length-proof : (salted auth : List ℕ) → length (proof_of sha256 64 salted auth) ≡ 32
-length-proof salted auth =
-    length-xor_of (client_key_of sha256 64 salted) (hmac_of sha256 64 (stored_key_of sha256 64 salted) auth) (paired salted auth)
-    ∙ length-hmac salted (codes "Client Key")
+  pub length-hmac : (key message : List ℕ) → length (hmac_of (digest_of hash) (block_of hash) key message) ≡ output_of hash
+  length-hmac key message = length-digest hash _
 
-pub proof_bytes : (salted auth : List ℕ) → IsBytes (proof_of sha256 64 salted auth)
-proof_bytes salted auth =
-    xor_bytes (client_key_of sha256 64 salted) (hmac_of sha256 64 (stored_key_of sha256 64 salted) auth)
-    (hmac_bytes salted (codes "Client Key")) (hmac_bytes (stored_key_of sha256 64 salted) auth)
+  pub hmac_bytes : (key message : List ℕ) → IsBytes (hmac_of (digest_of hash) (block_of hash) key message)
+  hmac_bytes key message = digest_is_bytes hash _
 
--- section 3: the proof of a password holds under the stored key of that password
-pub proof_holds : (salted auth : List ℕ) → ProofHolds sha256 64 (stored_key_of sha256 64 salted) auth (proof_of sha256 64 salted auth)
-proof_holds salted auth = ap sha256 (xor_back (client_key_of sha256 64 salted) (hmac_of sha256 64 (stored_key_of sha256 64 salted) auth) (paired salted auth))
+  -- a client's key and what it is xored with
+  paired : (salted auth : List ℕ) → length (client_key salted) ≡ length (hmac (stored_key salted) auth)
+  paired salted auth = length-hmac salted (codes "Client Key") ∙ sym (length-hmac (stored_key salted) auth)
+
+  pub length-proof : (salted auth : List ℕ) → length (proof_of (digest_of hash) (block_of hash) salted auth) ≡ output_of hash
+  length-proof salted auth =
+      length-xor_of (client_key salted) (hmac (stored_key salted) auth) (paired salted auth) ∙ length-hmac salted (codes "Client Key")
+
+  pub proof_bytes : (salted auth : List ℕ) → IsBytes (proof_of (digest_of hash) (block_of hash) salted auth)
+  proof_bytes salted auth =
+      xor_bytes (client_key salted) (hmac (stored_key salted) auth) (hmac_bytes salted (codes "Client Key")) (hmac_bytes (stored_key salted) auth)
+
+  -- section 3: the proof of a password holds under the stored key of that password
+  pub proof_holds : (salted auth : List ℕ)
+      → ProofHolds (digest_of hash) (block_of hash) (stored_key salted) auth (proof_of (digest_of hash) (block_of hash) salted auth)
+  proof_holds salted auth = ap (digest_of hash) (xor_back (client_key salted) (hmac (stored_key salted) auth) (paired salted auth))

@@ -1,5 +1,5 @@
 -- The laws of two joined ends.
-use Rattle.std.proofs.Common.{◌≡◌, ◌≢◌, ◌≤◌, inl, inr, ℕ, List, [], ◌∷◌, ◌++◌, length, Option, None, refl, ap, sym, ◌∙◌, subst, append_assoc, append-nil}
+use Rattle.std.proofs.Common.{◌≡◌, ◌≢◌, inl, inr, ℕ, List, [], ◌∷◌, ◌++◌, Option, None, ap, sym, ◌∙◌, subst, append_assoc, append-nil}
 use Rattle.amqp_composites.specs.declared.sasl_body.SaslBody.{SaslBody}
 use Rattle.amqp_composites.specs.declared.sasl_code.SaslCode.{SaslCode}
 use Rattle.amqp_composites.specs.declared.sasl_code.SaslCode.TheVariants as sasl
@@ -9,20 +9,21 @@ use Rattle.sasl_gate.specs.declared.gate.error.NegotiationError.TheVariants.{Mem
 use Rattle.sasl_gate.specs.declared.gate.exchange.Turn.TheVariants.{Send, Receive, Refuse, Pass}
 use Rattle.sasl_gate.specs.declared.gate.server.ServerStage.{ServerStage}
 use Rattle.sasl_gate.specs.declared.gate.server.ServerStage.TheVariants.{OwesMechanisms, AwaitsInit, OwesChallenge, AwaitsResponse, OwesOutcome, Passed, OwesRefusal, Refused}
+use Rattle.sasl_gate.specs.declared.scram.hash.ScramHash.{ScramHash}
 use Rattle.sasl_gate.specs.declared.scram.stored.StoredPassword.{StoredPassword}
-use Rattle.sasl_gate.specs.ClientGate.{ClientEnd, client_causes, client_turn}
+use Rattle.sasl_gate.specs.ClientGate.{ClientEnd, client_causes, client_holds, client_turn}
 use Rattle.sasl_gate.specs.Exchange.{refused_with}
 use Rattle.sasl_gate.specs.ScramBodies.{outcome_body}
-use Rattle.sasl_gate.specs.ServerGate.{ServerEnd, IsRefusalCause, Waited, holds_in, server_turn}
+use Rattle.sasl_gate.specs.ServerGate.{ServerEnd, IsRefusalCause, Waited, holds_in, server_holds, server_turn}
 use Rattle.sasl_gate.specs.States.{Account, ServerState}
 use Rattle.sasl_gate.proofs.ServerGates.{awaited}
 use Rattle.amqp_pairs.specs.Errors.{MayRefuse}
 use Rattle.amqp_pairs.specs.Joined.{AreJoined, IsOtherAccount, IsRefusing, IsSameAccount}
-use Rattle.amqp_pairs.proofs.Asked.{asked, asking_asked}
+use Rattle.amqp_pairs.proofs.Asked.{Asked, asked, asking_asked}
 use Rattle.amqp_pairs.proofs.Causes.{refusal_cause}
 use Rattle.amqp_pairs.proofs.ClientCauses.{client_cause, last_of_one, seen}
 use Rattle.amqp_pairs.proofs.ClientViews.{ClientView, client_view}
-use Rattle.amqp_pairs.proofs.ListenerViews.{ListenerView, owes_mechanisms, awaits_init, owes_challenge, awaits_response, owes_outcome, passed, owes_refusal, refused, asking}
+use Rattle.amqp_pairs.proofs.ListenerViews.{ListenerView, owes_mechanisms, awaits_init, owes_challenge, awaits_response, owes_outcome, passed, owes_refusal, refused, asking, listener_view}
 use Rattle.amqp_pairs.proofs.Rest.{both_pass, took_no_refusal}
 
 -- no account is the same and another
@@ -42,16 +43,16 @@ impossible x y same DecodeError body m = m
 impossible x y same IllegalState body m = m
 impossible x y same FramingError body m = m
 
-cause_in : (stage : ServerStage) (s : ServerState Account) (given sent : List SaslBody) → IsRefusing stage → holds_in stored_for stage s given sent
-    → (code : SaslCode) × IsRefusalCause (stored_for s.provider) s.nonce code given
-cause_in OwesMechanisms s given sent r h = absurd r
-cause_in AwaitsInit s given sent r h = absurd r
-cause_in (OwesChallenge text) s given sent r h = absurd r
-cause_in AwaitsResponse s given sent r h = absurd r
-cause_in (OwesOutcome text) s given sent r h = absurd r
-cause_in Passed s given sent r h = absurd r
-cause_in (OwesRefusal code) s given sent r h = (code, h.cause)
-cause_in (Refused code) s given sent r h = (code, h.cause)
+cause_in : (hash : ScramHash) (stage : ServerStage) (s : ServerState Account) (given sent : List SaslBody) → IsRefusing stage → holds_in hash stored_for stage s given sent
+    → (code : SaslCode) × IsRefusalCause hash (stored_for s.provider) s.nonce code given
+cause_in hash OwesMechanisms s given sent r h = absurd r
+cause_in hash AwaitsInit s given sent r h = absurd r
+cause_in hash (OwesChallenge text) s given sent r h = absurd r
+cause_in hash AwaitsResponse s given sent r h = absurd r
+cause_in hash (OwesOutcome text) s given sent r h = absurd r
+cause_in hash Passed s given sent r h = absurd r
+cause_in hash (OwesRefusal code) s given sent r h = (code, h.cause)
+cause_in hash (Refused code) s given sent r h = (code, h.cause)
 
 -- the last body in flight, where it was not taken
 last_in_flight : (given flight before : List SaslBody) (o : SaslBody) → ((front more : List SaslBody) → front ++ o ∷ more ≡ given → ⊥) → given ++ flight ≡ before ++ o ∷ []
@@ -64,6 +65,10 @@ last_in_flight (g ∷ gs) flight (b ∷ bs) o none e =
     let tail : gs ++ flight ≡ bs ++ o ∷ [] = cc in
     last_in_flight gs flight bs o (λ front more f. none (g ∷ front) more (ap (λ (u : List SaslBody). g ∷ u) f)) tail
 
+-- where nothing is in flight, all was taken
+pub none_in_flight : (given flight sent : List SaslBody) → given ++ flight ≡ sent → flight ≡ [] → given ≡ sent
+none_in_flight given flight sent e none = sym (append-nil given) ∙ ap (λ (u : List SaslBody). given ++ u) (sym none) ∙ e
+
 module _ (x : ClientEnd) (y : ServerEnd Account) (salt : List ℕ) (count : ℕ) (gc sc gl sl fc fl : List SaslBody) (j : AreJoined x y salt count gc sc gl sl fc fl) where
   abbrev stored : List ℕ → Option StoredPassword
   stored = stored_for y.server.provider
@@ -71,22 +76,22 @@ module _ (x : ClientEnd) (y : ServerEnd Account) (salt : List ℕ) (count : ℕ)
   abbrev far : ClientView x.stage x gc sc
   far = client_view x.stage x gc sc j.ends.client
 
-  abbrev seen_now : ListenerView y.stage stored y.server.nonce gl sl
+  abbrev seen_now : ListenerView y.hash y.stage stored y.server.nonce gl sl
   seen_now = seen x y salt count gc sc gl sl fc fl j
 
   -- ---- another account
 
-  pub refused_now : (code : SaslCode) → IsRefusalCause stored y.server.nonce code gl → (code ≡ sasl.Auth) × IsOtherAccount x y.server.provider
-  refused_now code cause = refusal_cause x y salt count gc sc gl sl fc fl j code gl fl j.reads_client (asked stored y.server.nonce y.stage gl sl seen_now) cause
+  pub refused_now : (code : SaslCode) → IsRefusalCause y.hash stored y.server.nonce code gl → (code ≡ sasl.Auth) × IsOtherAccount x y.server.provider
+  refused_now code cause = refusal_cause x y salt count gc sc gl sl fc fl j code gl fl j.reads_client (asked y.hash stored y.server.nonce y.stage gl sl seen_now) cause
 
-  pub refused_next : (code : SaslCode) (body : SaslBody) (more : List SaslBody) → server_turn y ≡ Receive → fl ≡ body ∷ more → IsRefusalCause stored y.server.nonce code (gl ++ body ∷ [])
+  pub refused_next : (code : SaslCode) (body : SaslBody) (more : List SaslBody) → server_turn y ≡ Receive → fl ≡ body ∷ more → IsRefusalCause y.hash stored y.server.nonce code (gl ++ body ∷ [])
       → (code ≡ sasl.Auth) × IsOtherAccount x y.server.provider
   refused_next code body more turn next cause =
-      let w : Waited stored y.server.nonce (gl ++ body ∷ []) sl = awaited stored_for y gl sl body turn j.ends.listener in
-      let a = asking_asked stored y.server.nonce (gl ++ body ∷ []) sl [] (asking stored y.server.nonce (gl ++ body ∷ []) sl w) in
+      let w : Waited y.hash stored y.server.nonce (gl ++ body ∷ []) sl = awaited stored_for y gl sl body turn j.ends.listener in
+      let a = asking_asked y.hash stored y.server.nonce (gl ++ body ∷ []) sl [] (asking y.hash stored y.server.nonce (gl ++ body ∷ []) sl w) in
       refusal_cause x y salt count gc sc gl sl fc fl j code (gl ++ body ∷ []) more
       (append_assoc gl (body ∷ []) more ∙ ap (λ (u : List SaslBody). gl ++ u) (sym next) ∙ j.reads_client)
-      (subst (λ (u : List SaslBody). Rattle.amqp_pairs.proofs.Asked.Asked stored y.server.nonce (gl ++ body ∷ []) u) (append-nil sl) a) cause
+      (subst (λ (u : List SaslBody). Asked y.hash stored y.server.nonce (gl ++ body ∷ []) u) (append-nil sl) a) cause
 
   pub client_next : (e : NegotiationError) (body : SaslBody) (more : List SaslBody) → fc ≡ body ∷ more → client_causes x e (gc ++ body ∷ []) sc → MayRefuse x y body e
   client_next e body more next c =
@@ -95,13 +100,13 @@ module _ (x : ClientEnd) (y : ServerEnd Account) (salt : List ℕ) (count : ℕ)
   -- ---- the same account
 
   module _ (same : IsSameAccount x y.server.provider) where
-    pub no_cause : (code : SaslCode) → IsRefusalCause stored y.server.nonce code gl → ⊥
+    pub no_cause : (code : SaslCode) → IsRefusalCause y.hash stored y.server.nonce code gl → ⊥
     no_cause code cause = apart x y.server.provider same (refused_now code cause).1
 
     pub no_refusal : IsRefusing y.stage → ⊥
-    no_refusal r = let c = cause_in y.stage y.server gl sl r j.ends.listener in no_cause c.0 c.1
+    no_refusal r = let c = cause_in y.hash y.stage y.server gl sl r j.ends.listener in no_cause c.0 c.1
 
-    pub no_next : (code : SaslCode) (body : SaslBody) (more : List SaslBody) → server_turn y ≡ Receive → fl ≡ body ∷ more → IsRefusalCause stored y.server.nonce code (gl ++ body ∷ []) → ⊥
+    pub no_next : (code : SaslCode) (body : SaslBody) (more : List SaslBody) → server_turn y ≡ Receive → fl ≡ body ∷ more → IsRefusalCause y.hash stored y.server.nonce code (gl ++ body ∷ []) → ⊥
     no_next code body more turn next cause = apart x y.server.provider same (refused_next code body more turn next cause).1
 
     pub no_client_cause : (e : NegotiationError) (body : SaslBody) (more : List SaslBody) → fc ≡ body ∷ more → client_causes x e (gc ++ body ∷ []) sc → ⊥
@@ -124,14 +129,14 @@ module _ (x : ClientEnd) (y : ServerEnd Account) (salt : List ℕ) (count : ℕ)
   pass_not : (code : SaslCode) → Pass ≡ Refuse code → ⊥
   pass_not code e = cc
 
-  turned_by : (code other : SaslCode) (front : List SaslBody) → other ≡ code → IsRefusalCause stored y.server.nonce other gl → sl ≡ front ++ outcome_body other None ∷ [] → Turned code
+  turned_by : (code other : SaslCode) (front : List SaslBody) → other ≡ code → IsRefusalCause y.hash stored y.server.nonce other gl → sl ≡ front ++ outcome_body other None ∷ [] → Turned code
   turned_by code other front same cause is =
       let why = refused_now other cause in
       let told : gc ++ fc ≡ front ++ outcome_body sasl.Auth None ∷ [] = j.reads_listener ∙ is ∙ ap (λ (c : SaslCode). front ++ outcome_body c None ∷ []) why.0 in
       let last = last_in_flight gc fc front (outcome_body sasl.Auth None) (λ before more e. took_no_refusal x.stage x gc sc before more sasl.Auth far e) told in
       (sym same ∙ why.0, why.1, last.0, last.1)
 
-  turned : (code : SaslCode) → server_turn y ≡ Refuse code → ListenerView y.stage stored y.server.nonce gl sl → Turned code
+  turned : (code : SaslCode) → server_turn y ≡ Refuse code → ListenerView y.hash y.stage stored y.server.nonce gl sl → Turned code
   turned code turn (owes_mechanisms t g s) = absurd (send_not code (sym t ∙ turn))
   turned code turn (awaits_init t g s) = absurd (receive_not code (sym t ∙ turn))
   turned code turn (owes_challenge cf first h t g s c) = absurd (send_not code (sym t ∙ turn))
@@ -153,14 +158,17 @@ module _ (x : ClientEnd) (y : ServerEnd Account) (salt : List ℕ) (count : ℕ)
       let same = last_of_one t.2 (outcome_body sasl.Auth None) body (sym t.3 ∙ next) in
       (gc, ap (λ (u : SaslBody). gc ++ u ∷ []) (sym same.1), auth_not_ok)
 
+-- two ends of which each took all that the other sent, and neither sends
+pub both_still : (x : ClientEnd) (y : ServerEnd Account) (gc sc gl sl : List SaslBody) → client_holds x gc sc → server_holds stored_for y gl sl → gc ≡ sl → gl ≡ sc
+    → client_turn x ≢ Send → server_turn y ≢ Send → (client_turn x ≡ Pass) × (server_turn y ≡ Pass)
+both_still x y gc sc gl sl held held' heard told idle ready =
+    let w : ListenerView y.hash y.stage (stored_for y.server.provider) y.server.nonce sc gc =
+    subst (λ (u : List SaslBody). ListenerView y.hash y.stage (stored_for y.server.provider) y.server.nonce sc u) (sym heard)
+    (subst (λ (u : List SaslBody). ListenerView y.hash y.stage (stored_for y.server.provider) y.server.nonce u sl) told (listener_view y gl sl held')) in
+    both_pass y.hash x.stage x gc sc idle y.stage (stored_for y.server.provider) y.server.nonce (client_view x.stage x gc sc held) w ready
+
 -- nothing is in flight, and neither end sends
 pub at_rest : (x : ClientEnd) (y : ServerEnd Account) (salt : List ℕ) (count : ℕ) (gc sc gl sl fc fl : List SaslBody) → AreJoined x y salt count gc sc gl sl fc fl
     → fc ≡ [] → fl ≡ [] → client_turn x ≢ Send → server_turn y ≢ Send → (client_turn x ≡ Pass) × (server_turn y ≡ Pass)
 at_rest x y salt count gc sc gl sl fc fl j p q idle ready =
-    let heard : gc ≡ sl = sym (append-nil gc) ∙ ap (λ (u : List SaslBody). gc ++ u) (sym p) ∙ j.reads_listener in
-    let said : gl ≡ sc = sym (append-nil gl) ∙ ap (λ (u : List SaslBody). gl ++ u) (sym q) ∙ j.reads_client in
-    let v : ClientView x.stage x gc sc = client_view x.stage x gc sc j.ends.client in
-    let w : ListenerView y.stage (stored_for y.server.provider) y.server.nonce sc gc =
-    subst (λ (u : List SaslBody). ListenerView y.stage (stored_for y.server.provider) y.server.nonce sc u) (sym heard)
-    (subst (λ (u : List SaslBody). ListenerView y.stage (stored_for y.server.provider) y.server.nonce u sl) said (seen x y salt count gc sc gl sl fc fl j)) in
-    both_pass x.stage x gc sc idle y.stage (stored_for y.server.provider) y.server.nonce v w ready
+    both_still x y gc sc gl sl j.ends.client j.ends.listener (none_in_flight gc fc sl j.reads_listener p) (none_in_flight gl fl sc j.reads_client q) idle ready

@@ -20,3 +20,4 @@ pub mod Bytes
 pub mod Frames
 pub mod Failures
 pub mod OwnFailures
+pub mod Mechanisms

@@ -6,13 +6,13 @@ use Rattle.base64.specs.Engines.{standard}
 use Rattle.kdf_core.specs.Hmac.{hmac_of}
 use Rattle.amqp_opening.specs.Authentication.{stored_for}
 use Rattle.base64.specs.GeneralPurpose.{IsBytes, encode_of}
-use Rattle.sha2.specs.Sha256.{sha256}
 use Rattle.sasl_gate.specs.declared.gate.error.NegotiationError.{NegotiationError}
 use Rattle.sasl_gate.specs.declared.gate.error.NegotiationError.TheVariants.{Memory, ProtocolHeaderMismatch, NotImplemented, SaslError, ScramError, Io, DecodeError, IllegalState, FramingError}
 use Rattle.sasl_gate.specs.declared.scram.error.ScramErrorKind.{ScramErrorKind}
 use Rattle.sasl_gate.specs.declared.scram.error.ScramErrorKind.TheVariants as scram
 use Rattle.sasl_gate.specs.Check.{ClientAnswers}
 use Rattle.sasl_gate.specs.ClientGate.{ClientEnd, IsScramCause, by_challenge, by_outcome, by_no_signature, client_causes}
+use Rattle.sasl_gate.specs.Hashes.{digest_of, block_of, output_of}
 use Rattle.sasl_gate.specs.Keys.{server_key_of}
 use Rattle.sasl_gate.specs.Refusals.{IsServerFinalRefusal, IsServerFirstRefusal}
 use Rattle.sasl_gate.specs.ScramBodies.{challenge_body, mechanisms_body, outcome_body}
@@ -51,7 +51,7 @@ scram_not_yet x kind given sent none (by_outcome names first final signature tex
     nothing_is given (mechanisms_body names ∷ challenge_body first ∷ []) (outcome_body sasl.Ok (Some text)) none is
 scram_not_yet x kind given sent none (by_no_signature names first is k) = nothing_is given (mechanisms_body names ∷ challenge_body first ∷ []) (outcome_body sasl.Ok None) none is
 
-no_cause_yet : (x : ClientEnd) (e : NegotiationError) (given sent : List SaslBody) → given ≡ [] → client_causes x e given sent → ⊥
+pub no_cause_yet : (x : ClientEnd) (e : NegotiationError) (given sent : List SaslBody) → given ≡ [] → client_causes x e given sent → ⊥
 no_cause_yet x (Memory a) given sent none c = c
 no_cause_yet x (ProtocolHeaderMismatch h) given sent none c = c
 no_cause_yet x NotImplemented given sent none (names, is, not) = nothing_is given [] (mechanisms_body names) none is
@@ -73,27 +73,27 @@ last_of (g ∷ gs) = elim (last_of gs) as (λ _. (g ∷ gs ≡ []) ⊎ ((front :
 module _ (x : ClientEnd) (y : ServerEnd Account) (salt : List ℕ) (count : ℕ) (gc sc gl sl fc fl : List SaslBody) (j : AreJoined x y salt count gc sc gl sl fc fl) where
   -- two answers to one challenge wait for one signature
   same_signature : (list : SaslBody) (first own final other signature text : List ℕ) (kind : ScramErrorKind) (more : List SaslBody) → gc ≡ list ∷ challenge_body first ∷ more
-      → own ≡ first → (a : ClientAnswers sha256 64 32 x.client.user x.client.password x.client.nonce first final signature)
-      → (b : IsAnswered x own other) → IsServerFinal text (encode_of standard b.signature) → IsServerFinalRefusal 32 signature text kind → ⊥
+      → own ≡ first → (a : ClientAnswers (digest_of x.hash) (block_of x.hash) (output_of x.hash) x.client.user x.client.password x.client.nonce first final signature)
+      → (b : IsAnswered x own other) → IsServerFinal text (encode_of standard b.signature) → IsServerFinalRefusal (output_of x.hash) signature text kind → ⊥
   same_signature list first own final other signature text kind more g e a b f r =
       let sent : list ∷ challenge_body first ∷ (more ++ fc) ≡ sl = sym (ap (λ (u : List SaslBody). u ++ fc) g) ∙ j.reads_listener in
-      let c : IsSentChallenge y.stage (stored_for y.server.provider) y.server.nonce gl first =
-      challenged y.stage (stored_for y.server.provider) y.server.nonce gl sl list first (more ++ fc) (seen x y salt count gc sc gl sl fc fl j) sent in
+      let c : IsSentChallenge y.hash y.stage (stored_for y.server.provider) y.server.nonce gl first =
+      challenged y.hash y.stage (stored_for y.server.provider) y.server.nonce gl sl list first (more ++ fc) (seen x y salt count gc sc gl sl fc fl j) sent in
       let is = text_given x y salt count gc sc gl sl fc fl j c.client_first c.hostname (c.rest ++ fl) (sym (ap (λ (u : List SaslBody). u ++ fl) c.given_is) ∙ j.reads_client) in
       let to = answer_of x y salt count gc sc gl sl fc fl j c.client_first c.challenge.user c.challenge.whole first c.challenge.keys is c.challenge.answers in
-      let theirs = client_answer x.client.user x.client.password x.client.nonce y.server.nonce salt count first final signature
+      let theirs = client_answer x.hash x.client.user x.client.password x.client.nonce y.server.nonce salt count first final signature
       j.ends.nonce_is j.ends.own_is j.ends.salt_is j.ends.count_is to.first_is a in
-      let mine = client_answer x.client.user x.client.password x.client.nonce y.server.nonce salt count own other b.signature
+      let mine = client_answer x.hash x.client.user x.client.password x.client.nonce y.server.nonce salt count own other b.signature
       j.ends.nonce_is j.ends.own_is j.ends.salt_is j.ends.count_is (e ∙ to.first_is) b.answers in
-      let key : List ℕ = server_key_of sha256 64 (salted x.client.password salt count) in
+      let key : List ℕ = server_key_of (digest_of x.hash) (block_of x.hash) (salted x.hash x.client.password salt count) in
       let auth : List ℕ = signed x.client.user x.client.nonce y.server.nonce first in
-      let waited : b.signature ≡ hmac_of sha256 64 key auth = mine.signature_is ∙ ap (λ (t : List ℕ). hmac_of sha256 64 key (signed x.client.user x.client.nonce y.server.nonce t)) e in
+      let waited : b.signature ≡ hmac_of (digest_of x.hash) (block_of x.hash) key auth = mine.signature_is ∙ ap (λ (t : List ℕ). hmac_of (digest_of x.hash) (block_of x.hash) key (signed x.client.user x.client.nonce y.server.nonce t)) e in
       let same : signature ≡ b.signature = theirs.signature_is ∙ sym waited in
-      own_final_taken b.signature text kind (subst (λ (s : List ℕ). IsBytes s) (sym waited) (hmac_bytes key auth)) (ap length waited ∙ length-hmac key auth) f
-      (subst (λ (s : List ℕ). IsServerFinalRefusal 32 s text kind) same r)
+      own_final_taken x.hash b.signature text kind (subst (λ (s : List ℕ). IsBytes s) (sym waited) (hmac_bytes x.hash key auth)) (ap length waited ∙ length-hmac x.hash key auth) f
+      (subst (λ (s : List ℕ). IsServerFinalRefusal (output_of x.hash) s text kind) same r)
 
   pub own_outcome : (list : SaslBody) (first final signature text : List ℕ) (kind : ScramErrorKind) → gc ≡ list ∷ challenge_body first ∷ outcome_body sasl.Ok (Some text) ∷ []
-      → (a : ClientAnswers sha256 64 32 x.client.user x.client.password x.client.nonce first final signature) → IsServerFinalRefusal 32 signature text kind
+      → (a : ClientAnswers (digest_of x.hash) (block_of x.hash) (output_of x.hash) x.client.user x.client.password x.client.nonce first final signature) → IsServerFinalRefusal (output_of x.hash) signature text kind
       → ClientView x.stage x gc sc → ⊥
   own_outcome list first final signature text kind e a r (awaits_mechanisms t g s) = three_none gc list (challenge_body first) (outcome_body sasl.Ok (Some text)) e g
   own_outcome list first final signature text kind e a r (owes_init names t g s) = three_one gc list (challenge_body first) (outcome_body sasl.Ok (Some text)) (mechanisms_body names) e g
@@ -108,7 +108,7 @@ module _ (x : ClientEnd) (y : ServerEnd Account) (salt : List ℕ) (count : ℕ)
       let thirds : outcome_body sasl.Ok (Some text) ≡ outcome_body sasl.Ok (Some told) = cc in
       let told_is : text ≡ told = ap text_in thirds in
       same_signature list first own final other signature told kind (outcome_body sasl.Ok (Some text) ∷ []) e (sym (ap text_in seconds)) a b f
-      (subst (λ (u : List ℕ). IsServerFinalRefusal 32 signature u kind) told_is r)
+      (subst (λ (u : List ℕ). IsServerFinalRefusal (output_of x.hash) signature u kind) told_is r)
 
   seen_so_far : ClientView x.stage x gc sc
   seen_so_far = client_view x.stage x gc sc j.ends.client

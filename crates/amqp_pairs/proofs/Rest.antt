@@ -8,7 +8,9 @@ use Rattle.sasl_gate.specs.declared.gate.exchange.Turn.TheVariants.{Send, Pass}
 use Rattle.sasl_gate.specs.declared.gate.server.ServerStage.{ServerStage}
 use Rattle.sasl_gate.specs.declared.scram.stored.StoredPassword.{StoredPassword}
 use Rattle.sasl_gate.specs.ClientGate.{ClientEnd, client_init, turn_in as client_turn_in}
-use Rattle.sasl_gate.specs.ScramBodies.{own_mechanism, challenge_body, init_body, mechanisms_body, outcome_body, response_body}
+use Rattle.sasl_gate.specs.declared.scram.hash.ScramHash.{ScramHash}
+use Rattle.sasl_gate.specs.Hashes.{mechanism_of}
+use Rattle.sasl_gate.specs.ScramBodies.{challenge_body, init_body, mechanisms_body, outcome_body, response_body}
 use Rattle.sasl_gate.specs.ServerGate.{own_mechanisms, turn_in}
 use Rattle.amqp_pairs.proofs.Bodies.{challenge_not_outcome, in_none, in_some, list_not_outcome, told_not_none}
 use Rattle.amqp_pairs.proofs.ClientViews.{ClientView, awaits_mechanisms, owes_init, awaits_challenge, owes_response, awaits_outcome, passed}
@@ -49,12 +51,12 @@ took_no_refusal stage x given sent before more code (passed names first final to
       | inr there ↦ in_none there.0 more (outcome_body code None) there.2
     ]) (e ∙ g)
 
--- ---- at rest
+-- ---- at rest: a client, and a listener with this hash function
 
-module _ (stage : ClientStage) (x : ClientEnd) (given sent : List SaslBody) (idle : client_turn_in stage ≢ Send) where
+module _ (hash : ScramHash) (stage : ClientStage) (x : ClientEnd) (given sent : List SaslBody) (idle : client_turn_in stage ≢ Send) where
   -- the listener waits for an init
-  no_init : ClientView stage x given sent → given ≡ own_mechanisms ∷ [] → sent ≡ [] → ⊥
-  no_init (awaits_mechanisms t g s) p q = let both : [] ≡ own_mechanisms ∷ [] = sym g ∙ p in cc
+  no_init : ClientView stage x given sent → given ≡ own_mechanisms hash ∷ [] → sent ≡ [] → ⊥
+  no_init (awaits_mechanisms t g s) p q = let both : [] ≡ own_mechanisms hash ∷ [] = sym g ∙ p in cc
   no_init (owes_init names t g s) p q = idle t
   no_init (awaits_challenge names t g s) p q = let both : client_init x ∷ [] ≡ [] = sym s ∙ q in cc
   no_init (owes_response names first t g s) p q = idle t
@@ -62,31 +64,31 @@ module _ (stage : ClientStage) (x : ClientEnd) (given sent : List SaslBody) (idl
   no_init (passed names first final told t g s a f) p q = let both : client_init x ∷ response_body final ∷ [] ≡ [] = sym s ∙ q in cc
 
   -- the listener waits for a response
-  no_response : (i c : SaslBody) → ClientView stage x given sent → given ≡ own_mechanisms ∷ c ∷ [] → sent ≡ i ∷ [] → ⊥
-  no_response i c (awaits_mechanisms t g s) p q = let both : [] ≡ own_mechanisms ∷ c ∷ [] = sym g ∙ p in cc
+  no_response : (i c : SaslBody) → ClientView stage x given sent → given ≡ own_mechanisms hash ∷ c ∷ [] → sent ≡ i ∷ [] → ⊥
+  no_response i c (awaits_mechanisms t g s) p q = let both : [] ≡ own_mechanisms hash ∷ c ∷ [] = sym g ∙ p in cc
   no_response i c (owes_init names t g s) p q = idle t
-  no_response i c (awaits_challenge names t g s) p q = let both : mechanisms_body names ∷ [] ≡ own_mechanisms ∷ c ∷ [] = sym g ∙ p in cc
+  no_response i c (awaits_challenge names t g s) p q = let both : mechanisms_body names ∷ [] ≡ own_mechanisms hash ∷ c ∷ [] = sym g ∙ p in cc
   no_response i c (owes_response names first t g s) p q = idle t
   no_response i c (awaits_outcome names first final t g s a) p q = let both : client_init x ∷ response_body final ∷ [] ≡ i ∷ [] = sym s ∙ q in cc
   no_response i c (passed names first final told t g s a f) p q = let both : client_init x ∷ response_body final ∷ [] ≡ i ∷ [] = sym s ∙ q in cc
 
   -- the listener passes
-  pub all_given : (c o : SaslBody) → ClientView stage x given sent → given ≡ own_mechanisms ∷ c ∷ o ∷ [] → client_turn_in stage ≡ Pass
-  all_given c o (awaits_mechanisms t g s) p = let both : [] ≡ own_mechanisms ∷ c ∷ o ∷ [] = sym g ∙ p in cc
+  pub all_given : (c o : SaslBody) → ClientView stage x given sent → given ≡ own_mechanisms hash ∷ c ∷ o ∷ [] → client_turn_in stage ≡ Pass
+  all_given c o (awaits_mechanisms t g s) p = let both : [] ≡ own_mechanisms hash ∷ c ∷ o ∷ [] = sym g ∙ p in cc
   all_given c o (owes_init names t g s) p = absurd (idle t)
-  all_given c o (awaits_challenge names t g s) p = let both : mechanisms_body names ∷ [] ≡ own_mechanisms ∷ c ∷ o ∷ [] = sym g ∙ p in cc
+  all_given c o (awaits_challenge names t g s) p = let both : mechanisms_body names ∷ [] ≡ own_mechanisms hash ∷ c ∷ o ∷ [] = sym g ∙ p in cc
   all_given c o (owes_response names first t g s) p = absurd (idle t)
   all_given c o (awaits_outcome names first final t g s a) p =
-      let both : mechanisms_body names ∷ challenge_body first ∷ [] ≡ own_mechanisms ∷ c ∷ o ∷ [] = sym g ∙ p in cc
+      let both : mechanisms_body names ∷ challenge_body first ∷ [] ≡ own_mechanisms hash ∷ c ∷ o ∷ [] = sym g ∙ p in cc
   all_given c o (passed names first final told t g s a f) p = t
 
   -- both pass
-  pub both_pass : (other : ServerStage) (stored : List ℕ → Option StoredPassword) (own : List ℕ) → ClientView stage x given sent → ListenerView other stored own sent given
+  pub both_pass : (other : ServerStage) (stored : List ℕ → Option StoredPassword) (own : List ℕ) → ClientView stage x given sent → ListenerView hash other stored own sent given
       → turn_in other ≢ Send → (client_turn_in stage ≡ Pass) × (turn_in other ≡ Pass)
   both_pass other stored own v (listener.owes_mechanisms t g s) ready = absurd (ready t)
   both_pass other stored own v (listener.awaits_init t g s) ready = absurd (no_init v s g)
   both_pass other stored own v (listener.owes_challenge cf first h t g s c) ready = absurd (ready t)
-  both_pass other stored own v (listener.awaits_response cf first h t g s c) ready = absurd (no_response (init_body own_mechanism (Some cf) h) (challenge_body first) v s g)
+  both_pass other stored own v (listener.awaits_response cf first h t g s c) ready = absurd (no_response (init_body (mechanism_of hash) (Some cf) h) (challenge_body first) v s g)
   both_pass other stored own v (listener.owes_outcome u cf first final told h t g s c) ready = absurd (ready t)
   both_pass other stored own v (listener.passed u cf first final told h t g s c) ready =
       (all_given (challenge_body first) (outcome_body sasl.Ok (Some told)) v s, t)

@@ -1,25 +1,26 @@
--- The two ends of a SASL exchange with SCRAM-SHA-256, joined by a stream of bodies each way.
+-- The two ends of a SASL exchange with SCRAM, joined by a stream of bodies each way.
 use Rattle.std.specs.Prelude.{◌≡◌, ◌≢◌, ◌⊎◌, ℕ, List, ◌++◌, Some, ⊤}
 use Rattle.amqp_composites.specs.declared.sasl_body.SaslBody.{SaslBody}
 use Rattle.base64.specs.GeneralPurpose.{IsBytes}
-use Rattle.sha2.specs.Sha256.{sha256}
 use Rattle.amqp_opening.specs.Authentication.{stored_for}
 use Rattle.sasl_gate.specs.declared.gate.server.ServerStage.{ServerStage}
 use Rattle.sasl_gate.specs.declared.gate.server.ServerStage.TheVariants as server_stage
 use Rattle.sasl_gate.specs.Check.{stored_of}
 use Rattle.sasl_gate.specs.ClientGate.{ClientEnd, client_holds}
+use Rattle.sasl_gate.specs.Hashes.{digest_of, block_of, output_of}
 use Rattle.sasl_gate.specs.Profile.{IsAllowedUser, IsAllowedCount, IsNonce}
 use Rattle.sasl_gate.specs.ServerGate.{ServerEnd, server_holds}
 use Rattle.sasl_gate.specs.States.{Account}
 
--- a client in the profile and a listener with one user, of whose password it keeps what RFC 5802, section 3 says, with a salt and a
--- count; and what each was given, and what it sent
+-- a client in the profile and a listener of the same mechanism with one user, of whose password it keeps what RFC 5802, section 3 says,
+-- with a salt and a count; and what each was given, and what it sent
 pub record AreEnds (x : ClientEnd) (y : ServerEnd Account) (salt : List ℕ) (count : ℕ)
     (client_given client_sent listener_given listener_sent : List SaslBody) : Type 0 where
+  pub same_hash : x.hash ≡ y.hash
   pub user_is : IsAllowedUser x.client.user
   pub nonce_is : IsNonce x.client.nonce
   pub own_is : IsNonce y.server.nonce
-  pub stored_is : y.server.provider.stored ≡ Some (stored_of sha256 64 32 y.server.provider.password salt count)
+  pub stored_is : y.server.provider.stored ≡ Some (stored_of (digest_of y.hash) (block_of y.hash) (output_of y.hash) y.server.provider.password salt count)
   pub salt_is : IsBytes salt
   pub count_is : IsAllowedCount count
   pub client : client_holds x client_given client_sent

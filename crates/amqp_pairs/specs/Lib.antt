@@ -2,3 +2,4 @@ pub mod Joined
 pub mod Errors
 pub mod Streams
 pub mod Failures
+pub mod Mechanisms

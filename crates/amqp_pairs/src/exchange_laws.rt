@@ -20,11 +20,11 @@ pub fn same_accounts_are_not_refused()
         IsSameAccount x y.server.provider → IsRefusing y.stage → ⊥) }
     ensures cause { ForJoined (λ x y gc sc gl sl fc fl.
         IsSameAccount x y.server.provider
-        → (code : SaslCode) → IsRefusalCause (stored_for y.server.provider) y.server.nonce code gl → ⊥) }
+        → (code : SaslCode) → IsRefusalCause y.hash (stored_for y.server.provider) y.server.nonce code gl → ⊥) }
     ensures next_at_listener { ForJoined (λ x y gc sc gl sl fc fl.
         IsSameAccount x y.server.provider → server_turn y ≡ Receive
         → (code : SaslCode) (body : SaslBody) (more : List SaslBody) → fl ≡ body ∷ more
-        → IsRefusalCause (stored_for y.server.provider) y.server.nonce code (gl ++ body ∷ []) → ⊥) }
+        → IsRefusalCause y.hash (stored_for y.server.provider) y.server.nonce code (gl ++ body ∷ []) → ⊥) }
     ensures next_at_client { ForJoined (λ x y gc sc gl sl fc fl.
         IsSameAccount x y.server.provider
         → (e : NegotiationError) (body : SaslBody) (more : List SaslBody) → fc ≡ body ∷ more
@@ -35,11 +35,11 @@ pub fn same_accounts_are_not_refused()
 /// another password, for which the listener took its proof; it has no cause to refuse what it took.
 pub fn only_other_accounts_are_refused()
     ensures cause { ForJoined (λ x y gc sc gl sl fc fl.
-        (code : SaslCode) → IsRefusalCause (stored_for y.server.provider) y.server.nonce code gl
+        (code : SaslCode) → IsRefusalCause y.hash (stored_for y.server.provider) y.server.nonce code gl
         → (code ≡ sasl.Auth) × IsOtherAccount x y.server.provider) }
     ensures next_at_listener { ForJoined (λ x y gc sc gl sl fc fl.
         server_turn y ≡ Receive → (code : SaslCode) (body : SaslBody) (more : List SaslBody) → fl ≡ body ∷ more
-        → IsRefusalCause (stored_for y.server.provider) y.server.nonce code (gl ++ body ∷ [])
+        → IsRefusalCause y.hash (stored_for y.server.provider) y.server.nonce code (gl ++ body ∷ [])
         → (code ≡ sasl.Auth) × IsOtherAccount x y.server.provider) }
     ensures client { ForJoined (λ x y gc sc gl sl fc fl.
         (e : NegotiationError) → client_causes x e gc sc → ⊥) }

@@ -3,21 +3,23 @@ ghost use Rattle.std.specs.Prelude.{◌≡◌, ℕ, List, [], ◌∷◌, ◌++�
 ghost use Rattle.amqp_composites.specs.declared.sasl_body.SaslBody.{SaslBody};
 ghost use Rattle.amqp_opening.specs.Authentication.{stored_for};
 ghost use Rattle.base64.specs.GeneralPurpose.{IsBytes};
-ghost use Rattle.sha2.specs.Sha256.{sha256};
 ghost use Rattle.sasl_gate.specs.declared.gate.client.SaslProfile.{SaslProfile};
+ghost use Rattle.sasl_gate.specs.declared.scram.hash.ScramHash.{ScramHash};
 ghost use Rattle.sasl_gate.specs.Check.{stored_of};
-ghost use Rattle.sasl_gate.specs.ClientGate.{ClientEnd, ClientSame, client_begun, client_holds, nonce_of, username_of};
+ghost use Rattle.sasl_gate.specs.ClientGate.{ClientEnd, ClientSame, client_begun, client_holds, hash_of, nonce_of, username_of};
+ghost use Rattle.sasl_gate.specs.Hashes.{digest_of, block_of, output_of};
 ghost use Rattle.sasl_gate.specs.Profile.{IsAllowedUser, IsAllowedCount, IsNonce};
 ghost use Rattle.sasl_gate.specs.ServerGate.{ServerEnd, ServerSame, server_begun, server_holds};
 ghost use Rattle.sasl_gate.specs.States.{Account};
 ghost use Rattle.amqp_pairs.specs.Joined.{AreJoined};
 
-/// Two ends that have read and written nothing are joined.
+/// Two ends of the same mechanism that have read and written nothing are joined.
 pub fn begun_ends_are_joined()
-    ensures { (profile : SaslProfile) (hostname : Option (List ℕ)) (account : Account) (own salt : List ℕ) (count : ℕ)
-        → IsAllowedUser (username_of profile) → IsNonce (nonce_of profile) → IsNonce own
-        → account.stored ≡ Some (stored_of sha256 64 32 account.password salt count) → IsBytes salt → IsAllowedCount count
-        → AreJoined (client_begun profile hostname) (server_begun account own) salt count [] [] [] [] [] [] }
+    ensures { (profile : SaslProfile) (hostname : Option (List ℕ)) (hash : ScramHash) (account : Account) (own salt : List ℕ) (count : ℕ)
+        → hash ≡ hash_of profile → IsAllowedUser (username_of profile) → IsNonce (nonce_of profile) → IsNonce own
+        → account.stored ≡ Some (stored_of (digest_of hash) (block_of hash) (output_of hash) account.password salt count)
+        → IsBytes salt → IsAllowedCount count
+        → AreJoined (client_begun profile hostname) (server_begun hash account own) salt count [] [] [] [] [] [] }
 {}
 
 /// They stay joined where one sends a body, which is then in flight, or takes the next one.

@@ -1,4 +1,4 @@
-//! Laws over the two ends of a SASL exchange with SCRAM-SHA-256, one file a topic.
+//! Laws over the two ends of a SASL exchange with SCRAM, one file a topic.
 //!
 //! Each function is empty: its contract is the law.
 #![tactic(auto)]
@@ -6,4 +6,5 @@
 pub mod exchange_laws;
 pub mod failure_laws;
 pub mod joining_laws;
+pub mod mechanism_laws;
 pub mod stream_laws;
