@@ -1,4 +1,4 @@
-//! Rows that run the world: the conversation of RFC 7677, whole, refused and cut, and its statuses.
+//! Rows that run the world: the conversations of RFC 7677 and RFC 5802, whole, refused and cut, and its statuses.
 use crate::tests::outcome;
 use amqp_wire::status::Status;
 use std::alloc::{AllocError, Global};
@@ -40,6 +40,43 @@ fn conversation(rt: HostRuntime) -> Result<(), Fail> {
     Ok(())
 }
 
+// The same with SCRAM-SHA-1, by the example of RFC 5802, section 5.
+const SCRIPT_SHA1: &str =
+    "c 0 open id=c sasl=sha1 user=user pass=pencil nonce=fyko+d2lbbFgONRv9qkxdawL
+l 0 accept id=l sasl=sha1 user=user pass=pencil salt=QSXCR+Q6sek8bf92 rounds=4096 nonce=3rfcNHYJY1ZVvWVs7j
+l 0 take 8
+c 0 take 38
+l 0 take 65
+c 0 take 86
+l 0 take 98
+c 0 take 56
+l 0 take 34
+c 0 take 26
+";
+
+const TRACE_SHA1: &str = "0 0 pending
+0 wrote 414d515003010000
+1 1 pending
+1 wrote 414d515003010000
+2 wrote 0000001e02010000005340c01101e00e01a30b534352414d2d5348412d31
+3 wrote 0000004102010000005341c03402a30b534352414d2d5348412d31a0246e2c2c6e3d757365722c723d66796b6f2b64326c626246674f4e527639716b786461774c
+4 wrote 0000005602010000005342c04901a046723d66796b6f2b64326c626246674f4e527639716b786461774c337266634e48594a59315a5676575673376a2c733d51535843522b513673656b38626639322c693d34303936
+5 wrote 0000006202010000005343c05501a052633d626977732c723d66796b6f2b64326c626246674f4e527639716b786461774c337266634e48594a59315a5676575673376a2c703d763058387633427a325430434a47624a51794630582b48493454733d
+6 wrote 0000003002010000005344c023025000a01e763d726d46397071563853377375416f5a576a6134644a526b46734b513d414d515000010000
+7 wrote 414d5150000100000000001a02000000005310c00d04a101634070000400006000ff
+8 1 connection
+8 wrote 0000001a02000000005310c00d04a1016c4070000400006000ff
+9 0 connection
+";
+
+#[test]
+fn conversation_sha1(rt: HostRuntime) -> Result<(), Fail> {
+    let (status, written) = outcome(rt.alloc(), &["world"], SCRIPT_SHA1.as_bytes(), &[], &[])?;
+    assert_eq!(rt; status, Status::Done);
+    assert_eq!(rt; written.as_slice(), TRACE_SHA1.as_bytes());
+    Ok(())
+}
+
 const OTHER_PASSWORD: &str =
     "c 0 open id=c sasl=sha256 user=user pass=pencil2 nonce=rOprNGfwEbeRWgbNEkqO
 l 0 accept id=l sasl=sha256 user=user pass=pencil salt=W22ZaJ0SNY7soEsUEjb6gQ== rounds=4096 nonce=%25hvYDpWUa2RaTCAfuxFIlj)hNlF$k0
@@ -62,6 +99,26 @@ fn other_password(rt: HostRuntime) -> Result<(), Fail> {
 ";
     assert!(rt; text.ends_with(end), "{text}");
     assert!(rt; !text.contains("414d515000010000"), "{text}");
+    Ok(())
+}
+
+// The client has SHA-1 and the listener SHA-256: the client finds no mechanism of its own.
+const OTHER_HASH: &str =
+    "c 0 open id=c sasl=sha1 user=user pass=pencil nonce=fyko+d2lbbFgONRv9qkxdawL
+l 0 accept id=l sasl=sha256 user=user pass=pencil salt=QSXCR+Q6sek8bf92 rounds=4096 nonce=3rfcNHYJY1ZVvWVs7j
+l 0 take 8
+c 0 take 40
+";
+
+#[test]
+fn other_hash(rt: HostRuntime) -> Result<(), Fail> {
+    let (status, written) = outcome(rt.alloc(), &["world"], OTHER_HASH.as_bytes(), &[], &[])?;
+    assert_eq!(rt; status, Status::Done);
+    let text = str::from_utf8(written.as_slice())?;
+    assert!(rt;
+        text.ends_with("3 0 error Open.Negotiation.NotImplemented\n"),
+        "{text}"
+    );
     Ok(())
 }
 

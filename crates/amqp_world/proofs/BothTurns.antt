@@ -11,8 +11,8 @@ use Rattle.amqp_words.specs.declared.trace.Entry.{Entry}
 use Rattle.amqp_world.specs.History.{Event, is_same, last_moment}
 use Rattle.amqp_world.specs.Valid.{IsValid, IsValidAct, kind_of}
 use Rattle.amqp_world.specs.Explains.{past_of, Explained}
-use Rattle.amqp_world.specs.Turn.{CanAct, Turned, empty_pipe}
-use Rattle.amqp_world.specs.Related.{Side, Related, past_in}
+use Rattle.amqp_world.specs.Turn.{CanAct, Turned, IsTurn, IsTurnAt, empty_pipe}
+use Rattle.amqp_world.specs.Related.{Side, Related, past_in, view_of}
 use Rattle.amqp_world.proofs.Growth.{past_more, length-past_of}
 use Rattle.amqp_world.proofs.Sides.{side_near, side_far, side_start, histories, explains_turn, may_act}
 
@@ -99,3 +99,19 @@ valid_where b s T C r late test may =
 pub both_ok : {T E : Type 0} (r : Result T E) (P Q S : Type 0) → (P → Q → S) → OnOk r P → OnOk r Q → OnOk r S
 both_ok (Ok v) P Q S f p q = f p q
 both_ok (Err e) P Q S f p q = tt
+
+-- ---- one step, in words of the view
+
+pub turn_client : (old new : Both) (s : Step) (x : Entry) (name : ℕ) → s.end ≡ Client → name ≡ length old.steps → Turned old.client old.listener name s.at s.act new.client new.listener x → new.trace.entries ≡ old.trace.entries ++ x ∷ [] → IsTurn (view_of old false) s (view_of new false)
+turn_client old new s x name e n t entries = record {
+  entry = x;
+  entries = entries;
+  turned = subst (λ (y : End). IsTurnAt y (view_of old false) s (view_of new false) x) (sym e) (subst (λ (k : ℕ). Turned old.client old.listener k s.at s.act new.client new.listener x) n t);
+}
+
+pub turn_listener : (old new : Both) (s : Step) (x : Entry) (name : ℕ) → s.end ≡ Listener → name ≡ length old.steps → Turned old.listener old.client name s.at s.act new.listener new.client x → new.trace.entries ≡ old.trace.entries ++ x ∷ [] → IsTurn (view_of old false) s (view_of new false)
+turn_listener old new s x name e n t entries = record {
+  entry = x;
+  entries = entries;
+  turned = subst (λ (y : End). IsTurnAt y (view_of old false) s (view_of new false) x) (sym e) (subst (λ (k : ℕ). Turned old.listener old.client k s.at s.act new.listener new.client x) n t);
+}

@@ -30,6 +30,7 @@ use Rattle.amqp_ends.specs.Quiet.{BeginsIn, AreOpposite}
 use Rattle.amqp_ends.specs.Standing.{Stands, uncalled}
 use Rattle.amqp_ends.specs.Wants.{AreStill}
 use Rattle.amqp_ends.proofs.QuietFew.{few_frames}
+use Rattle.amqp_ends.proofs.Sizes.{never_refused}
 use Rattle.amqp_ends.proofs.Wants.{wants}
 use Rattle.amqp_world.specs.Causes.{IsVast, Adds, NothingInFlight, IsHistoried, Histories}
 use Rattle.amqp_world.specs.Explains.{Explains}
@@ -190,16 +191,27 @@ side_gate e f p past s =
     let b : IsGated (calls e past) (wrote e past) (read_in s.h ++ (pipe_of p).input) = subst (λ (u : List ℕ). IsGated (calls e past) u (read_in s.h ++ (pipe_of p).input)) s.sent a in
     subst (λ (u : List ℕ). IsGated (calls e past) (wrote e past) u) s.got b
 
--- an end has a history that explains its replies
-side_history : (e f : End) (p : Peering Piped) (past : List Event) → Side e f p past → IsHistoried e past
-side_history e f p past s =
-    record { h = s.h; follows = s.follows; calm = s.calm; tied = tied_law p s.h s.has; layer = layer_law p s.h s.has; few = few_frames s.h (layer_law p s.h s.has); said = said_law p s.h s.has; caused = causes_law p s.h s.has; unclosed = s.unclosed }
-
 -- of two ends, what the one read is the front of what the other wrote
 side_meets : (e f : End) (p q : Peering Piped) (past : List Event) → other e ≡ f → (near : Side e f p past) → (far : Side f e q past) → Meets near.h far.h
 side_meets e f p q past o near far =
     meeting near.h far.h (pipe_of p).input (wrote (other e) past) (taken e past) near.calm (tied_law p near.h near.has) (tied_law q far.h far.has) (said_law q far.h far.has) near.got
     (ap (λ (y : End). wrote y past) o ∙ sym far.sent)
+
+-- an end has a history that explains its replies
+side_history : (e f : End) (p q : Peering Piped) (past : List Event) → other e ≡ f → other f ≡ e → Side e f p past → Side f e q past → IsHistoried e past
+side_history e f p q past o o' s far =
+    record {
+      h = s.h;
+      follows = s.follows;
+      calm = s.calm;
+      tied = tied_law p s.h s.has;
+      layer = layer_law p s.h s.has;
+      few = few_frames s.h (layer_law p s.h s.has);
+      said = said_law p s.h s.has;
+      caused = causes_law p s.h s.has;
+      unclosed = s.unclosed;
+      unrefused = never_refused s.h far.h (side_meets e f p q past o s far) (side_meets f e q p past o' far s);
+    }
 
 -- two ends between which nothing is in flight
 side_still : (e f : End) (p q : Peering Piped) (past : List Event) → other e ≡ f → other f ≡ e → AreOpposite (calls e past) (calls f past) → NothingInFlight past → (near : Side e f p past) → (far : Side f e q past)
@@ -226,8 +238,8 @@ side_still e f p q past o o' k n near far = record {
 pub histories : (p q : Peering Piped) (past : List Event) → Side Client Listener p past → Side Listener Client q past → Histories past
 unfolding side_history
 histories p q past client listener = record {
-  client = side_history Client Listener p past client;
-  listener = side_history Listener Client q past listener;
+  client = side_history Client Listener p q past refl refl client listener;
+  listener = side_history Listener Client q p past refl refl listener client;
   wants = λ n. (
     wants client.h listener.h (pipe_of p).input (pipe_of q).input (side_still Client Listener p q past refl refl (inl (client.begins, listener.begins)) n client listener),
     wants listener.h client.h (pipe_of q).input (pipe_of p).input (side_still Listener Client q p past refl refl (inr (listener.begins, client.begins)) n listener client),

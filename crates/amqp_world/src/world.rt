@@ -63,6 +63,9 @@ impl Model for World {
     ghost invariant = { λ w. w.failed ≡ false → Related w.both };
 }
 
+// Lets a value go. The drop of two ends has as many places as they have parts; here it is one.
+fn discard<T: Drop>(_value: T) {}
+
 impl World {
     /// Two ends to which nothing happened; the one error is want of memory.
     pub fn new(alloc: Global) -> Result<World, AllocError>
@@ -114,8 +117,17 @@ impl World {
     pub fn into_trace(self) -> Trace
         ensures { result.entries ≡ self.entries }
     {
-        let both = self.both;
-        both.trace
+        let Both {
+            client,
+            listener,
+            steps,
+            trace,
+            ..
+        } = self.both;
+        discard(client);
+        discard(listener);
+        discard(steps);
+        trace
     }
 
     /// Makes steps from the start: a trace that explains them, or the first that is not valid.
@@ -126,8 +138,13 @@ impl World {
         ensures failed { IsErrOf result WorldError.Failed → ⊥ }
     {
         let mut world = World::new(alloc)?;
-        world.make_all(steps)?;
-        Ok(world.into_trace())
+        match world.make_all(steps) {
+            Ok(()) => Ok(world.into_trace()),
+            Err(error) => {
+                discard(world);
+                Err(error)
+            }
+        }
     }
 
     /// Makes steps from the start, up to the first that is not valid.

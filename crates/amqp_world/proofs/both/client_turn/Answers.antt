@@ -1,5 +1,5 @@
 use Rattle.amqp_world.specs.Turn.{Turned}
-use Rattle.amqp_world.proofs.BothTurns.{related_client, may_client, both_ok}
+use Rattle.amqp_world.proofs.BothTurns.{turn_client, related_client, may_client, both_ok}
 use Rattle.amqp_world.proofs.both.client_turn.Goals as goal
 
 pub turn-requires-clause-can : goal.turn-requires-clause-can
@@ -12,4 +12,12 @@ returns-clause-related c =
     let turned : Turned c.args.both.now.client c.args.both.now.listener c.len-name.result c.args.step.at c.args.step.act new.client new.listener c.in_ok-entry.entry = rw (c.keep.ensures.client, c.keep.ensures.listener) c.in_ok-entry.ensures in
     both_ok c.keep.result _ _ _
     (λ steps entries. related_client c.args.both.now new c.args.step c.in_ok-entry.entry c.len-name.result c.requires.related c.requires.end c.requires.valid c.len-name.ensures turned steps entries c.keep.ensures.moment)
+    c.keep.ensures.steps c.keep.ensures.entries
+
+pub returns-clause-turn : goal.returns-clause-turn
+returns-clause-turn c =
+    let new = c.keep.new.both in
+    let turned : Turned c.args.both.now.client c.args.both.now.listener c.len-name.result c.args.step.at c.args.step.act new.client new.listener c.in_ok-entry.entry = rw (c.keep.ensures.client, c.keep.ensures.listener) c.in_ok-entry.ensures in
+    both_ok c.keep.result _ _ _
+    (λ steps entries. turn_client c.args.both.now new c.args.step c.in_ok-entry.entry c.len-name.result c.requires.end c.len-name.ensures turned entries)
     c.keep.ensures.steps c.keep.ensures.entries
