@@ -5,4 +5,5 @@ pub mod Falls
 pub mod Same
 pub mod SameLaws
 pub mod Maps
+pub mod Marks
 pub mod Errors

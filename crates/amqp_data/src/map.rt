@@ -5,6 +5,7 @@ ghost use Rattle.std.specs.List.{list_any};
 ghost use Rattle.std.specs.Slice.Iter.{iter_rest};
 ghost use Rattle.amqp_data.specs.Data.{Amqp, no_pairs, pair_count, IsNew, HasDistinctKeys};
 ghost use Rattle.amqp_data.specs.Maps.{lookup, inserted};
+ghost use Rattle.amqp_data.specs.Marks.{last_byte, mark_of};
 ghost use Rattle.amqp_data.specs.Same.{same, distinct_keys};
 ghost use Rattle.amqp_data.specs.View.{view, pairs_view};
 ghost use Rattle.amqp_data.specs.declared.map.MapError.TheVariants.{Memory};
@@ -44,14 +45,38 @@ fn have_key(entries: &[Entry], key: &Value) -> bool
     entries.iter().any(|entry| *key == entry.key)
 }
 
-/// Whether each key is new, where it is compared to all before it.
+fn last_byte(bytes: &[u8]) -> u8
+    ensures { result ≡ last_byte bytes.now }
+{
+    match bytes {
+        [.., last] => *last,
+        _ => 0,
+    }
+}
+
+/// The last byte of a text or a symbol, and 0 of an empty one and of any other value: equal keys have the same.
+fn mark_of(key: &Value) -> u8
+    ensures { result ≡ mark_of (view key.now) }
+{
+    match key {
+        Value::String(text) => last_byte(text.as_bytes()),
+        Value::Symbol(symbol) => last_byte(symbol.as_slice()),
+        _ => 0,
+    }
+}
+
+/// Whether each key is new: it is compared to all before it where one of them has the same mark, which is seldom so.
 fn are_all_new(entries: &[Entry]) -> bool
     ensures { result ≡ distinct_keys (pairs_view entries.now) }
 {
+    let mut seen = [false; 256];
     for place in 0..entries.len() {
-        if have_key(&entries[..place], &entries[place].key) {
+        let key = &entries[place].key;
+        let mark = mark_of(key) as usize;
+        if seen[mark] && have_key(&entries[..place], key) {
             return false;
         }
+        seen[mark] = true;
     }
     true
 }

@@ -1,5 +1,5 @@
 //! Strings of Unicode characters in UTF-8 (OASIS AMQP 1.0, part 1, section 1.6.20).
-ghost use Rattle.std.specs.Prelude.{◌≡◌, ◌↔◌, List, ℕ, [], length, IsUtf8, IsTrue, IfOk, IfErr, IsErrOf};
+ghost use Rattle.std.specs.Prelude.{◌≡◌, ◌↔◌, List, ℕ, [], length, IsUtf8, IsTrue, IfOk, IfErr, IfSome, IfNone, IsErrOf};
 ghost use Rattle.amqp_text.specs.declared.text.TextError.{TextError};
 ghost use Rattle.amqp_text.specs.declared.text.TextError.TheVariants.{Memory, NotUtf8};
 ghost use Rattle.std.specs.String.{string_bytes};
@@ -43,6 +43,21 @@ impl Model for Text {
     ghost view = { λ t. string_bytes t.text };
 }
 
+// The text that bytes spell, if they are UTF-8. ASCII is told by a shorter test.
+fn as_text(bytes: &[u8]) -> Option<&str>
+    ensures found { IfSome result (λ text. text.now ≡ bytes.now) }
+    ensures utf8 { IfSome result (λ _. IsUtf8 bytes.now) }
+    ensures missing { IfNone result (IsUtf8 bytes.now → ⊥) }
+{
+    if bytes.is_ascii() {
+        return Some(unsafe { str::from_utf8_unchecked(bytes) });
+    }
+    match str::from_utf8(bytes) {
+        Ok(text) => Some(text),
+        Err(_) => None,
+    }
+}
+
 impl Text {
     /// The empty text; takes no memory.
     pub fn new(alloc: Global) -> Self
@@ -67,12 +82,12 @@ impl Text {
         ensures utf8 { IfOk result (λ _. IsUtf8 bytes.now) }
         ensures refused { IsErrOf result TextError.NotUtf8 → IsUtf8 bytes.now → ⊥ }
     {
-        match str::from_utf8(bytes) {
-            Ok(text) => {
+        match as_text(bytes) {
+            Some(text) => {
                 let text = Text::from_str(alloc, text)?;
                 Ok(text)
             }
-            Err(_) => Err(TextError::NotUtf8),
+            None => Err(TextError::NotUtf8),
         }
     }
 
