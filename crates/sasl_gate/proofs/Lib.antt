@@ -9,3 +9,8 @@ pub mod Listener
 pub mod Gates
 pub mod ClientGates
 pub mod ServerGates
+pub mod InitClients
+pub mod InitServers
+pub mod AnyClients
+pub mod AnyServers
+pub mod Plains

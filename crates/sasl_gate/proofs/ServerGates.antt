@@ -1,4 +1,4 @@
--- The listener's gate: what it wrote, and what it passes on.
+-- The listener's end with SCRAM: what it reads, and what it passes on.
 use Rattle.std.proofs.Common.{◌≡◌, ◌≢◌, ◌<◌, ◌≤◌, ◌⊎◌, inl, inr, arith, ℕ, false, List, [], ◌∷◌, ◌++◌, length, Option, Some, None, Result, Ok, Err, refl, sym, ap, ◌∙◌, subst}
 use Rattle.std.proofs.lemmas.List.{append-nil, length-append}
 use Rattle.std.specs.Prelude.{⊤}
@@ -9,32 +9,26 @@ use Rattle.amqp_composites.specs.declared.sasl.SaslInit.{SaslInit}
 use Rattle.amqp_composites.specs.declared.sasl.SaslResponse.{SaslResponse}
 use Rattle.amqp_composites.specs.declared.sasl_code.SaslCode.{SaslCode}
 use Rattle.amqp_composites.specs.declared.sasl_code.SaslCode.TheVariants as sasl
-use Rattle.amqp_wire.specs.declared.link.Link.{Ghosts}
-use Rattle.amqp_wire.specs.Codec.{Codec}
 use Rattle.amqp_wire.specs.Events.{LinkEvent, read_of, wrote_of}
-use Rattle.sasl_gate.specs.declared.gate.error.NegotiationError.{NegotiationError}
 use Rattle.sasl_gate.specs.declared.gate.exchange.Turn.{Turn}
 use Rattle.sasl_gate.specs.declared.gate.exchange.Turn.TheVariants.{Send, Receive, Refuse, Pass}
 use Rattle.sasl_gate.specs.declared.gate.exchange.Verdict.{Verdict}
 use Rattle.sasl_gate.specs.declared.gate.exchange.Verdict.TheVariants.{Taken, Refused as VerdictRefused}
-use Rattle.sasl_gate.specs.declared.gate.negotiation.GatePoll.{GatePoll}
-use Rattle.sasl_gate.specs.declared.gate.negotiation.Phase.{Phase}
-use Rattle.sasl_gate.specs.declared.gate.server.ServerStage.{ServerStage}
-use Rattle.sasl_gate.specs.declared.gate.server.ServerStage.TheVariants.{OwesMechanisms, AwaitsInit, OwesChallenge, AwaitsResponse, OwesOutcome, Passed, OwesRefusal, Refused}
+use Rattle.sasl_gate.specs.declared.gate.scram_server.ServerStage.{ServerStage}
+use Rattle.sasl_gate.specs.declared.gate.scram_server.ServerStage.TheVariants.{OwesMechanisms, AwaitsInit, OwesChallenge, AwaitsResponse, OwesOutcome, Passed, OwesRefusal, Refused}
 use Rattle.sasl_gate.specs.declared.scram.error.ScramErrorKind.{ScramErrorKind}
 use Rattle.sasl_gate.specs.declared.scram.hash.ScramHash.{ScramHash}
 use Rattle.sasl_gate.specs.declared.scram.server.ServerPhase.{ServerPhase}
 use Rattle.sasl_gate.specs.declared.scram.server.ServerPhase.TheVariants.{Unasked, Challenged, Proved}
 use Rattle.sasl_gate.specs.declared.scram.stored.StoredPassword.{StoredPassword}
 use Rattle.sasl_gate.specs.Check.{ServerAnswers}
-use Rattle.sasl_gate.specs.Frames.{Heard, said, sasl_header}
+use Rattle.sasl_gate.specs.Frames.{Heard, said}
 use Rattle.sasl_gate.specs.Hashes.{digest_of, block_of, output_of, mechanism_of}
-use Rattle.sasl_gate.specs.Negotiation.{Negotiating, HasFrames, HasIn, Has, IsPassed, IsPollAnswer, Polled}
 use Rattle.sasl_gate.specs.Refusals.{IsMemory, IsClientFirstRefusal, IsClientFinalRefusal}
-use Rattle.sasl_gate.specs.ScramBodies.{IsOnlySasl, init_body, challenge_body, outcome_body, Received}
-use Rattle.sasl_gate.specs.ServerGate.{ServerEnd, turn_in, server_turn, left_in, own_mechanisms, holds_in, server_holds, owes_in, server_owes, is_of_client, HasChallenge, HasProof, HasToRefuse, HasRefused, Waited, for_init, for_response, is_next, IsRefusalCause, by_client_first, by_client_final, by_mechanism, by_no_response, by_order, by_other_body, IsTextAnswer, ServerSame, server_mechanism, server_start, ServerPassed, HasServerPassed, ServerPolled}
+use Rattle.sasl_gate.specs.ScramBodies.{init_body, challenge_body, outcome_body, Received}
+use Rattle.sasl_gate.specs.ServerGate.{ServerEnd, turn_in, server_turn, left_in, own_mechanisms, holds_in, server_holds, owes_in, server_owes, is_of_client, HasChallenge, HasProof, HasToRefuse, HasRefused, Waited, for_init, for_response, is_next, IsRefusalCause, by_client_first, by_client_final, by_mechanism, by_no_response, by_order, by_other_body, IsTextAnswer, ServerSame, server_mechanism, ServerPassed, HasServerPassed}
 use Rattle.sasl_gate.specs.States.{ServerState, ForChallenged}
-use Rattle.sasl_gate.proofs.Gates.{only_sasl}
+use Rattle.sasl_gate.proofs.Gates.{Whole}
 
 -- ---- bodies that a listener reads
 
@@ -239,16 +233,7 @@ module _ {P : Type 0} (stored : P → List ℕ → Option StoredPassword) (x : S
         cause = h.cause;
       }
 
--- ---- the gate
-
--- a gate over a codec with nothing read and nothing queued has the empty history
-pub server_begins : {L P : Type 0} (stored : P → List ℕ → Option StoredPassword) (codec : Codec L) (hash : ScramHash) (provider : P) (nonce : List ℕ) → codec.input ≡ [] → codec.output ≡ []
-    → Has (server_mechanism stored) (server_start codec hash provider nonce) []
-server_begins stored codec hash provider nonce input output = record {
-  read = sym input;
-  wrote = ap (λ (u : List ℕ). u ++ sasl_header) output;
-  held = (refl, refl);
-}
+-- ---- an end that has passed
 
 abbrev Passes : Turn → Type 0
 Passes Send = ⊥
@@ -268,24 +253,20 @@ module _ {P : Type 0} (stored : P → List ℕ → Option StoredPassword) where
   passed_stage hash (OwesRefusal code) s given sent t h = absurd t
   passed_stage hash (Refused code) s given sent t h = absurd t
 
-  passed_same : (x y : ServerEnd P) (events : List LinkEvent) → ServerSame x y → HasServerPassed stored y events → HasServerPassed stored x events
+  pub passed_same : (x y : ServerEnd P) (events : List LinkEvent) → ServerSame x y → HasServerPassed stored y events → HasServerPassed stored x events
   passed_same x y events s h =
       subst (λ (k : ScramHash). ServerPassed k (stored x.server.provider) x.server.nonce (wrote_of events) (read_of events)) (sym s.hash)
       (subst (λ (p : P). ServerPassed y.hash (stored p) x.server.nonce (wrote_of events) (read_of events)) (sym s.provider)
       (subst (λ (u : List ℕ). ServerPassed y.hash (stored y.server.provider) u (wrote_of events) (read_of events)) (sym s.nonce) h))
 
-module _ {L P : Type 0} (stored : P → List ℕ → Option StoredPassword) where
-  -- only SASL was written
-  pub server_only_sasl : (n : Negotiating L (ServerEnd P)) (events : List LinkEvent) → Has (server_mechanism stored) n events → IsOnlySasl (wrote_of events)
-  server_only_sasl n events h = only_sasl (server_mechanism stored) n events h
-
-  -- a gate that passed: the exchange is whole, and its check holds
-  pub server_passed : (n : Negotiating L (ServerEnd P)) (events : List LinkEvent) → Has (server_mechanism stored) n events → IsPassed (server_mechanism stored) n → HasServerPassed stored n.exchange events
-  server_passed n events h passed =
-      let f : HasFrames (server_mechanism stored) n events = subst (λ (p : Phase). HasIn (server_mechanism stored) p n events) passed.phase h in
-      let both : (text : List ℕ) × HasProof n.exchange.hash (stored n.exchange.server.provider) n.exchange.server.nonce text f.given f.sent (outcome_body sasl.Ok (Some text) ∷ []) =
-      passed_stage stored n.exchange.hash n.exchange.stage n.exchange.server f.given f.sent (subst Passes (sym passed.turn) tt) f.held in
-      let k : HasProof n.exchange.hash (stored n.exchange.server.provider) n.exchange.server.nonce both.0 f.given f.sent (outcome_body sasl.Ok (Some both.0) ∷ []) = both.1 in
+module _ {P : Type 0} (stored : P → List ℕ → Option StoredPassword) where
+  -- the exchange is whole, and its check holds
+  pub server_passed : (x : ServerEnd P) (rest wrote read : List ℕ) → Whole (server_mechanism stored) x rest wrote read
+      → ServerPassed x.hash (stored x.server.provider) x.server.nonce wrote read
+  server_passed x rest wrote read w =
+      let both : (text : List ℕ) × HasProof x.hash (stored x.server.provider) x.server.nonce text w.given w.sent (outcome_body sasl.Ok (Some text) ∷ []) =
+      passed_stage stored x.hash x.stage x.server w.given w.sent (subst Passes (sym w.turn) tt) w.held in
+      let k : HasProof x.hash (stored x.server.provider) x.server.nonce both.0 w.given w.sent (outcome_body sasl.Ok (Some both.0) ∷ []) = both.1 in
       record {
         user = k.user;
         hostname = k.hostname;
@@ -294,19 +275,8 @@ module _ {L P : Type 0} (stored : P → List ℕ → Option StoredPassword) wher
         client_final = k.client_final;
         server_final = both.0;
         more = [];
-        rest = n.codec.input;
-        wrote_is = sym (append-nil (wrote_of events)) ∙ ap (λ (u : List ℕ). wrote_of events ++ u) (sym passed.flushed) ∙ f.wrote ∙ ap said k.sent_is
-            ∙ sym (append-nil (said (own_mechanisms n.exchange.hash ∷ challenge_body k.server_first ∷ outcome_body sasl.Ok (Some both.0) ∷ [])));
-        read_is = subst (λ (u : List SaslBody). Heard (read_of events) u n.codec.input) k.given_is f.heard;
+        rest = rest;
+        wrote_is = w.wrote_is ∙ ap said k.sent_is ∙ sym (append-nil (said (own_mechanisms x.hash ∷ challenge_body k.server_first ∷ outcome_body sasl.Ok (Some both.0) ∷ [])));
+        read_is = subst (λ (u : List SaslBody). Heard read u rest) k.given_is w.heard;
         check = k.check;
       }
-
-  -- what a poll says of the whole history
-  pub server_polled : (link : Ghosts L) (old : Negotiating L (ServerEnd P)) (left : ℕ) (result : Result GatePoll NegotiationError) (new : Negotiating L (ServerEnd P)) (left' : ℕ)
-      → Polled link (server_mechanism stored) old left result new left' → ServerPolled link stored old left result new left'
-  server_polled link old left result new left' p = record {
-    polled = p;
-    only_sasl = λ before h. server_only_sasl new (p.events ++ before) (p.goes.grows before h);
-    passed = λ e before h. passed_same stored old.exchange new.exchange (p.events ++ before) p.goes.kept
-        (server_passed new (p.events ++ before) (p.goes.grows before h) (subst (λ (r : Result GatePoll NegotiationError). IsPollAnswer (server_mechanism stored) p.events new left' r) e p.answer));
-  }

@@ -1,18 +1,14 @@
 -- The client's end of a SASL negotiation with SCRAM.
-use Rattle.std.specs.Prelude.{◌≡◌, ◌≢◌, ◌++◌, ◌⊎◌, ℕ, Bool, true, false, List, [], ◌∷◌, Option, Some, None, Result, Ok, Err, Contains, ⊤}
+use Rattle.std.specs.Prelude.{◌≡◌, ◌++◌, ◌⊎◌, ℕ, Bool, true, false, List, [], ◌∷◌, Option, Some, None, Result, Ok, Err, Contains, ⊤}
 use Rattle.std.specs.declared.alloc.AllocError.{AllocError}
 use Rattle.std.proofs.Common.{refl, sym, subst, ◌∙◌}
 use Rattle.amqp_composites.specs.declared.sasl_body.SaslBody.{SaslBody}
 use Rattle.amqp_composites.specs.declared.sasl_body.SaslBody.TheVariants.{Mechanisms, Challenge, Outcome}
 use Rattle.amqp_composites.specs.declared.sasl_code.SaslCode.{SaslCode}
 use Rattle.amqp_composites.specs.declared.sasl_code.SaslCode.TheVariants as sasl
-use Rattle.amqp_wire.specs.declared.link.Link.{Ghosts}
-use Rattle.amqp_wire.specs.Codec.{Codec}
 use Rattle.amqp_wire.specs.Events.{LinkEvent, read_of, wrote_of}
-use Rattle.sasl_gate.specs.declared.gate.client.ClientStage.{ClientStage}
-use Rattle.sasl_gate.specs.declared.gate.client.ClientStage.TheVariants.{AwaitsMechanisms, OwesInit, AwaitsChallenge, OwesResponse, AwaitsOutcome, Passed}
-use Rattle.sasl_gate.specs.declared.gate.client.SaslProfile.{SaslProfile}
-use Rattle.sasl_gate.specs.declared.gate.client.SaslProfile.TheVariants.{ScramSha1, ScramSha256, ScramSha512}
+use Rattle.sasl_gate.specs.declared.gate.scram_client.ClientStage.{ClientStage}
+use Rattle.sasl_gate.specs.declared.gate.scram_client.ClientStage.TheVariants.{AwaitsMechanisms, OwesInit, AwaitsChallenge, OwesResponse, AwaitsOutcome, OwesEmptyResponse, AwaitsEnd, Passed}
 use Rattle.sasl_gate.specs.declared.gate.error.NegotiationError.{NegotiationError}
 use Rattle.sasl_gate.specs.declared.gate.error.NegotiationError.TheVariants.{Memory, ProtocolHeaderMismatch, NotImplemented, SaslError, ScramError, Io, DecodeError, IllegalState, FramingError}
 use Rattle.sasl_gate.specs.declared.gate.exchange.Exchange.{Ghosts as Mechanism}
@@ -20,46 +16,21 @@ use Rattle.sasl_gate.specs.declared.gate.exchange.Turn.{Turn}
 use Rattle.sasl_gate.specs.declared.gate.exchange.Turn.TheVariants.{Send, Receive, Refuse, Pass}
 use Rattle.sasl_gate.specs.declared.gate.exchange.Verdict.{Verdict}
 use Rattle.sasl_gate.specs.declared.gate.exchange.Verdict.TheVariants.{Taken, Refused}
-use Rattle.sasl_gate.specs.declared.gate.negotiation.GatePoll.{GatePoll}
-use Rattle.sasl_gate.specs.declared.gate.negotiation.GatePoll.TheVariants as poll
-use Rattle.sasl_gate.specs.declared.gate.negotiation.Phase.TheVariants.{Header}
 use Rattle.sasl_gate.specs.declared.scram.client.ClientAnswer.{ClientAnswer}
 use Rattle.sasl_gate.specs.declared.scram.client.ClientPhase.{ClientPhase}
 use Rattle.sasl_gate.specs.declared.scram.client.ClientPhase.TheVariants.{Unanswered}
 use Rattle.sasl_gate.specs.declared.scram.error.ScramErrorKind.{ScramErrorKind}
-use Rattle.sasl_gate.specs.declared.scram.error.ScramErrorKind.TheVariants.{Signature, TextNotAllowed}
+use Rattle.sasl_gate.specs.declared.scram.error.ScramErrorKind.TheVariants.{Signature}
 use Rattle.sasl_gate.specs.declared.scram.hash.ScramHash.{ScramHash}
-use Rattle.sasl_gate.specs.declared.scram.hash.ScramHash.TheVariants.{Sha1, Sha256, Sha512}
 use Rattle.sasl_gate.specs.Check.{ClientAnswers, ClientCheck}
+use Rattle.sasl_gate.specs.ClientEnds.{is_refusal, HasMechanisms, IsUnlisted, EndsInRefusal, IsOutOfOrder}
 use Rattle.sasl_gate.specs.Exchange.{refused_with}
-use Rattle.sasl_gate.specs.Frames.{Heard, said, sasl_header}
+use Rattle.sasl_gate.specs.Frames.{Heard, said}
 use Rattle.sasl_gate.specs.Hashes.{digest_of, block_of, output_of, mechanism_of}
-use Rattle.sasl_gate.specs.Negotiation.{Negotiating, Has, Polled}
-use Rattle.sasl_gate.specs.Profile.{IsAllowedUser, IsAllowedPassword}
 use Rattle.sasl_gate.specs.Refusals.{IsMemory, IsServerFirstRefusal, IsServerFinalRefusal}
-use Rattle.sasl_gate.specs.ScramBodies.{mechanisms_body, init_body, challenge_body, response_body, outcome_body, IsOnlySasl}
+use Rattle.sasl_gate.specs.ScramBodies.{mechanisms_body, init_body, challenge_body, response_body, outcome_body}
 use Rattle.sasl_gate.specs.States.{ClientState, ForAnswered}
 use Rattle.sasl_gate.specs.Texts.{client_first_of}
-
-abbrev pub hash_of : SaslProfile → ScramHash
-hash_of (ScramSha1 user password nonce) = Sha1
-hash_of (ScramSha256 user password nonce) = Sha256
-hash_of (ScramSha512 user password nonce) = Sha512
-
-abbrev pub username_of : SaslProfile → List ℕ
-username_of (ScramSha1 user password nonce) = user
-username_of (ScramSha256 user password nonce) = user
-username_of (ScramSha512 user password nonce) = user
-
-abbrev pub password_of : SaslProfile → List ℕ
-password_of (ScramSha1 user password nonce) = password
-password_of (ScramSha256 user password nonce) = password
-password_of (ScramSha512 user password nonce) = password
-
-abbrev pub nonce_of : SaslProfile → List ℕ
-nonce_of (ScramSha1 user password nonce) = nonce
-nonce_of (ScramSha256 user password nonce) = nonce
-nonce_of (ScramSha512 user password nonce) = nonce
 
 -- a client's end of an exchange: its hash function and SCRAM client, how far it is, and the host that it means to reach
 pub record ClientEnd : Type 0 where
@@ -75,6 +46,8 @@ IsClientStage OwesInit phase = phase ≡ Unanswered
 IsClientStage AwaitsChallenge phase = phase ≡ Unanswered
 IsClientStage (OwesResponse text) phase = ForAnswered phase (λ _. Unit {0})
 IsClientStage AwaitsOutcome phase = ForAnswered phase (λ _. Unit {0})
+IsClientStage OwesEmptyResponse phase = Unit {0}
+IsClientStage AwaitsEnd phase = Unit {0}
 IsClientStage Passed phase = Unit {0}
 
 abbrev pub turn_in : ClientStage → Turn
@@ -83,17 +56,21 @@ turn_in OwesInit = Send
 turn_in AwaitsChallenge = Receive
 turn_in (OwesResponse text) = Send
 turn_in AwaitsOutcome = Receive
+turn_in OwesEmptyResponse = Send
+turn_in AwaitsEnd = Receive
 turn_in Passed = Pass
 
 abbrev pub client_turn : ClientEnd → Turn
 client_turn x = turn_in x.stage
 
 abbrev pub left_in : ClientStage → ℕ
-left_in AwaitsMechanisms = 5
-left_in OwesInit = 4
-left_in AwaitsChallenge = 3
-left_in (OwesResponse text) = 2
-left_in AwaitsOutcome = 1
+left_in AwaitsMechanisms = 7
+left_in OwesInit = 6
+left_in AwaitsChallenge = 5
+left_in (OwesResponse text) = 4
+left_in AwaitsOutcome = 3
+left_in OwesEmptyResponse = 2
+left_in AwaitsEnd = 1
 left_in Passed = 0
 
 abbrev pub client_left : ClientEnd → ℕ
@@ -109,18 +86,13 @@ owes_in OwesInit x body = body ≡ client_init x
 owes_in AwaitsChallenge x body = ⊥
 owes_in (OwesResponse text) x body = body ≡ response_body text
 owes_in AwaitsOutcome x body = ⊥
+owes_in OwesEmptyResponse x body = body ≡ response_body []
+owes_in AwaitsEnd x body = ⊥
 owes_in Passed x body = ⊥
 
 -- the body that an end owes
 abbrev pub client_owes : ClientEnd → SaslBody → Type 0
 client_owes x body = owes_in x.stage x body
-
--- an end with a hash function that read a list with its own mechanism, and sent this
-pub record HasMechanisms (hash : ScramHash) (given sent now : List SaslBody) : Type 0 where
-  pub names : List (List ℕ)
-  pub given_is : given ≡ mechanisms_body names ∷ []
-  pub listed : Contains names (mechanism_of hash)
-  pub sent_is : sent ≡ now
 
 -- an end that read a challenge too, has this answer to it, and sent this
 pub record HasAnswer (x : ClientEnd) (a : ClientAnswer) (given sent now : List SaslBody) : Type 0 where
@@ -130,23 +102,47 @@ pub record HasAnswer (x : ClientEnd) (a : ClientAnswer) (given sent now : List S
   pub answers : ClientAnswers (digest_of x.hash) (block_of x.hash) (output_of x.hash) x.client.user x.client.password x.client.nonce a.server_first a.client_final a.signature
   pub sent_is : sent ≡ now
 
--- an end whose check holds
+-- an end whose check holds, by a server final that was read as a challenge (OASIS AMQP 1.0, part 5, section 5.3.3.3), and that
+-- answered this so far
+pub record HasChecked (x : ClientEnd) (replied given sent : List SaslBody) : Type 0 where
+  pub names : List (List ℕ)
+  pub server_first : List ℕ
+  pub client_final : List ℕ
+  pub server_final : List ℕ
+  pub given_is : given ≡ mechanisms_body names ∷ challenge_body server_first ∷ challenge_body server_final ∷ []
+  pub listed : Contains names (mechanism_of x.hash)
+  pub sent_is : sent ≡ client_init x ∷ response_body client_final ∷ replied
+  pub check : ClientCheck (digest_of x.hash) (block_of x.hash) (output_of x.hash) x.client.user x.client.password x.client.nonce (client_first_of x.client.user x.client.nonce) server_first client_final server_final
+
+-- the server final came with outcome `Ok`, or as a challenge that was answered by an empty response (RFC 5802, section 5; OASIS AMQP
+-- 1.0, part 5, section 5.3.2)
+pub data IsFinal (server_final : List ℕ) (told replied : List SaslBody) : Type 0 where
+  in_outcome : told ≡ outcome_body sasl.Ok (Some server_final) ∷ [] → replied ≡ [] → IsFinal server_final told replied
+  in_challenge : (payload : Option (List ℕ)) → told ≡ challenge_body server_final ∷ outcome_body sasl.Ok payload ∷ []
+      → replied ≡ response_body [] ∷ [] → IsFinal server_final told replied
+
+-- an end that has passed: its check holds, and the outcome is `Ok`
 pub record HasPassed (x : ClientEnd) (given sent : List SaslBody) : Type 0 where
   pub names : List (List ℕ)
   pub server_first : List ℕ
   pub client_final : List ℕ
   pub server_final : List ℕ
-  pub given_is : given ≡ mechanisms_body names ∷ challenge_body server_first ∷ outcome_body sasl.Ok (Some server_final) ∷ []
+  pub told : List SaslBody
+  pub replied : List SaslBody
+  pub given_is : given ≡ mechanisms_body names ∷ challenge_body server_first ∷ told
+  pub sent_is : sent ≡ client_init x ∷ response_body client_final ∷ replied
+  pub final : IsFinal server_final told replied
   pub listed : Contains names (mechanism_of x.hash)
-  pub sent_is : sent ≡ client_init x ∷ response_body client_final ∷ []
   pub check : ClientCheck (digest_of x.hash) (block_of x.hash) (output_of x.hash) x.client.user x.client.password x.client.nonce (client_first_of x.client.user x.client.nonce) server_first client_final server_final
 
 abbrev pub holds_in : ClientStage → ClientEnd → List SaslBody → List SaslBody → Type 0
 holds_in AwaitsMechanisms x given sent = (given ≡ []) × (sent ≡ [])
-holds_in OwesInit x given sent = HasMechanisms x.hash given sent []
-holds_in AwaitsChallenge x given sent = HasMechanisms x.hash given sent (client_init x ∷ [])
+holds_in OwesInit x given sent = HasMechanisms (mechanism_of x.hash) given sent []
+holds_in AwaitsChallenge x given sent = HasMechanisms (mechanism_of x.hash) given sent (client_init x ∷ [])
 holds_in (OwesResponse text) x given sent = ForAnswered x.client.phase (λ a. (a.client_final ≡ text) × HasAnswer x a given sent (client_init x ∷ []))
 holds_in AwaitsOutcome x given sent = ForAnswered x.client.phase (λ a. HasAnswer x a given sent (client_init x ∷ response_body a.client_final ∷ []))
+holds_in OwesEmptyResponse x given sent = HasChecked x [] given sent
+holds_in AwaitsEnd x given sent = HasChecked x (response_body [] ∷ []) given sent
 holds_in Passed x given sent = HasPassed x given sent
 
 -- the bodies that an end was given and those that it sent
@@ -161,36 +157,31 @@ pub record ClientSame (x y : ClientEnd) : Type 0 where
   pub nonce : x.client.nonce ≡ y.client.nonce
   pub hostname : x.hostname ≡ y.hostname
 
--- whether an outcome refuses (OASIS AMQP 1.0, part 5, section 5.3.3.6)
-abbrev pub is_refusal : SaslCode → Bool
-is_refusal sasl.Ok = false
-is_refusal sasl.Auth = true
-is_refusal sasl.Sys = true
-is_refusal sasl.SysPerm = true
-is_refusal sasl.SysTemp = true
-
--- whether a body may be the next one for a client that was given those before: mechanisms, challenge, outcome, and at any time an
--- outcome other than `Ok` (part 5, section 5.3.3.6)
+-- whether a body may be the next one for a client that was given those before: mechanisms, challenge, outcome, or mechanisms, challenge,
+-- challenge, outcome; and at any time an outcome other than `Ok` (OASIS AMQP 1.0, part 5, sections 5.3.2 and 5.3.3.6)
 abbrev pub is_next : List SaslBody → SaslBody → Bool
 is_next [] (Mechanisms m) = true
 is_next (a ∷ []) (Challenge c) = true
+is_next (a ∷ b ∷ []) (Challenge c) = true
 is_next (a ∷ b ∷ []) (Outcome o) = true
+is_next (a ∷ b ∷ c ∷ []) (Outcome o) = true
 is_next before (Outcome o) = is_refusal o.code
 is_next before body = false
 
 -- the last body given is out of order
-pub record IsDisorder (given : List SaslBody) : Type 0 where
-  pub before : List SaslBody
-  pub body : SaslBody
-  pub given_is : given ≡ before ++ body ∷ []
-  pub not_next : is_next before body ≡ false
+abbrev pub IsDisorder : List SaslBody → Type 0
+IsDisorder given = IsOutOfOrder is_next given
+
+-- a body that brings a server final (RFC 5802, section 5): outcome `Ok`, or a challenge
+abbrev pub HasFinal : List ℕ → SaslBody → Type 0
+HasFinal text body = (body ≡ outcome_body sasl.Ok (Some text)) ⊎ (body ≡ challenge_body text)
 
 -- why a client fails with a kind of SCRAM
 pub data IsScramCause (x : ClientEnd) (kind : ScramErrorKind) (given sent : List SaslBody) : Type 0 where
   by_challenge : (names : List (List ℕ)) (text : List ℕ) → given ≡ mechanisms_body names ∷ challenge_body text ∷ [] → ¬ IsMemory kind
       → IsServerFirstRefusal x.client.nonce text kind → IsScramCause x kind given sent
-  by_outcome : (names : List (List ℕ)) (server_first client_final signature text : List ℕ)
-      → given ≡ mechanisms_body names ∷ challenge_body server_first ∷ outcome_body sasl.Ok (Some text) ∷ []
+  by_final : (names : List (List ℕ)) (server_first client_final signature text : List ℕ) (body : SaslBody) → HasFinal text body
+      → given ≡ mechanisms_body names ∷ challenge_body server_first ∷ body ∷ []
       → sent ≡ client_init x ∷ response_body client_final ∷ []
       → ClientAnswers (digest_of x.hash) (block_of x.hash) (output_of x.hash) x.client.user x.client.password x.client.nonce server_first client_final signature
       → IsServerFinalRefusal (output_of x.hash) signature text kind → IsScramCause x kind given sent
@@ -202,8 +193,8 @@ pub data IsScramCause (x : ClientEnd) (kind : ScramErrorKind) (given sent : List
 abbrev pub client_causes : ClientEnd → NegotiationError → List SaslBody → List SaslBody → Type 0
 client_causes x (Memory a) given sent = ⊥
 client_causes x (ProtocolHeaderMismatch h) given sent = ⊥
-client_causes x NotImplemented given sent = (names : List (List ℕ)) × (given ≡ mechanisms_body names ∷ []) × (¬ Contains names (mechanism_of x.hash))
-client_causes x (SaslError code payload) given sent = (before : List SaslBody) × (given ≡ before ++ outcome_body code payload ∷ []) × (code ≢ sasl.Ok)
+client_causes x NotImplemented given sent = IsUnlisted (mechanism_of x.hash) given
+client_causes x (SaslError code payload) given sent = EndsInRefusal code payload given
 client_causes x (ScramError kind) given sent = IsScramCause x kind given sent
 client_causes x (Io kind) given sent = ⊥
 client_causes x DecodeError given sent = ⊥
@@ -242,6 +233,8 @@ never_refuses OwesInit h = h
 never_refuses AwaitsChallenge h = h
 never_refuses (OwesResponse text) h = h
 never_refuses AwaitsOutcome h = h
+never_refuses OwesEmptyResponse h = h
+never_refuses AwaitsEnd h = h
 never_refuses Passed h = h
 
 pub client_refusal : (x : ClientEnd) (code : SaslCode) (given sent : List SaslBody) → client_turn x ≡ Refuse code → client_holds x given sent → client_causes x (refused_with code) given sent
@@ -259,40 +252,16 @@ client_same_then x y z a b = record {
   hostname = a.hostname ∙ b.hostname;
 }
 
--- ---- the gate
+-- ---- the ends of an exchange
 
 -- an end that has read and written nothing
-abbrev pub client_begun : SaslProfile → Option (List ℕ) → ClientEnd
-client_begun profile hostname = record {
-  hash = hash_of profile;
-  client = record { user = username_of profile; password = password_of profile; nonce = nonce_of profile; phase = Unanswered };
+abbrev pub client_begun : ScramHash → List ℕ → List ℕ → List ℕ → Option (List ℕ) → ClientEnd
+client_begun hash user password nonce hostname = record {
+  hash = hash;
+  client = record { user = user; password = password; nonce = nonce; phase = Unanswered };
   stage = AwaitsMechanisms;
   hostname = hostname;
 }
-
--- a gate that begins, over a codec: its header is queued
-abbrev pub client_start : {L : Type 0} → Codec L → SaslProfile → Option (List ℕ) → Negotiating L ClientEnd
-client_start codec profile hostname = record {
-  codec = record codec { output = codec.output ++ sasl_header };
-  phase = Header;
-  exchange = client_begun profile hostname;
-}
-
--- user and password are in the profile
-abbrev pub IsAllowedProfile : SaslProfile → Type 0
-IsAllowedProfile profile = IsAllowedUser (username_of profile) × IsAllowedPassword (password_of profile)
-
--- why a gate is not made, by what would be true of an allowed profile
-abbrev pub IsStartRefusal : Type 0 → NegotiationError → Type 0
-IsStartRefusal Allowed (Memory a) = Allowed
-IsStartRefusal Allowed (ProtocolHeaderMismatch h) = ⊥
-IsStartRefusal Allowed NotImplemented = ⊥
-IsStartRefusal Allowed (SaslError code payload) = ⊥
-IsStartRefusal Allowed (ScramError kind) = (kind ≡ TextNotAllowed) × (¬ Allowed)
-IsStartRefusal Allowed (Io kind) = ⊥
-IsStartRefusal Allowed DecodeError = ⊥
-IsStartRefusal Allowed IllegalState = ⊥
-IsStartRefusal Allowed FramingError = ⊥
 
 -- what was read and written says that the listener knows the password: the exchange is whole, and its check holds
 pub record ClientPassed (hash : ScramHash) (user password nonce : List ℕ) (hostname : Option (List ℕ)) (wrote read : List ℕ) : Type 0 where
@@ -300,23 +269,16 @@ pub record ClientPassed (hash : ScramHash) (user password nonce : List ℕ) (hos
   pub server_first : List ℕ
   pub client_final : List ℕ
   pub server_final : List ℕ
+  pub told : List SaslBody
+  pub replied : List SaslBody
   pub more : List ℕ
   pub rest : List ℕ
-  pub wrote_is : wrote ≡ said (init_body (mechanism_of hash) (Some (client_first_of user nonce)) hostname ∷ response_body client_final ∷ []) ++ more
-  pub read_is : Heard read (mechanisms_body names ∷ challenge_body server_first ∷ outcome_body sasl.Ok (Some server_final) ∷ []) rest
+  pub wrote_is : wrote ≡ said (init_body (mechanism_of hash) (Some (client_first_of user nonce)) hostname ∷ response_body client_final ∷ replied) ++ more
+  pub read_is : Heard read (mechanisms_body names ∷ challenge_body server_first ∷ told) rest
+  pub final : IsFinal server_final told replied
   pub listed : Contains names (mechanism_of hash)
   pub check : ClientCheck (digest_of hash) (block_of hash) (output_of hash) user password nonce (client_first_of user nonce) server_first client_final server_final
-
--- nothing but SASL was written, or the exchange is whole
-abbrev pub ClientGated : ScramHash → List ℕ → List ℕ → List ℕ → Option (List ℕ) → List ℕ → List ℕ → Type 0
-ClientGated hash user password nonce hostname wrote read = IsOnlySasl wrote ⊎ ClientPassed hash user password nonce hostname wrote read
 
 -- that of an end
 abbrev pub HasClientPassed : ClientEnd → List LinkEvent → Type 0
 HasClientPassed x events = ClientPassed x.hash x.client.user x.client.password x.client.nonce x.hostname (wrote_of events) (read_of events)
-
--- a poll of a gate, and what it says of the whole history: only SASL was written, and where it passed, the check holds
-pub record ClientPolled {L : Type 0} (link : Ghosts L) (old : Negotiating L ClientEnd) (left : ℕ) (result : Result GatePoll NegotiationError) (new : Negotiating L ClientEnd) (left' : ℕ) : Type 0 where
-  pub polled : Polled link client_mechanism old left result new left'
-  pub only_sasl : (before : List LinkEvent) → Has client_mechanism old before → IsOnlySasl (wrote_of (polled.events ++ before))
-  pub passed : result ≡ Ok poll.Passed → (before : List LinkEvent) → Has client_mechanism old before → HasClientPassed old.exchange (polled.events ++ before)

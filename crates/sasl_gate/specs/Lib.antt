@@ -1,11 +1,19 @@
+pub mod AnyClient
+pub mod AnyScram
+pub mod AnyServer
 pub mod Check
+pub mod ClientEnds
 pub mod ClientGate
+pub mod Credentials
 pub mod Exchange
 pub mod Frames
+pub mod Gates
 pub mod Hashes
-pub mod AnyScram
-pub mod Negotiation
+pub mod InitClient
+pub mod InitServer
+pub mod InitTexts
 pub mod Keys
+pub mod Negotiation
 pub mod Parts
 pub mod Profile
 pub mod Refusals
@@ -14,3 +22,4 @@ pub mod ServerGate
 pub mod States
 pub mod Steps
 pub mod Texts
+pub mod UserInfo

@@ -6,8 +6,6 @@ use Rattle.amqp_composites.specs.declared.sasl_body.SaslBody.{SaslBody}
 use Rattle.amqp_composites.specs.declared.sasl_body.SaslBody.TheVariants.{Mechanisms, Init, Challenge, Response, Outcome}
 use Rattle.amqp_composites.specs.declared.sasl_code.SaslCode.{SaslCode}
 use Rattle.amqp_composites.specs.declared.sasl_code.SaslCode.TheVariants as sasl
-use Rattle.amqp_wire.specs.declared.link.Link.{Ghosts}
-use Rattle.amqp_wire.specs.Codec.{Codec}
 use Rattle.amqp_wire.specs.Events.{LinkEvent, read_of, wrote_of}
 use Rattle.sasl_gate.specs.declared.gate.error.NegotiationError.{NegotiationError}
 use Rattle.sasl_gate.specs.declared.gate.error.NegotiationError.TheVariants.{Memory, ProtocolHeaderMismatch, NotImplemented, SaslError, ScramError, Io, DecodeError, IllegalState, FramingError}
@@ -16,11 +14,8 @@ use Rattle.sasl_gate.specs.declared.gate.exchange.Turn.{Turn}
 use Rattle.sasl_gate.specs.declared.gate.exchange.Turn.TheVariants.{Send, Receive, Refuse, Pass}
 use Rattle.sasl_gate.specs.declared.gate.exchange.Verdict.{Verdict}
 use Rattle.sasl_gate.specs.declared.gate.exchange.Verdict.TheVariants.{Taken as VerdictTaken, Refused as VerdictRefused}
-use Rattle.sasl_gate.specs.declared.gate.negotiation.GatePoll.{GatePoll}
-use Rattle.sasl_gate.specs.declared.gate.negotiation.GatePoll.TheVariants as poll
-use Rattle.sasl_gate.specs.declared.gate.negotiation.Phase.TheVariants.{Header}
-use Rattle.sasl_gate.specs.declared.gate.server.ServerStage.{ServerStage}
-use Rattle.sasl_gate.specs.declared.gate.server.ServerStage.TheVariants.{OwesMechanisms, AwaitsInit, OwesChallenge, AwaitsResponse, OwesOutcome, Passed, OwesRefusal, Refused}
+use Rattle.sasl_gate.specs.declared.gate.scram_server.ServerStage.{ServerStage}
+use Rattle.sasl_gate.specs.declared.gate.scram_server.ServerStage.TheVariants.{OwesMechanisms, AwaitsInit, OwesChallenge, AwaitsResponse, OwesOutcome, Passed, OwesRefusal, Refused}
 use Rattle.sasl_gate.specs.declared.scram.error.ScramErrorKind.{ScramErrorKind}
 use Rattle.sasl_gate.specs.declared.scram.hash.ScramHash.{ScramHash}
 use Rattle.sasl_gate.specs.declared.scram.server.Challenge.{Challenge as ServerChallenge}
@@ -29,11 +24,10 @@ use Rattle.sasl_gate.specs.declared.scram.server.ServerPhase.TheVariants.{Unaske
 use Rattle.sasl_gate.specs.declared.scram.stored.StoredPassword.{StoredPassword}
 use Rattle.sasl_gate.specs.Check.{ServerAnswers, ServerCheck}
 use Rattle.sasl_gate.specs.Exchange.{refused_with}
-use Rattle.sasl_gate.specs.Frames.{Heard, said, sasl_header}
+use Rattle.sasl_gate.specs.Frames.{Heard, said}
 use Rattle.sasl_gate.specs.Hashes.{digest_of, block_of, output_of, mechanism_of}
-use Rattle.sasl_gate.specs.Negotiation.{Negotiating, Has, Polled}
 use Rattle.sasl_gate.specs.Refusals.{IsMemory, IsClientFirstRefusal, IsClientFinalRefusal}
-use Rattle.sasl_gate.specs.ScramBodies.{mechanisms_body, init_body, challenge_body, response_body, outcome_body, IsOnlySasl}
+use Rattle.sasl_gate.specs.ScramBodies.{mechanisms_body, init_body, challenge_body, response_body, outcome_body}
 use Rattle.sasl_gate.specs.States.{ServerState, ForChallenged}
 
 -- a listener's end of an exchange: its hash function and SCRAM server, and how far it is
@@ -253,19 +247,11 @@ server_same_self x = record { hash = refl; provider = refl; nonce = refl }
 pub server_same_then : {P : Type 0} (x y z : ServerEnd P) → ServerSame x y → ServerSame y z → ServerSame x z
 server_same_then x y z a b = record { hash = a.hash ∙ b.hash; provider = a.provider ∙ b.provider; nonce = a.nonce ∙ b.nonce }
 
--- ---- the gate
+-- ---- the ends of an exchange
 
 -- an end that has read and written nothing
 abbrev pub server_begun : {P : Type 0} → ScramHash → P → List ℕ → ServerEnd P
 server_begun hash provider nonce = record { hash = hash; server = record { provider = provider; nonce = nonce; phase = Unasked }; stage = OwesMechanisms }
-
--- a gate that begins, over a codec: its header is queued
-abbrev pub server_start : {L P : Type 0} → Codec L → ScramHash → P → List ℕ → Negotiating L (ServerEnd P)
-server_start codec hash provider nonce = record {
-  codec = record codec { output = codec.output ++ sasl_header };
-  phase = Header;
-  exchange = server_begun hash provider nonce;
-}
 
 -- what was read and written says that the client knows the password of a user: the exchange is whole, and its check
 -- holds. `stored` is what the provider has
@@ -282,16 +268,6 @@ pub record ServerPassed (hash : ScramHash) (stored : List ℕ → Option StoredP
   pub read_is : Heard read (init_body (mechanism_of hash) (Some client_first) hostname ∷ response_body client_final ∷ []) rest
   pub check : ServerCheck (digest_of hash) (block_of hash) (output_of hash) stored nonce user client_first server_first client_final server_final
 
--- nothing but SASL was written, or the exchange is whole
-abbrev pub ServerGated : ScramHash → (List ℕ → Option StoredPassword) → List ℕ → List ℕ → List ℕ → Type 0
-ServerGated hash stored nonce wrote read = IsOnlySasl wrote ⊎ ServerPassed hash stored nonce wrote read
-
 -- that of an end
 abbrev pub HasServerPassed : {P : Type 0} → (P → List ℕ → Option StoredPassword) → ServerEnd P → List LinkEvent → Type 0
 HasServerPassed stored x events = ServerPassed x.hash (stored x.server.provider) x.server.nonce (wrote_of events) (read_of events)
-
--- a poll of a gate, and what it says of the whole history: only SASL was written, and where it passed, the check holds
-pub record ServerPolled {L P : Type 0} (link : Ghosts L) (stored : P → List ℕ → Option StoredPassword) (old : Negotiating L (ServerEnd P)) (left : ℕ) (result : Result GatePoll NegotiationError) (new : Negotiating L (ServerEnd P)) (left' : ℕ) : Type 0 where
-  pub polled : Polled link (server_mechanism stored) old left result new left'
-  pub only_sasl : (before : List LinkEvent) → Has (server_mechanism stored) old before → IsOnlySasl (wrote_of (polled.events ++ before))
-  pub passed : result ≡ Ok poll.Passed → (before : List LinkEvent) → Has (server_mechanism stored) old before → HasServerPassed stored old.exchange (polled.events ++ before)

@@ -14,7 +14,6 @@ mod extensions;
 pub mod hash;
 pub mod keys;
 pub mod profile;
-pub mod provider;
 pub mod server;
 pub mod stored;
 #[cfg(test)]

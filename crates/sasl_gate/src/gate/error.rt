@@ -2,6 +2,7 @@
 ghost use Rattle.std.specs.Prelude.{◌≡◌, IfOk};
 ghost use Rattle.sasl_gate.specs.declared.gate.error.NegotiationError.TheVariants.{Memory};
 
+use crate::gate::bodies::clone_data;
 use crate::scram::error::ScramErrorKind;
 use amqp_composites::sasl_code::SaslCode;
 use amqp_text::Binary;
@@ -55,18 +56,6 @@ impl From<AllocError> for NegotiationError {
 
     fn from(error: AllocError) -> Self {
         NegotiationError::Memory(error)
-    }
-}
-
-fn clone_data(alloc: Global, payload: &Option<Binary>) -> Result<Option<Binary>, AllocError>
-    ensures { IfOk result (λ d. d ≡ payload.now) }
-{
-    match payload {
-        Some(data) => {
-            let data = data.try_clone(alloc)?;
-            Ok(Some(data))
-        }
-        None => Ok(None),
     }
 }
 

@@ -9,9 +9,9 @@ ghost use Rattle.sasl_gate.specs.Profile.{IsNonce};
 ghost use Rattle.sasl_gate.specs.Refusals.{IsClientFirstRefusal, IsClientFinalRefusal};
 ghost use Rattle.sasl_gate.specs.States.{server_challenged, server_proved, ForChallenged};
 
+use crate::provider::ScramCredentialProvider;
 use crate::scram::error::ScramErrorKind;
 use crate::scram::hash::ScramHash;
-use crate::scram::provider::ScramCredentialProvider;
 use crate::scram::server::{ScramServer, ServerPhase};
 use amqp_text::{Binary, Text};
 use kdf_core::{Sha1Fn, Sha256Fn, Sha512Fn};

@@ -1,6 +1,6 @@
 //! The hash functions of SCRAM.
 
-ghost use Rattle.std.specs.Prelude.{◌≡◌};
+ghost use Rattle.std.specs.Prelude.{◌≡◌, ◌<◌, All};
 ghost use Rattle.sasl_gate.specs.Hashes.{mechanism_of};
 
 /// The hash function of a SCRAM mechanism.
@@ -17,7 +17,8 @@ pub enum ScramHash {
 impl ScramHash {
     /// The mechanism's name in the list of mechanisms and in the init (RFC 5802, section 4; RFC 7677, section 4).
     pub fn mechanism(self) -> &'static str
-        ensures { result.now ≡ mechanism_of self }
+        ensures value { result.now ≡ mechanism_of self }
+        ensures ascii { All (λ b. b < 128) result.now }
     {
         match self {
             ScramHash::Sha1 => "SCRAM-SHA-1",

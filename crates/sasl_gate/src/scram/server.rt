@@ -10,12 +10,12 @@ ghost use Rattle.sasl_gate.specs.Parts.{IsProved};
 ghost use Rattle.sasl_gate.specs.Texts.{escaped_of, IsHeader};
 ghost use Rattle.sasl_gate.specs.States.{server_challenged, server_proved, ForChallenged};
 
+use crate::provider::ScramCredentialProvider;
 use crate::scram::encoding::decode_into;
 use crate::scram::error::ScramErrorKind;
 use crate::scram::escape::unescape;
 use crate::scram::keys::{hmac_into, proof_holds};
 use crate::scram::profile::is_allowed_user;
-use crate::scram::provider::ScramCredentialProvider;
 use crate::scram::stored::StoredPassword;
 use crate::scram::texts::{
     auth_message, read_client_final, read_client_first, server_final, server_first,
