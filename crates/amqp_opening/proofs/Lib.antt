@@ -1,2 +1,3 @@
-pub mod Openings
+pub mod Made
 pub mod Exchanges
+pub mod Openings

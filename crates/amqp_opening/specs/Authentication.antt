@@ -4,115 +4,98 @@ use Rattle.std.specs.Str.{bytes_eq}
 use Rattle.amqp_composites.specs.declared.sasl_body.SaslBody.{SaslBody}
 use Rattle.amqp_composites.specs.declared.sasl_code.SaslCode.{SaslCode}
 use Rattle.base64.specs.GeneralPurpose.{IsBytes}
+use Rattle.sasl_gate.specs.declared.gate.client.ClientExchange.{ClientExchange}
+use Rattle.sasl_gate.specs.declared.gate.client.ClientExchange.TheVariants as client
 use Rattle.sasl_gate.specs.declared.gate.error.NegotiationError.{NegotiationError}
 use Rattle.sasl_gate.specs.declared.gate.error.NegotiationError.TheVariants.{Memory, ProtocolHeaderMismatch, NotImplemented, SaslError, ScramError, Io, DecodeError, IllegalState, FramingError}
 use Rattle.sasl_gate.specs.declared.gate.exchange.Exchange.{Ghosts as Mechanism}
 use Rattle.sasl_gate.specs.declared.gate.exchange.Turn.{Turn}
 use Rattle.sasl_gate.specs.declared.gate.exchange.Turn.TheVariants.{Receive, Refuse}
+use Rattle.sasl_gate.specs.declared.gate.init_server.InitCheck.{InitCheck}
+use Rattle.sasl_gate.specs.declared.gate.init_server.InitCheck.TheVariants as check
+use Rattle.sasl_gate.specs.declared.gate.server.ServerExchange.{ServerExchange}
+use Rattle.sasl_gate.specs.declared.gate.server.ServerExchange.TheVariants as server
 use Rattle.sasl_gate.specs.declared.scram.error.ScramErrorKind.{ScramErrorKind}
 use Rattle.sasl_gate.specs.declared.scram.error.ScramErrorKind.TheVariants as scram
 use Rattle.sasl_gate.specs.declared.scram.hash.ScramHash.{ScramHash}
-use Rattle.sasl_gate.specs.declared.scram.hash.ScramHash.TheVariants.{Sha1, Sha256, Sha512}
 use Rattle.sasl_gate.specs.declared.scram.stored.StoredPassword.{StoredPassword}
+use Rattle.sasl_gate.specs.AnyClient.{any_client_holds, any_client_causes, any_client_owes, any_client_turn, any_client_left, any_client_same, any_client_refusal, any_client_same_self, any_client_same_then}
+use Rattle.sasl_gate.specs.AnyServer.{any_server_holds, any_server_causes, any_server_owes, any_server_turn, any_server_left, any_server_same, any_server_refusal, any_server_same_self, any_server_same_then}
 use Rattle.sasl_gate.specs.Check.{stored_of}
-use Rattle.sasl_gate.specs.ClientGate.{hash_of, username_of, password_of, nonce_of, ClientEnd, client_holds, client_causes, client_owes, client_turn, client_left, ClientSame, client_refusal, client_same_self, client_same_then}
+use Rattle.sasl_gate.specs.ClientGate.{ClientEnd}
+use Rattle.sasl_gate.specs.Credentials.{Credentials, credentials_of, mechanism_in}
+use Rattle.sasl_gate.specs.Credentials as own
 use Rattle.sasl_gate.specs.Exchange.{refused_with}
 use Rattle.sasl_gate.specs.Hashes.{digest_of, block_of, output_of}
+use Rattle.sasl_gate.specs.InitClient.{InitClientEnd}
+use Rattle.sasl_gate.specs.InitServer.{InitServerEnd}
+use Rattle.sasl_gate.specs.InitTexts.{anonymous_name, plain_name, plain_of}
 use Rattle.sasl_gate.specs.Profile.{IsAllowedUser, IsAllowedPassword, IsAllowedCount, IsNonce}
-use Rattle.sasl_gate.specs.ServerGate.{ServerEnd, server_holds, server_causes, server_owes, server_turn, server_left, ServerSame, server_refusal, server_same_self, server_same_then}
+use Rattle.sasl_gate.specs.ServerGate.{ServerEnd}
 use Rattle.sasl_gate.specs.States.{Account}
-use Rattle.amqp_opening.specs.declared.acceptor.AcceptSasl.{AcceptSasl}
-use Rattle.amqp_opening.specs.declared.acceptor.AcceptSasl.TheVariants.{ScramSha1, ScramSha256, ScramSha512}
 use Rattle.amqp_opening.specs.declared.authentication.Authentication.{Authentication}
 use Rattle.amqp_opening.specs.declared.authentication.Authentication.TheVariants.{Idle, Client, Listener}
 use Rattle.amqp_opening.specs.declared.authentication.SaslCall.{SaslCall}
 use Rattle.amqp_opening.specs.declared.authentication.SaslCall.TheVariants as call
+use Rattle.amqp_opening.specs.Admission.{Admission, admission_of, mechanism_by, account_by}
+use Rattle.amqp_opening.specs.Admission as admitted
 
--- ---- what a listener is asked for, whatever its hash function
+-- ---- the one user of a listener
 
--- the hash function of its mechanism (RFC 5802; RFC 7677)
-abbrev pub accept_hash : AcceptSasl → ScramHash
-accept_hash (ScramSha1 user password salt iterations nonce) = Sha1
-accept_hash (ScramSha256 user password salt iterations nonce) = Sha256
-accept_hash (ScramSha512 user password salt iterations nonce) = Sha512
+-- its password (RFC 4616, section 2)
+abbrev pub passwords_for : Account → List ℕ → Option (List ℕ)
+passwords_for a name = if bytes_eq a.user name then Some a.password else None
 
--- the user that it lets in
-abbrev pub accept_username : AcceptSasl → List ℕ
-accept_username (ScramSha1 user password salt iterations nonce) = user
-accept_username (ScramSha256 user password salt iterations nonce) = user
-accept_username (ScramSha512 user password salt iterations nonce) = user
-
--- the user's password
-abbrev pub accept_password : AcceptSasl → List ℕ
-accept_password (ScramSha1 user password salt iterations nonce) = password
-accept_password (ScramSha256 user password salt iterations nonce) = password
-accept_password (ScramSha512 user password salt iterations nonce) = password
-
--- the salt (RFC 5802, section 3)
-abbrev pub accept_salt : AcceptSasl → List ℕ
-accept_salt (ScramSha1 user password salt iterations nonce) = salt
-accept_salt (ScramSha256 user password salt iterations nonce) = salt
-accept_salt (ScramSha512 user password salt iterations nonce) = salt
-
--- the iteration count (RFC 5802, section 3)
-abbrev pub accept_iterations : AcceptSasl → ℕ
-accept_iterations (ScramSha1 user password salt iterations nonce) = iterations
-accept_iterations (ScramSha256 user password salt iterations nonce) = iterations
-accept_iterations (ScramSha512 user password salt iterations nonce) = iterations
-
--- its own nonce (RFC 5802, section 5.1)
-abbrev pub accept_nonce : AcceptSasl → List ℕ
-accept_nonce (ScramSha1 user password salt iterations nonce) = nonce
-accept_nonce (ScramSha256 user password salt iterations nonce) = nonce
-accept_nonce (ScramSha512 user password salt iterations nonce) = nonce
-
--- SCRAM with a hash function
-abbrev pub scram_acceptor : ScramHash → List ℕ → List ℕ → List ℕ → ℕ → List ℕ → AcceptSasl
-scram_acceptor Sha1 user password salt iterations nonce = ScramSha1 user password salt iterations nonce
-scram_acceptor Sha256 user password salt iterations nonce = ScramSha256 user password salt iterations nonce
-scram_acceptor Sha512 user password salt iterations nonce = ScramSha512 user password salt iterations nonce
-
--- what a listener with one user has stored for a name
+-- what is stored of it (RFC 5802, section 3)
 abbrev pub stored_for : Account → List ℕ → Option StoredPassword
 stored_for a name = if bytes_eq a.user name then a.stored else None
+
+-- a user of whom the password alone is kept
+abbrev pub plain_account : List ℕ → List ℕ → Account
+plain_account user password = record { user = user; password = password; stored = None }
+
+-- a user of whom is stored what SCRAM asks for (RFC 5802, section 3)
+abbrev pub scram_account : ScramHash → List ℕ → List ℕ → List ℕ → ℕ → Account
+scram_account hash user password salt iterations =
+    record { user = user; password = password; stored = Some (stored_of (digest_of hash) (block_of hash) (output_of hash) password salt iterations) }
 
 -- ---- the exchange as a mechanism: that of its end
 
 abbrev pub holds_by : Authentication → List SaslBody → List SaslBody → Type 0
 holds_by Idle given sent = ⊥
-holds_by (Client x) given sent = client_holds x given sent
-holds_by (Listener x) given sent = server_holds stored_for x given sent
+holds_by (Client x) given sent = any_client_holds x given sent
+holds_by (Listener x) given sent = any_server_holds passwords_for stored_for x given sent
 
 abbrev pub causes_by : Authentication → NegotiationError → List SaslBody → List SaslBody → Type 0
 causes_by Idle e given sent = ⊥
-causes_by (Client x) e given sent = client_causes x e given sent
-causes_by (Listener x) e given sent = server_causes stored_for x e given sent
+causes_by (Client x) e given sent = any_client_causes x e given sent
+causes_by (Listener x) e given sent = any_server_causes passwords_for stored_for x e given sent
 
 abbrev pub owes_by : Authentication → SaslBody → Type 0
 owes_by Idle body = ⊥
-owes_by (Client x) body = client_owes x body
-owes_by (Listener x) body = server_owes x body
+owes_by (Client x) body = any_client_owes x body
+owes_by (Listener x) body = any_server_owes x body
 
 abbrev pub turn_by : Authentication → Turn
 turn_by Idle = Receive
-turn_by (Client x) = client_turn x
-turn_by (Listener x) = server_turn x
+turn_by (Client x) = any_client_turn x
+turn_by (Listener x) = any_server_turn x
 
 abbrev pub left_by : Authentication → ℕ
 left_by Idle = 0
-left_by (Client x) = client_left x
-left_by (Listener x) = server_left x
+left_by (Client x) = any_client_left x
+left_by (Listener x) = any_server_left x
 
 abbrev pub same_by : Authentication → Authentication → Type 0
 same_by Idle Idle = ⊤
 same_by Idle (Client y) = ⊥
 same_by Idle (Listener y) = ⊥
 same_by (Client x) Idle = ⊥
-same_by (Client x) (Client y) = ClientSame x y
+same_by (Client x) (Client y) = any_client_same x y
 same_by (Client x) (Listener y) = ⊥
 same_by (Listener x) Idle = ⊥
 same_by (Listener x) (Client y) = ⊥
-same_by (Listener x) (Listener y) = ServerSame x y
+same_by (Listener x) (Listener y) = any_server_same x y
 
 abbrev pub peer_mechanism : Mechanism Authentication
 peer_mechanism = record {
@@ -126,6 +109,31 @@ peer_mechanism = record {
 
 -- ---- the calls that begin it
 
+-- the name of the mechanism that a layer is asked for (OASIS AMQP 1.0, part 5, section 5.3.3.1)
+abbrev pub mechanism_of_call : SaslCall → List ℕ
+mechanism_of_call (call.Client p hostname) = mechanism_in (credentials_of p)
+mechanism_of_call (call.Listener a) = mechanism_by (admission_of a)
+
+-- the user and the password of credentials, where there are any
+abbrev pub account_in : Credentials → Option (List ℕ × List ℕ)
+account_in own.anonymous = None
+account_in (own.plain user password) = Some (user, password)
+account_in (own.scram hash user password nonce) = Some (user, password)
+
+-- the user and the password that a layer is asked for; ANONYMOUS has none (RFC 4505)
+abbrev pub account_of_call : SaslCall → Option (List ℕ × List ℕ)
+account_of_call (call.Client p hostname) = account_in (credentials_of p)
+account_of_call (call.Listener a) = account_by (admission_of a)
+
+-- user and password, where there are any, are in the profile
+abbrev pub IsAllowedAccount : Option (List ℕ × List ℕ) → Type 0
+IsAllowedAccount None = ⊤
+IsAllowedAccount (Some account) = IsAllowedUser account.0 × IsAllowedPassword account.1
+
+-- the user and the password that a layer is asked for are in the profile
+abbrev pub HasAllowedTexts : SaslCall → Type 0
+HasAllowedTexts asked = IsAllowedAccount (account_of_call asked)
+
 -- user, password and nonce of a client are in the profile (RFC 5802, sections 5.1 and 7)
 abbrev pub IsAskedClient : List ℕ → List ℕ → List ℕ → Type 0
 IsAskedClient user password nonce = IsAllowedUser user × IsAllowedPassword password × IsNonce nonce
@@ -134,10 +142,22 @@ IsAskedClient user password nonce = IsAllowedUser user × IsAllowedPassword pass
 abbrev pub IsAskedListener : List ℕ → List ℕ → List ℕ → ℕ → List ℕ → Type 0
 IsAskedListener user password salt iterations nonce = IsAllowedUser user × IsAllowedPassword password × IsBytes salt × IsAllowedCount iterations × IsNonce nonce
 
--- user, password, nonce, salt and count of a layer that was asked for are allowed
+-- what a client says with its credentials is allowed: nothing with ANONYMOUS, and with PLAIN user and password (RFC 4616, section 2)
+abbrev pub IsAskedWith : Credentials → Type 0
+IsAskedWith own.anonymous = ⊤
+IsAskedWith (own.plain user password) = IsAllowedUser user × IsAllowedPassword password
+IsAskedWith (own.scram hash user password nonce) = IsAskedClient user password nonce
+
+-- and so is what a listener is told about its user
+abbrev pub IsAskedFor : Admission → Type 0
+IsAskedFor admitted.anonymous = ⊤
+IsAskedFor (admitted.plain user password) = IsAllowedUser user × IsAllowedPassword password
+IsAskedFor (admitted.scram hash user password salt iterations nonce) = IsAskedListener user password salt iterations nonce
+
+-- all that a layer is asked for is allowed
 abbrev pub IsAskedSo : SaslCall → Type 0
-IsAskedSo (call.Client p hostname) = IsAskedClient (username_of p) (password_of p) (nonce_of p)
-IsAskedSo (call.Listener a) = IsAskedListener (accept_username a) (accept_password a) (accept_salt a) (accept_iterations a) (accept_nonce a)
+IsAskedSo (call.Client p hostname) = IsAskedWith (credentials_of p)
+IsAskedSo (call.Listener a) = IsAskedFor (admission_of a)
 
 -- a client's end with this hash function for this user, password, nonce and host, all of which are allowed
 pub record IsClientFor (hash : ScramHash) (user password nonce : List ℕ) (hostname : Option (List ℕ)) (x : ClientEnd) : Type 0 where
@@ -148,48 +168,93 @@ pub record IsClientFor (hash : ScramHash) (user password nonce : List ℕ) (host
   pub hostname_is : x.hostname ≡ hostname
   pub asked : IsAskedClient user password nonce
 
+-- a client's end that says all in its init: the name of its mechanism, this response of an account, which is allowed, and this host
+pub record IsInitFor (mechanism : List ℕ) (response : Option (List ℕ)) (account : Option (List ℕ × List ℕ)) (hostname : Option (List ℕ)) (x : InitClientEnd) : Type 0 where
+  pub mechanism_is : x.mechanism ≡ mechanism
+  pub response_is : x.response ≡ response
+  pub hostname_is : x.hostname ≡ hostname
+  pub asked : IsAllowedAccount account
+
 -- a listener's end with this hash function for this user, with what is kept of the password with a salt and a count (RFC 5802, section 3),
 -- all of which are allowed
 pub record IsListenerFor (hash : ScramHash) (user password salt : List ℕ) (iterations : ℕ) (nonce : List ℕ) (x : ServerEnd Account) : Type 0 where
   pub hash_is : x.hash ≡ hash
-  pub account : x.server.provider ≡ record { user = user; password = password; stored = Some (stored_of (digest_of hash) (block_of hash) (output_of hash) password salt iterations) }
+  pub account : x.server.provider ≡ scram_account hash user password salt iterations
   pub nonce_is : x.server.nonce ≡ nonce
   pub asked : IsAskedListener user password salt iterations nonce
+
+-- a listener's end that asks this of an init, for an account which is allowed
+pub record IsCheckFor (asks : InitCheck Account) (account : Option (List ℕ × List ℕ)) (x : InitServerEnd Account) : Type 0 where
+  pub check_is : x.check ≡ asks
+  pub asked : IsAllowedAccount account
+
+-- the client's end of these credentials and this host
+abbrev pub IsClientMade : Credentials → Option (List ℕ) → ClientExchange → Type 0
+IsClientMade own.anonymous hostname (client.Scram x) = ⊥
+IsClientMade own.anonymous hostname (client.Init x) = IsInitFor anonymous_name None None hostname x
+IsClientMade (own.plain user password) hostname (client.Scram x) = ⊥
+IsClientMade (own.plain user password) hostname (client.Init x) = IsInitFor plain_name (Some (plain_of user password)) (Some (user, password)) hostname x
+IsClientMade (own.scram hash user password nonce) hostname (client.Scram x) = IsClientFor hash user password nonce hostname x
+IsClientMade (own.scram hash user password nonce) hostname (client.Init x) = ⊥
+
+-- the listener's end that lets these in
+abbrev pub IsListenerMade : Admission → ServerExchange Account Account → Type 0
+IsListenerMade admitted.anonymous (server.Scram x) = ⊥
+IsListenerMade admitted.anonymous (server.Init x) = IsCheckFor check.Anonymous None x
+IsListenerMade (admitted.plain user password) (server.Scram x) = ⊥
+IsListenerMade (admitted.plain user password) (server.Init x) = IsCheckFor (check.Plain (plain_account user password)) (Some (user, password)) x
+IsListenerMade (admitted.scram hash user password salt iterations nonce) (server.Scram x) = IsListenerFor hash user password salt iterations nonce x
+IsListenerMade (admitted.scram hash user password salt iterations nonce) (server.Init x) = ⊥
 
 -- the exchange is the one that a call begins
 abbrev pub MadeFor : SaslCall → Authentication → Type 0
 MadeFor (call.Client p hostname) Idle = ⊥
-MadeFor (call.Client p hostname) (Client x) = IsClientFor (hash_of p) (username_of p) (password_of p) (nonce_of p) hostname x
+MadeFor (call.Client p hostname) (Client x) = IsClientMade (credentials_of p) hostname x
 MadeFor (call.Client p hostname) (Listener x) = ⊥
 MadeFor (call.Listener a) Idle = ⊥
 MadeFor (call.Listener a) (Client x) = ⊥
-MadeFor (call.Listener a) (Listener x) = IsListenerFor (accept_hash a) (accept_username a) (accept_password a) (accept_salt a) (accept_iterations a) (accept_nonce a) x
+MadeFor (call.Listener a) (Listener x) = IsListenerMade (admission_of a) x
+
+asked_with : (c : Credentials) (hostname : Option (List ℕ)) (x : ClientExchange) → IsClientMade c hostname x → IsAskedWith c
+asked_with own.anonymous hostname (client.Scram x) m = absurd m
+asked_with own.anonymous hostname (client.Init x) m = tt
+asked_with (own.plain user password) hostname (client.Scram x) m = absurd m
+asked_with (own.plain user password) hostname (client.Init x) m = m.asked
+asked_with (own.scram hash user password nonce) hostname (client.Scram x) m = m.asked
+asked_with (own.scram hash user password nonce) hostname (client.Init x) m = absurd m
+
+asked_for : (d : Admission) (x : ServerExchange Account Account) → IsListenerMade d x → IsAskedFor d
+asked_for admitted.anonymous (server.Scram x) m = absurd m
+asked_for admitted.anonymous (server.Init x) m = tt
+asked_for (admitted.plain user password) (server.Scram x) m = absurd m
+asked_for (admitted.plain user password) (server.Init x) m = m.asked
+asked_for (admitted.scram hash user password salt iterations nonce) (server.Scram x) m = m.asked
+asked_for (admitted.scram hash user password salt iterations nonce) (server.Init x) m = absurd m
 
 -- what was asked for an exchange is allowed
 pub asked_so : (asked : SaslCall) (x : Authentication) → MadeFor asked x → IsAskedSo asked
 asked_so (call.Client p hostname) Idle m = absurd m
-asked_so (call.Client p hostname) (Client x) m = m.asked
+asked_so (call.Client p hostname) (Client x) m = asked_with (credentials_of p) hostname x m
 asked_so (call.Client p hostname) (Listener x) m = absurd m
 asked_so (call.Listener a) Idle m = absurd m
 asked_so (call.Listener a) (Client x) m = absurd m
-asked_so (call.Listener a) (Listener x) m = m.asked
+asked_so (call.Listener a) (Listener x) m = asked_for (admission_of a) x m
 
--- user and password are in the profile
-abbrev pub HasAllowedTexts : SaslCall → Type 0
-HasAllowedTexts (call.Client p hostname) = IsAllowedUser (username_of p) × IsAllowedPassword (password_of p)
-HasAllowedTexts (call.Listener a) = IsAllowedUser (accept_username a) × IsAllowedPassword (accept_password a)
+-- why an account begins no exchange
+abbrev pub IsAccountRefusal : Option (List ℕ × List ℕ) → NegotiationError → Type 0
+IsAccountRefusal account (Memory a) = ⊤
+IsAccountRefusal account (ProtocolHeaderMismatch h) = ⊥
+IsAccountRefusal account NotImplemented = ⊥
+IsAccountRefusal account (SaslError code payload) = ⊥
+IsAccountRefusal account (ScramError kind) = (kind ≡ scram.TextNotAllowed) × (¬ IsAllowedAccount account)
+IsAccountRefusal account (Io kind) = ⊥
+IsAccountRefusal account DecodeError = ⊥
+IsAccountRefusal account IllegalState = ⊥
+IsAccountRefusal account FramingError = ⊥
 
 -- why a call begins no exchange
 abbrev pub IsCallRefusal : SaslCall → NegotiationError → Type 0
-IsCallRefusal asked (Memory a) = ⊤
-IsCallRefusal asked (ProtocolHeaderMismatch h) = ⊥
-IsCallRefusal asked NotImplemented = ⊥
-IsCallRefusal asked (SaslError code payload) = ⊥
-IsCallRefusal asked (ScramError kind) = (kind ≡ scram.TextNotAllowed) × (¬ HasAllowedTexts asked)
-IsCallRefusal asked (Io kind) = ⊥
-IsCallRefusal asked DecodeError = ⊥
-IsCallRefusal asked IllegalState = ⊥
-IsCallRefusal asked FramingError = ⊥
+IsCallRefusal asked e = IsAccountRefusal (account_of_call asked) e
 
 -- the error of a negotiation that a kind of SCRAM comes to
 abbrev pub IsErrorOf : ScramErrorKind → NegotiationError → Type 0
@@ -207,13 +272,13 @@ IsErrorOf scram.ProofMismatch e = e ≡ ScramError scram.ProofMismatch
 
 pub peer_refusal : (x : Authentication) (code : SaslCode) (given sent : List SaslBody) → turn_by x ≡ Refuse code → holds_by x given sent → causes_by x (refused_with code) given sent
 peer_refusal Idle code given sent t h = absurd h
-peer_refusal (Client x) code given sent t h = client_refusal x code given sent t h
-peer_refusal (Listener x) code given sent t h = server_refusal stored_for x code given sent t h
+peer_refusal (Client x) code given sent t h = any_client_refusal x code given sent t h
+peer_refusal (Listener x) code given sent t h = any_server_refusal passwords_for stored_for x code given sent t h
 
 pub peer_same_self : (x : Authentication) → same_by x x
 peer_same_self Idle = tt
-peer_same_self (Client x) = client_same_self x
-peer_same_self (Listener x) = server_same_self x
+peer_same_self (Client x) = any_client_same_self x
+peer_same_self (Listener x) = any_server_same_self x
 
 pub peer_same_then : (x y z : Authentication) → same_by x y → same_by y z → same_by x z
 peer_same_then Idle Idle Idle p q = tt
@@ -223,11 +288,11 @@ peer_same_then Idle (Client y) z p q = absurd p
 peer_same_then Idle (Listener y) z p q = absurd p
 peer_same_then (Client x) Idle z p q = absurd p
 peer_same_then (Client x) (Client y) Idle p q = absurd q
-peer_same_then (Client x) (Client y) (Client z) p q = client_same_then x y z p q
+peer_same_then (Client x) (Client y) (Client z) p q = any_client_same_then x y z p q
 peer_same_then (Client x) (Client y) (Listener z) p q = absurd q
 peer_same_then (Client x) (Listener y) z p q = absurd p
 peer_same_then (Listener x) Idle z p q = absurd p
 peer_same_then (Listener x) (Client y) z p q = absurd p
 peer_same_then (Listener x) (Listener y) Idle p q = absurd q
 peer_same_then (Listener x) (Listener y) (Client z) p q = absurd q
-peer_same_then (Listener x) (Listener y) (Listener z) p q = server_same_then x y z p q
+peer_same_then (Listener x) (Listener y) (Listener z) p q = any_server_same_then x y z p q

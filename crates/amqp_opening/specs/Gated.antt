@@ -1,16 +1,22 @@
 -- What an end with a SASL layer may have written, by what it wrote and what it read: nothing but the SASL header and SASL
 -- frames before its check holds (OASIS AMQP 1.0, part 5, section 5.3.2).
-use Rattle.std.specs.Prelude.{◌≡◌, ◌⊎◌, ℕ, List, ◌++◌, Option, Some}
+use Rattle.std.specs.Prelude.{◌≡◌, ◌⊎◌, ℕ, List, ◌++◌, Option, Some, None}
+use Rattle.sasl_gate.specs.declared.gate.init_server.InitCheck.TheVariants as check
 use Rattle.sasl_gate.specs.declared.scram.hash.ScramHash.{ScramHash}
 use Rattle.sasl_gate.specs.declared.scram.stored.StoredPassword.{StoredPassword}
-use Rattle.sasl_gate.specs.Check.{stored_of}
-use Rattle.sasl_gate.specs.ClientGate.{hash_of, username_of, password_of, nonce_of, ClientPassed}
-use Rattle.sasl_gate.specs.Hashes.{digest_of, block_of, output_of}
+use Rattle.sasl_gate.specs.ClientGate.{ClientPassed}
+use Rattle.sasl_gate.specs.Credentials.{Credentials, credentials_of}
+use Rattle.sasl_gate.specs.Credentials as own
+use Rattle.sasl_gate.specs.InitClient.{InitClientPassed}
+use Rattle.sasl_gate.specs.InitServer.{InitServerPassed}
+use Rattle.sasl_gate.specs.InitTexts.{anonymous_name, plain_name, plain_of}
 use Rattle.sasl_gate.specs.ScramBodies.{IsOnlySasl}
 use Rattle.sasl_gate.specs.ServerGate.{ServerPassed}
 use Rattle.amqp_opening.specs.declared.authentication.SaslCall.{SaslCall}
 use Rattle.amqp_opening.specs.declared.authentication.SaslCall.TheVariants as call
-use Rattle.amqp_opening.specs.Authentication.{accept_hash, accept_username, accept_password, accept_salt, accept_iterations, accept_nonce, stored_for}
+use Rattle.amqp_opening.specs.Admission.{Admission, admission_of}
+use Rattle.amqp_opening.specs.Admission as admitted
+use Rattle.amqp_opening.specs.Authentication.{passwords_for, stored_for, plain_account, scram_account}
 use Rattle.amqp_opening.specs.Opening.{amqp_header}
 
 -- the AMQP header begins so (part 2, section 2.2)
@@ -19,13 +25,24 @@ BeginsHeader part = (rest : List ℕ) × (part ++ rest ≡ amqp_header)
 
 -- what a listener has stored that lets one user in (RFC 5802, section 3)
 abbrev pub stored_alone : ScramHash → List ℕ → List ℕ → List ℕ → ℕ → List ℕ → Option StoredPassword
-stored_alone hash user password salt iterations name =
-    stored_for (record { user = user; password = password; stored = Some (stored_of (digest_of hash) (block_of hash) (output_of hash) password salt iterations) }) name
+stored_alone hash user password salt iterations name = stored_for (scram_account hash user password salt iterations) name
 
--- only the SASL layer was written, or the exchange that was asked for is whole and its check holds, and then bytes follow
--- of which `After` holds
+-- what the mechanism of a client promises holds of what was written and read, and `After` holds of the bytes behind it: with SCRAM that
+-- the listener knows the password (RFC 5802, section 3), and else that it told outcome `Ok`
+abbrev pub IsClientGated : (List ℕ → Type 0) → Credentials → Option (List ℕ) → List ℕ → List ℕ → Type 0
+IsClientGated After own.anonymous hostname wrote read = (q : InitClientPassed anonymous_name None hostname wrote read) × After q.more
+IsClientGated After (own.plain user password) hostname wrote read = (q : InitClientPassed plain_name (Some (plain_of user password)) hostname wrote read) × After q.more
+IsClientGated After (own.scram hash user password nonce) hostname wrote read = (q : ClientPassed hash user password nonce hostname wrote read) × After q.more
+
+-- the same of a listener: with SCRAM that the client knows the password (RFC 5802, section 3), with PLAIN that it told it (RFC 4616,
+-- section 2), and else that it asked for ANONYMOUS
+abbrev pub IsListenerGated : (List ℕ → Type 0) → Admission → List ℕ → List ℕ → Type 0
+IsListenerGated After admitted.anonymous wrote read = (q : InitServerPassed passwords_for check.Anonymous wrote read) × After q.more
+IsListenerGated After (admitted.plain user password) wrote read = (q : InitServerPassed passwords_for (check.Plain (plain_account user password)) wrote read) × After q.more
+IsListenerGated After (admitted.scram hash user password salt iterations nonce) wrote read =
+    (q : ServerPassed hash (stored_alone hash user password salt iterations) nonce wrote read) × After q.more
+
+-- only the SASL layer was written, or what the mechanism that was asked for promises holds, and then bytes follow of which `After` holds
 abbrev pub IsGatedBy : (List ℕ → Type 0) → SaslCall → List ℕ → List ℕ → Type 0
-IsGatedBy After (call.Client p hostname) wrote read =
-    IsOnlySasl wrote ⊎ ((q : ClientPassed (hash_of p) (username_of p) (password_of p) (nonce_of p) hostname wrote read) × After q.more)
-IsGatedBy After (call.Listener a) wrote read =
-    IsOnlySasl wrote ⊎ ((q : ServerPassed (accept_hash a) (stored_alone (accept_hash a) (accept_username a) (accept_password a) (accept_salt a) (accept_iterations a)) (accept_nonce a) wrote read) × After q.more)
+IsGatedBy After (call.Client p hostname) wrote read = IsOnlySasl wrote ⊎ IsClientGated After (credentials_of p) hostname wrote read
+IsGatedBy After (call.Listener a) wrote read = IsOnlySasl wrote ⊎ IsListenerGated After (admission_of a) wrote read

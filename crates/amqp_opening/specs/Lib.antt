@@ -1,3 +1,4 @@
+pub mod Admission
 pub mod Permission
 pub mod Authentication
 pub mod Opening

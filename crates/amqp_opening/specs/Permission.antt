@@ -1,14 +1,14 @@
 -- Which exchanges of the SASL layer may be asked for.
-use Rattle.std.specs.Prelude.{◌≤◌, ℕ, List, length}
-use Rattle.sasl_gate.specs.declared.gate.client.SaslProfile.{SaslProfile}
-use Rattle.sasl_gate.specs.ClientGate.{nonce_of}
+use Rattle.std.specs.Prelude.{◌≤◌, ℕ, List, length, ⊤}
+use Rattle.sasl_gate.specs.declared.gate.profile.SaslProfile.{SaslProfile}
+use Rattle.sasl_gate.specs.Credentials.{credentials_of, HasNonce}
 use Rattle.sasl_gate.specs.Profile.{IsNonce, IsAllowedCount}
 use Rattle.amqp_opening.specs.declared.acceptor.AcceptSasl.{AcceptSasl}
 use Rattle.amqp_opening.specs.declared.authentication.SaslCall.{SaslCall}
 use Rattle.amqp_opening.specs.declared.authentication.SaslCall.TheVariants as call
-use Rattle.amqp_opening.specs.Authentication.{accept_salt, accept_iterations, accept_nonce}
+use Rattle.amqp_opening.specs.Admission.{Admission, anonymous, plain, scram, admission_of}
 
--- what a listener is told about its user
+-- what a listener with SCRAM is told about its user (RFC 5802, sections 5.1 and 7)
 pub record IsAllowedAccept (salt : List ℕ) (iterations : ℕ) (nonce : List ℕ) : Type 0 where
   pub nonce_is : IsNonce nonce
   pub salt_least : 1 ≤ length salt
@@ -17,11 +17,17 @@ pub record IsAllowedAccept (salt : List ℕ) (iterations : ℕ) (nonce : List �
 
 -- what a client may authenticate with
 abbrev pub IsAllowedProfile : SaslProfile → Type 0
-IsAllowedProfile p = IsNonce (nonce_of p)
+IsAllowedProfile p = HasNonce (credentials_of p)
+
+-- what a listener may be told
+abbrev pub IsAllowedAdmission : Admission → Type 0
+IsAllowedAdmission anonymous = ⊤
+IsAllowedAdmission (plain user password) = ⊤
+IsAllowedAdmission (scram hash user password salt iterations nonce) = IsAllowedAccept salt iterations nonce
 
 -- whom a listener may let in
 abbrev pub IsAllowedSasl : AcceptSasl → Type 0
-IsAllowedSasl a = IsAllowedAccept (accept_salt a) (accept_iterations a) (accept_nonce a)
+IsAllowedSasl a = IsAllowedAdmission (admission_of a)
 
 -- an exchange that may be asked for
 abbrev pub IsAllowedSaslCall : SaslCall → Type 0

@@ -1,14 +1,24 @@
 //! Whom a listener lets in.
 ghost use Rattle.std.specs.Prelude.{◌≡◌, IfOk};
-ghost use Rattle.amqp_opening.specs.Authentication.{accept_hash, accept_username, accept_password, accept_salt, accept_iterations, accept_nonce, scram_acceptor};
+ghost use Rattle.amqp_opening.specs.Admission.{scram, admission_of, admission_in, acceptor_in, scram_acceptor};
 
 use amqp_text::{Binary, Text};
 use sasl_gate::ScramHash;
+use sasl_gate::scram::hash::ScramHash::{Sha1, Sha256, Sha512};
 use std::alloc::{AllocError, Global};
 
-/// Whom a listener lets in: one user.
+/// Whom a listener lets in: anyone, or one user.
 #[derive(Debug, Drop)]
 pub enum AcceptSasl {
+    /// ANONYMOUS (RFC 4505): anyone.
+    Anonymous,
+    /// PLAIN (RFC 4616).
+    Plain {
+        /// The user: 1 or more characters from 0x20 to 0x7e.
+        username: Text,
+        /// The password: characters from 0x20 to 0x7e.
+        password: Text,
+    },
     /// SCRAM-SHA-1 (RFC 5802).
     ScramSha1 {
         /// The user: 1 or more characters from 0x20 to 0x7e.
@@ -51,14 +61,43 @@ pub enum AcceptSasl {
 }
 
 /// The parts of an `AcceptSasl`, whatever its hash function.
-#[derive(Debug, Drop)]
-pub(crate) struct Accepting {
-    pub(crate) hash: ScramHash,
-    pub(crate) username: Text,
-    pub(crate) password: Text,
-    pub(crate) salt: Binary,
-    pub(crate) iterations: u32,
-    pub(crate) nonce: Text,
+#[derive(Clone, Copy)]
+pub(crate) enum Accepting<'a> {
+    Anonymous,
+    Plain {
+        username: &'a Text,
+        password: &'a Text,
+    },
+    Scram {
+        hash: ScramHash,
+        username: &'a Text,
+        password: &'a Text,
+        salt: &'a Binary,
+        iterations: u32,
+        nonce: &'a Text,
+    },
+}
+
+// The parts of one with SCRAM and this hash function.
+fn scram_parts<'a>(
+    hash: ScramHash,
+    username: &'a Text,
+    password: &'a Text,
+    salt: &'a Binary,
+    iterations: u32,
+    nonce: &'a Text,
+) -> Accepting<'a>
+    ensures acceptor { acceptor_in result ≡ scram_acceptor hash username.now password.now salt.now iterations nonce.now }
+    ensures admission { admission_in result ≡ scram hash username.now password.now salt.now iterations nonce.now }
+{
+    Accepting::Scram {
+        hash,
+        username,
+        password,
+        salt,
+        iterations,
+        nonce,
+    }
 }
 
 impl AcceptSasl {
@@ -98,56 +137,35 @@ impl AcceptSasl {
         }
     }
 
-    /// Its hash function.
-    pub fn hash(&self) -> ScramHash
-        ensures { result ≡ accept_hash self.now }
-    {
-        match self {
-            AcceptSasl::ScramSha1 { .. } => ScramHash::Sha1,
-            AcceptSasl::ScramSha256 { .. } => ScramHash::Sha256,
-            AcceptSasl::ScramSha512 { .. } => ScramHash::Sha512,
-        }
-    }
-
     // Takes it apart.
-    pub(crate) fn into_parts(self) -> Accepting
-        ensures hash { result.hash ≡ accept_hash self }
-        ensures username { result.username ≡ accept_username self }
-        ensures password { result.password ≡ accept_password self }
-        ensures salt { result.salt ≡ accept_salt self }
-        ensures iterations { result.iterations ≡ accept_iterations self }
-        ensures nonce { result.nonce ≡ accept_nonce self }
+    pub(crate) fn parts(&self) -> Accepting<'_>
+        ensures acceptor { acceptor_in result ≡ self.now }
+        ensures admission { admission_in result ≡ admission_of self.now }
     {
-        let hash = self.hash();
         match self {
+            AcceptSasl::Anonymous => Accepting::Anonymous,
+            AcceptSasl::Plain { username, password } => Accepting::Plain { username, password },
             AcceptSasl::ScramSha1 {
                 username,
                 password,
                 salt,
                 iterations,
                 nonce,
-            }
-            | AcceptSasl::ScramSha256 {
+            } => scram_parts(Sha1, username, password, salt, *iterations, nonce),
+            AcceptSasl::ScramSha256 {
                 username,
                 password,
                 salt,
                 iterations,
                 nonce,
-            }
-            | AcceptSasl::ScramSha512 {
+            } => scram_parts(Sha256, username, password, salt, *iterations, nonce),
+            AcceptSasl::ScramSha512 {
                 username,
                 password,
                 salt,
                 iterations,
                 nonce,
-            } => Accepting {
-                hash,
-                username,
-                password,
-                salt,
-                iterations,
-                nonce,
-            },
+            } => scram_parts(Sha512, username, password, salt, *iterations, nonce),
         }
     }
 
@@ -155,22 +173,15 @@ impl AcceptSasl {
     pub fn try_clone(&self, alloc: Global) -> Result<Self, AllocError>
         ensures { IfOk result (λ a. a ≡ self.now) }
     {
-        match self {
-            AcceptSasl::ScramSha1 {
-                username,
-                password,
-                salt,
-                iterations,
-                nonce,
+        match self.parts() {
+            Accepting::Anonymous => Ok(AcceptSasl::Anonymous),
+            Accepting::Plain { username, password } => {
+                let username = username.try_clone(alloc)?;
+                let password = password.try_clone(alloc)?;
+                Ok(AcceptSasl::Plain { username, password })
             }
-            | AcceptSasl::ScramSha256 {
-                username,
-                password,
-                salt,
-                iterations,
-                nonce,
-            }
-            | AcceptSasl::ScramSha512 {
+            Accepting::Scram {
+                hash,
                 username,
                 password,
                 salt,
@@ -181,7 +192,7 @@ impl AcceptSasl {
                 let password = password.try_clone(alloc)?;
                 let salt = salt.try_clone(alloc)?;
                 let nonce = nonce.try_clone(alloc)?;
-                Ok(AcceptSasl::scram(self.hash(), username, password, salt, *iterations, nonce))
+                Ok(AcceptSasl::scram(hash, username, password, salt, iterations, nonce))
             }
         }
     }

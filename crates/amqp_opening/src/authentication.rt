@@ -1,20 +1,22 @@
 //! The SASL exchange of an end: a client's, or a listener's with one user (OASIS AMQP 1.0, part 5, section 5.3).
-ghost use Rattle.std.specs.Prelude.{◌≡◌, ◌≤◌, List, [], length, IfOk, IfErr};
+ghost use Rattle.std.specs.Prelude.{◌≡◌, ◌≤◌, List, [], Some, None, length, IfOk, IfErr, OnOk};
 ghost use Rattle.base64.specs.GeneralPurpose.{IsBytes};
+ghost use Rattle.sasl_gate.specs.AnyServer.{any_server_holds};
 ghost use Rattle.sasl_gate.specs.Check.{stored_of};
 ghost use Rattle.sasl_gate.specs.Hashes.{digest_of, block_of, output_of};
 ghost use Rattle.sasl_gate.specs.Profile.{IsAllowedPassword, IsAllowedCount};
 ghost use Rattle.sasl_gate.specs.Refusals.{IsTextRefusal};
-ghost use Rattle.amqp_opening.specs.Authentication.{holds_by, causes_by, owes_by, turn_by, left_by, same_by, peer_refusal, peer_same_self, peer_same_then, MadeFor, IsCallRefusal, IsErrorOf};
-ghost use Rattle.amqp_opening.specs.Permission.{IsAllowedProfile, IsAllowedSasl, IsAllowedSaslCall};
+ghost use Rattle.amqp_opening.specs.Admission.{plain, scram, admission_of, account_by};
+ghost use Rattle.amqp_opening.specs.Authentication.{passwords_for, stored_for, holds_by, causes_by, owes_by, turn_by, left_by, same_by, peer_refusal, peer_same_self, peer_same_then, IsAllowedAccount, IsListenerMade, MadeFor, IsAccountRefusal, IsCallRefusal, IsErrorOf};
+ghost use Rattle.amqp_opening.specs.Permission.{IsAllowedAccept, IsAllowedProfile, IsAllowedSasl, IsAllowedSaslCall};
 
 use crate::acceptor::{AcceptSasl, Accepting};
 use amqp_composites::sasl_body::SaslBody;
-use amqp_text::Text;
+use amqp_text::{Binary, Text};
 use sasl_gate::gate::exchange::{Exchange, Turn, Verdict};
 use sasl_gate::{
-    ClientExchange, NegotiationError, OneUser, SaslProfile, ScramErrorKind, ScramHash,
-    ServerExchange, StoredPassword,
+    ClientExchange, InitCheck, InitServer, NegotiationError, OneUser, SaslProfile, ScramErrorKind,
+    ScramHash, ScramServerExchange, ServerExchange, StoredPassword,
 };
 use std::alloc::{AllocError, Global};
 
@@ -28,7 +30,7 @@ pub enum SaslCall {
         /// The host that it names in its init (part 5, section 5.3.3.2).
         hostname: Option<Text>,
     },
-    /// A listener's, which lets this user in.
+    /// A listener's, which lets these in.
     Listener(AcceptSasl),
 }
 
@@ -40,7 +42,7 @@ pub enum Authentication {
     /// A client's.
     Client(ClientExchange),
     /// A listener's.
-    Listener(ServerExchange<OneUser>),
+    Listener(ServerExchange<OneUser, OneUser>),
 }
 
 impl Exchange for Authentication {
@@ -105,8 +107,9 @@ fn error_of(kind: ScramErrorKind) -> NegotiationError
     }
 }
 
-// The client's exchange; it takes no memory.
+// The client's exchange.
 fn client_exchange(
+    alloc: Global,
     profile: SaslProfile,
     hostname: Option<Text>,
 ) -> Result<Authentication, NegotiationError>
@@ -115,9 +118,9 @@ fn client_exchange(
     ensures begins { IfOk result (λ x. holds_by x [] []) }
     ensures err { IfErr result (IsCallRefusal (SaslCall.Client profile hostname)) }
 {
-    match ClientExchange::new(profile, hostname) {
+    match ClientExchange::new(alloc, profile, hostname) {
         Ok(exchange) => Ok(Authentication::Client(exchange)),
-        Err(kind) => Err(NegotiationError::ScramError(kind)),
+        Err(kind) => Err(error_of(kind)),
     }
 }
 
@@ -138,31 +141,88 @@ fn stored_with(
     StoredPassword::derive_for(alloc, hash, password, salt, iterations)
 }
 
-// The one user of a listener, with what it keeps of the password.
-fn listener_exchange(
+// The one user of a listener, with what it keeps of the password for SCRAM.
+fn one_user(
     alloc: Global,
-    acceptor: AcceptSasl,
-) -> Result<Authentication, NegotiationError>
-    requires { IsAllowedSasl acceptor }
-    ensures ok { IfOk result (MadeFor (SaslCall.Listener acceptor)) }
-    ensures begins { IfOk result (λ x. holds_by x [] []) }
-    ensures err { IfErr result (IsCallRefusal (SaslCall.Listener acceptor)) }
+    username: &Text,
+    password: &Text,
+    stored: Option<StoredPassword>,
+) -> Result<OneUser, NegotiationError>
+    ensures ok { IfOk result (λ a. a ≡ record { user = username.now; password = password.now; stored = stored }) }
+    ensures allowed { OnOk result (IsAllowedAccount (Some (username.now, password.now))) }
+    ensures err { IfErr result (IsAccountRefusal (Some (username.now, password.now))) }
 {
-    let Accepting {
-        hash,
-        username,
-        password,
-        salt,
-        iterations,
-        nonce,
-    } = acceptor.into_parts();
+    let username = username.try_clone(alloc)?;
+    let password = password.try_clone(alloc)?;
+    match OneUser::new(username, password, stored) {
+        Ok(user) => Ok(user),
+        Err(kind) => Err(NegotiationError::ScramError(kind)),
+    }
+}
+
+// The listener's exchange with PLAIN.
+fn plain_exchange(
+    alloc: Global,
+    username: &Text,
+    password: &Text,
+) -> Result<ServerExchange<OneUser, OneUser>, NegotiationError>
+    ensures ok { IfOk result (IsListenerMade (plain username.now password.now)) }
+    ensures begins { IfOk result (λ x. any_server_holds passwords_for stored_for x [] []) }
+    ensures err { IfErr result (IsAccountRefusal (Some (username.now, password.now))) }
+{
+    match one_user(alloc, username, password, None) {
+        Ok(user) => Ok(ServerExchange::Init(InitServer::new(InitCheck::Plain(user)))),
+        Err(error) => Err(error),
+    }
+}
+
+// The listener's exchange with SCRAM.
+fn scram_exchange(
+    alloc: Global,
+    hash: ScramHash,
+    username: &Text,
+    password: &Text,
+    salt: &Binary,
+    iterations: u32,
+    nonce: &Text,
+) -> Result<ServerExchange<OneUser, OneUser>, NegotiationError>
+    requires { IsAllowedAccept salt.now iterations nonce.now }
+    ensures ok { IfOk result (IsListenerMade (scram hash username.now password.now salt.now iterations nonce.now)) }
+    ensures begins { IfOk result (λ x. any_server_holds passwords_for stored_for x [] []) }
+    ensures err { IfErr result (IsAccountRefusal (Some (username.now, password.now))) }
+{
+    let nonce = nonce.try_clone(alloc)?;
     let stored = match stored_with(alloc, hash, password.as_str(), salt.as_slice(), iterations) {
         Ok(stored) => stored,
         Err(kind) => return Err(error_of(kind)),
     };
-    match OneUser::new(username, password, Some(stored)) {
-        Ok(user) => Ok(Authentication::Listener(ServerExchange::new(hash, user, nonce))),
-        Err(kind) => Err(NegotiationError::ScramError(kind)),
+    match one_user(alloc, username, password, Some(stored)) {
+        Ok(user) => Ok(ServerExchange::Scram(ScramServerExchange::new(hash, user, nonce))),
+        Err(error) => Err(error),
+    }
+}
+
+// The listener's exchange.
+fn server_exchange(
+    alloc: Global,
+    acceptor: &AcceptSasl,
+) -> Result<ServerExchange<OneUser, OneUser>, NegotiationError>
+    requires { IsAllowedSasl acceptor.now }
+    ensures ok { IfOk result (IsListenerMade (admission_of acceptor.now)) }
+    ensures begins { IfOk result (λ x. any_server_holds passwords_for stored_for x [] []) }
+    ensures err { IfErr result (IsAccountRefusal (account_by (admission_of acceptor.now))) }
+{
+    match acceptor.parts() {
+        Accepting::Anonymous => Ok(ServerExchange::Init(InitServer::new(InitCheck::Anonymous))),
+        Accepting::Plain { username, password } => plain_exchange(alloc, username, password),
+        Accepting::Scram {
+            hash,
+            username,
+            password,
+            salt,
+            iterations,
+            nonce,
+        } => scram_exchange(alloc, hash, username, password, salt, iterations, nonce),
     }
 }
 
@@ -175,7 +235,10 @@ pub fn exchange_for(alloc: Global, call: SaslCall) -> Result<Authentication, Neg
     ensures err { IfErr result (IsCallRefusal call) }
 {
     match call {
-        SaslCall::Client { profile, hostname } => client_exchange(profile, hostname),
-        SaslCall::Listener(acceptor) => listener_exchange(alloc, acceptor),
+        SaslCall::Client { profile, hostname } => client_exchange(alloc, profile, hostname),
+        SaslCall::Listener(acceptor) => match server_exchange(alloc, &acceptor) {
+            Ok(exchange) => Ok(Authentication::Listener(exchange)),
+            Err(error) => Err(error),
+        },
     }
 }

@@ -152,3 +152,68 @@ fn plain_opening_keeps_what_follows(rt: HostRuntime) -> Result<(), Fail> {
     let plain = begun(rt.alloc(), Authentication::Idle, None)?;
     kept(&rt, plain)
 }
+
+// Gives these bytes to the opening of a call, in which both headers are exchanged; it wrote this.
+fn passes(
+    rt: &impl Abort,
+    alloc: Global,
+    call: SaslCall,
+    bytes: &[u8],
+    output: &[u8],
+) -> Result<(), Fail> {
+    assert!(rt; is_allowed(&call));
+    let exchange = exchange_for(alloc, call)?;
+    let opening = begun(alloc, Authentication::Idle, Some(exchange))?;
+    let (name, codec) = codec_after(opening, bytes)?;
+    assert!(rt; name == "exchanged");
+    let link = codec.into_link();
+    assert!(rt; link.output() == output);
+    Ok(())
+}
+
+// RFC 4505: the client says nothing of its user, and the listener asks for nothing.
+#[test]
+fn anonymous_opening(rt: HostRuntime) -> Result<(), Fail> {
+    let alloc = rt.alloc();
+    let of_listener = b"AMQP\x03\x01\x00\x00\
+        \x00\x00\x00\x1c\x02\x01\x00\x00\x00\x53\x40\xc0\x0f\x01\xe0\x0c\x01\xa3\x09ANONYMOUS\
+        \x00\x00\x00\x10\x02\x01\x00\x00\x00\x53\x44\xc0\x03\x01\x50\x00\
+        AMQP\x00\x01\x00\x00";
+    let of_client = b"AMQP\x03\x01\x00\x00\
+        \x00\x00\x00\x19\x02\x01\x00\x00\x00\x53\x41\xc0\x0c\x01\xa3\x09ANONYMOUS\
+        AMQP\x00\x01\x00\x00";
+    let client = SaslCall::Client {
+        profile: SaslProfile::Anonymous,
+        hostname: None,
+    };
+    passes(&rt, alloc, client, of_listener, of_client)?;
+    let listener = SaslCall::Listener(AcceptSasl::Anonymous.try_clone(alloc)?);
+    passes(&rt, alloc, listener, of_client, of_listener)
+}
+
+// RFC 4616, section 2: the client's init has its user and its password.
+#[test]
+fn plain_opening(rt: HostRuntime) -> Result<(), Fail> {
+    let alloc = rt.alloc();
+    let of_listener = b"AMQP\x03\x01\x00\x00\
+        \x00\x00\x00\x18\x02\x01\x00\x00\x00\x53\x40\xc0\x0b\x01\xe0\x08\x01\xa3\x05PLAIN\
+        \x00\x00\x00\x10\x02\x01\x00\x00\x00\x53\x44\xc0\x03\x01\x50\x00\
+        AMQP\x00\x01\x00\x00";
+    let of_client = b"AMQP\x03\x01\x00\x00\
+        \x00\x00\x00\x23\x02\x01\x00\x00\x00\x53\x41\xc0\x16\x02\xa3\x05PLAIN\xa0\x0c\x00user\x00pencil\
+        AMQP\x00\x01\x00\x00";
+    let client = SaslCall::Client {
+        profile: SaslProfile::Plain {
+            username: Text::from_str(alloc, "user")?,
+            password: Text::from_str(alloc, "pencil")?,
+        },
+        hostname: None,
+    };
+    passes(&rt, alloc, client, of_listener, of_client)?;
+    let acceptor = AcceptSasl::Plain {
+        username: Text::from_str(alloc, "user")?,
+        password: Text::from_str(alloc, "pencil")?,
+    };
+    let listener = SaslCall::Listener(acceptor.try_clone(alloc)?);
+    passes(&rt, alloc, listener, of_client, of_listener)
+}

@@ -13,10 +13,11 @@
 //! | `close error=T` | the end closes the connection |
 //!
 //! Keys come in any order, each at most once; a key ends at the first `=`. `id` is there at each
-//! `open` and `accept`. KIND is `none`, as where it is left out, or the hash function of SCRAM,
-//! `sha1`, `sha256` or `sha512`; `user`, `pass`, `nonce` and for `accept` `salt` and `rounds` are
-//! there exactly where there is a hash function. `max` (bytes, else 262,144), `idle` (milliseconds,
-//! else none) and `rounds` are numbers below 2^32, and `channels` (else 255) is one below 2^16.
+//! `open` and `accept`. KIND is `none`, as where it is left out, `anonymous`, `plain`, or the hash
+//! function of SCRAM, `sha1`, `sha256` or `sha512`. `user` and `pass` are there exactly where it is
+//! `plain` or a hash function, and `nonce` and for `accept` `salt` and `rounds` exactly where it is a
+//! hash function. `max` (bytes, else 262,144), `idle` (milliseconds, else none) and `rounds` are
+//! numbers below 2^32, and `channels` (else 255) is one below 2^16.
 //!
 //! A text T is printable ASCII (0x21 to 0x7e) without `%`; any byte is also written as `%` and two
 //! hexadecimal digits in either case, and the bytes are UTF-8. Those of `error` are ASCII. `salt` is

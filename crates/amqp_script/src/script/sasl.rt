@@ -3,7 +3,7 @@ ghost use Rattle.std.specs.Prelude.{◌≡◌};
 ghost use Rattle.amqp_script.specs.Words.{words_left};
 ghost use Rattle.amqp_script.specs.Keys.{has_only as only_test};
 ghost use Rattle.amqp_script.specs.Fields.{Says};
-ghost use Rattle.amqp_script.specs.Sasl.{hash_of_word, kind_of_word, kind_in, open_keys, accept_keys, scram_profile as profile_with, profile_in, acceptor_in, client_sasl_in, listener_sasl_in};
+ghost use Rattle.amqp_script.specs.Sasl.{hash_of_word, kind_of_word, kind_in, open_keys, accept_keys, account_in, scram_profile as profile_with, profile_in, acceptor_in, client_sasl_in, listener_sasl_in};
 
 use crate::script::fields::{required, salt, text, uint};
 use crate::script::keys::{Key, has_only, value_at};
@@ -19,6 +19,10 @@ use std::alloc::Global;
 pub enum SaslKind {
     /// There is no SASL layer.
     Absent,
+    /// ANONYMOUS (RFC 4505).
+    Anonymous,
+    /// PLAIN (RFC 4616).
+    Plain,
     /// SCRAM with this hash function (RFC 5802; RFC 7677).
     Scram(ScramHash),
 }
@@ -31,6 +35,18 @@ const OPEN_KEYS: [Key; 7] = [
     Key::Channels,
     Key::Idle,
     Key::Sasl,
+];
+
+const OPEN_PLAIN_KEYS: [Key; 9] = [
+    Key::Id,
+    Key::Host,
+    Key::SaslHost,
+    Key::Max,
+    Key::Channels,
+    Key::Idle,
+    Key::Sasl,
+    Key::User,
+    Key::Pass,
 ];
 
 const OPEN_SCRAM_KEYS: [Key; 10] = [
@@ -53,6 +69,17 @@ const ACCEPT_KEYS: [Key; 6] = [
     Key::Channels,
     Key::Idle,
     Key::Sasl,
+];
+
+const ACCEPT_PLAIN_KEYS: [Key; 8] = [
+    Key::Id,
+    Key::Host,
+    Key::Max,
+    Key::Channels,
+    Key::Idle,
+    Key::Sasl,
+    Key::User,
+    Key::Pass,
 ];
 
 const ACCEPT_SCRAM_KEYS: [Key; 11] = [
@@ -92,6 +119,12 @@ fn read_kind(word: &[u8]) -> Result<SaslKind, LineError>
     if is_text(word, b"none") {
         return Ok(SaslKind::Absent);
     }
+    if is_text(word, b"anonymous") {
+        return Ok(SaslKind::Anonymous);
+    }
+    if is_text(word, b"plain") {
+        return Ok(SaslKind::Plain);
+    }
     match read_hash(word) {
         Some(hash) => Ok(SaslKind::Scram(hash)),
         None => Err(LineError::Outside),
@@ -114,6 +147,8 @@ pub fn fits_open(kind: SaslKind, arguments: Words<'_>) -> bool
 {
     match kind {
         SaslKind::Absent => has_only(&OPEN_KEYS, arguments),
+        SaslKind::Anonymous => has_only(&OPEN_KEYS, arguments),
+        SaslKind::Plain => has_only(&OPEN_PLAIN_KEYS, arguments),
         SaslKind::Scram(_) => has_only(&OPEN_SCRAM_KEYS, arguments),
     }
 }
@@ -124,8 +159,19 @@ pub fn fits_accept(kind: SaslKind, arguments: Words<'_>) -> bool
 {
     match kind {
         SaslKind::Absent => has_only(&ACCEPT_KEYS, arguments),
+        SaslKind::Anonymous => has_only(&ACCEPT_KEYS, arguments),
+        SaslKind::Plain => has_only(&ACCEPT_PLAIN_KEYS, arguments),
         SaslKind::Scram(_) => has_only(&ACCEPT_SCRAM_KEYS, arguments),
     }
+}
+
+/// The user and the password.
+fn account(alloc: Global, arguments: Words<'_>) -> Result<(Text, Text), LineError>
+    ensures { Says (account_in (words_left arguments.entry)) result }
+{
+    let username = text(alloc, required(arguments, Key::User)?)?;
+    let password = text(alloc, required(arguments, Key::Pass)?)?;
+    Ok((username, password))
 }
 
 /// SCRAM with a hash function, at a client.
@@ -154,8 +200,7 @@ fn scram_profile(hash: ScramHash, username: Text, password: Text, nonce: Text) -
 fn profile(alloc: Global, hash: ScramHash, arguments: Words<'_>) -> Result<SaslProfile, LineError>
     ensures { Says (profile_in hash (words_left arguments.entry)) result }
 {
-    let username = text(alloc, required(arguments, Key::User)?)?;
-    let password = text(alloc, required(arguments, Key::Pass)?)?;
+    let (username, password) = account(alloc, arguments)?;
     let nonce = text(alloc, required(arguments, Key::Nonce)?)?;
     Ok(scram_profile(hash, username, password, nonce))
 }
@@ -163,8 +208,7 @@ fn profile(alloc: Global, hash: ScramHash, arguments: Words<'_>) -> Result<SaslP
 fn acceptor(alloc: Global, hash: ScramHash, arguments: Words<'_>) -> Result<AcceptSasl, LineError>
     ensures { Says (acceptor_in hash (words_left arguments.entry)) result }
 {
-    let username = text(alloc, required(arguments, Key::User)?)?;
-    let password = text(alloc, required(arguments, Key::Pass)?)?;
+    let (username, password) = account(alloc, arguments)?;
     let salt = salt(alloc, required(arguments, Key::Salt)?)?;
     let iterations = uint(required(arguments, Key::Rounds)?)?;
     let nonce = text(alloc, required(arguments, Key::Nonce)?)?;
@@ -181,6 +225,11 @@ pub fn client_sasl(
 {
     match kind {
         SaslKind::Absent => Ok(None),
+        SaslKind::Anonymous => Ok(Some(SaslProfile::Anonymous)),
+        SaslKind::Plain => {
+            let (username, password) = account(alloc, arguments)?;
+            Ok(Some(SaslProfile::Plain { username, password }))
+        }
         SaslKind::Scram(hash) => {
             let profile = profile(alloc, hash, arguments)?;
             Ok(Some(profile))
@@ -198,6 +247,11 @@ pub fn listener_sasl(
 {
     match kind {
         SaslKind::Absent => Ok(None),
+        SaslKind::Anonymous => Ok(Some(AcceptSasl::Anonymous)),
+        SaslKind::Plain => {
+            let (username, password) = account(alloc, arguments)?;
+            Ok(Some(AcceptSasl::Plain { username, password }))
+        }
         SaslKind::Scram(hash) => {
             let acceptor = acceptor(alloc, hash, arguments)?;
             Ok(Some(acceptor))
