@@ -29,6 +29,7 @@ use Rattle.amqp_peer.specs.Held.{IsAwaiting, IsLeaving, IsSound, IsLate, IsExcha
 use Rattle.amqp_peer.specs.History.{Local, Replied, made_in, link_in, given_in, sent_in, replied_in, moment_in, IsInside}
 use Rattle.amqp_peer.specs.Peering.{Peering, Has, HasIn, HasCalled, IsUnmade, IsUnmadeAt, IsMadeIn, IsFaultIn, IsWaiting, IsOpen, IsClosing, HasFailedOpen, HasClosed, IsBrokenIn, IsBrokenHeld, link_of}
 use Rattle.amqp_peer.specs.Replies.{pending, connection as made_reply, answered, IsCloseEnd}
+use Rattle.amqp_peer.proofs.Refusals.{failure_not}
 use Rattle.amqp_peer.specs.Runs.{CallWaits, IsFlushed, IsConcluded, IsSettled, AdvancedFrom, Advanced, Worked, RestedFrom, Rested, first_fault, error_by, error_in, open_failure, open_reply, close_reply, finished, concluded_in, concluded, greeted_if, greeted_in, greeted}
 use Rattle.amqp_peer.proofs.Answers.{open_cause, close_cause}
 use Rattle.amqp_peer.proofs.Stays.{failed_stops}
@@ -221,7 +222,8 @@ finish_open {L} old s h e z w =
       name = old.name;
       error = open_failure (error_in old);
       made = w.made;
-      replied = ap (λ (u : List NamedReply). u ++ answered old.name (open_reply (error_in old)) ∷ []) w.replied;
+      replied = inl (ap (λ (u : List NamedReply). u ++ answered old.name (open_reply (error_in old)) ∷ []) w.replied, failure_not (error_in old));
+      silent = λ t. absurd (failure_not (error_in old) t);
       called = called_keeps w.call old.held h (answered old.name (open_reply (error_in old))) c w.called;
       done = λ z. subst IsBusy e z;
       broken = broken_told old.held s h (answered old.name (open_reply (error_in old))) e (broken_unmade old.fault s h u);

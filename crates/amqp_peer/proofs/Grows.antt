@@ -14,6 +14,7 @@ use Rattle.amqp_engine.specs.Phases.{state_of, has_failed}
 use Rattle.amqp_engine.specs.Sentence.{Ran}
 use Rattle.amqp_engine.specs.State.{State}
 use Rattle.amqp_words.specs.declared.call.Call.{Call}
+use Rattle.amqp_words.specs.declared.reply.NamedReply.{NamedReply}
 use Rattle.amqp_peer.specs.declared.held.Held.{Held}
 use Rattle.amqp_peer.specs.declared.held.Held.TheVariants.{Late}
 use Rattle.amqp_peer.specs.declared.peer.Progress.{Progress}
@@ -21,7 +22,8 @@ use Rattle.amqp_peer.specs.declared.peer.Progress.TheVariants as progress
 use Rattle.amqp_peer.specs.Causes.{BeginsWithOpen, IsOther, prepared_in}
 use Rattle.amqp_peer.specs.Held.{IsLeaving, IsLeavingIn, is_made_state}
 use Rattle.amqp_peer.specs.History.{Local, made_in, given_in, moment_in}
-use Rattle.amqp_peer.specs.Peering.{Peering, IsHeld, IsRunning, HasCalled, IsFaultless, IsUnheard, IsBrokenIn, IsBrokenHeld, IsUnmadeAt, IsUnmade, IsFaultIn, IsMadeIn, EarlyFault, LateFault, IsWaiting, IsOpen, IsClosing, HasFailedOpen, HasClosed, HasIn}
+use Rattle.amqp_peer.specs.Replies.{IsOpenRefusal}
+use Rattle.amqp_peer.specs.Peering.{Peering, IsHeld, IsSilent, IsRunning, HasCalled, IsFaultless, IsUnheard, IsBrokenIn, IsBrokenHeld, IsUnmadeAt, IsUnmade, IsFaultIn, IsMadeIn, EarlyFault, LateFault, IsWaiting, IsOpen, IsClosing, HasFailedOpen, HasClosed, HasIn}
 use Rattle.amqp_peer.specs.Prepared.{prepared_of}
 use Rattle.amqp_peer.specs.Runs.{first_fault}
 use Rattle.amqp_peer.proofs.Faulty.{broken_after, broken_more}
@@ -431,7 +433,8 @@ over_moves {L} link at old s s' fault h r m d t e b (inl w) =
       name = w.name;
       error = w.error;
       made = made_after h (passed r) ∙ w.made;
-      replied = replied_after h (passed r) ∙ w.replied;
+      replied = subst (λ (u : List NamedReply). IsOpenRefusal w.name w.error u) (sym (replied_after h (passed r))) w.replied;
+      silent = λ z. absurd (subst (λ (x : Held L). IsSilent x h) e (w.silent z));
       called = called_moves link at w.call old.held s s' h r m d t e w.called;
       done = λ z. z;
       broken = b w.call (is_running w.call old.held s h e w.called) (ap prepared_in w.made) (subst (λ (x : Held L). IsBrokenHeld x h) e w.broken);

@@ -44,6 +44,7 @@ use Rattle.amqp_peer.proofs.Histories.{made_in-append as made_append, link_in-ap
 use Rattle.amqp_peer.proofs.Answers.{over_in}
 use Rattle.amqp_peer.proofs.Grows.{broken_unmade, broken_made}
 use Rattle.amqp_peer.proofs.Hears.{mistaken_other}
+use Rattle.amqp_peer.proofs.Refusals.{refusal_last, refusal_connects_not, silent_with}
 use Rattle.amqp_peer.proofs.Written.{written_exchanging, written_running, queued_idle, queued_exchanging, queued_running, read_running}
 
 -- histories, one after another
@@ -68,7 +69,7 @@ taken_in progress.Idle p h n =
 taken_in progress.Opening p h w = record { call = w.call; made = w.made; replied = w.replied; called = w.called; unmade = w.unmade }
 taken_in progress.Open p h w = record { call = w.call; name = w.name; made = w.made; replied = w.replied; called = w.called; is_made = w.is_made }
 taken_in progress.Closing p h w = record { call = w.call; name = w.name; error = w.error; made = w.made; replied = w.replied; called = w.called; is_made = w.is_made; leaves = w.leaves }
-taken_in progress.Over p h (inl w) = inl (record { call = w.call; name = w.name; error = w.error; made = w.made; replied = w.replied; called = w.called; done = w.done; broken = w.broken })
+taken_in progress.Over p h (inl w) = inl (record { call = w.call; name = w.name; error = w.error; made = w.made; replied = w.replied; silent = w.silent; called = w.called; done = w.done; broken = w.broken })
 taken_in progress.Over p h (inr w) =
     inr (record { call = w.call; name = w.name; closing = w.closing; error = w.error; reply = w.reply; made = w.made; end = w.end; replied = w.replied; called = w.called; done = w.done; broken = w.broken })
 
@@ -221,7 +222,7 @@ with_in progress.Open p w h x = record { call = x.call; name = x.name; made = x.
 with_in progress.Closing p w h x =
     record { call = x.call; name = x.name; error = x.error; made = x.made; replied = x.replied; called = called_with x.call p.held w h x.called; is_made = made_with p.fault p.held w h x.is_made; leaves = leaves_with p.held w x.leaves }
 with_in progress.Over p w h (inl x) =
-    inl (record { call = x.call; name = x.name; error = x.error; made = x.made; replied = x.replied; called = called_with x.call p.held w h x.called; done = λ b. x.done (busy_with p.held w b); broken = broken_with p.held w h x.broken })
+    inl (record { call = x.call; name = x.name; error = x.error; made = x.made; replied = x.replied; silent = λ t. silent_with p.held w h (x.silent t); called = called_with x.call p.held w h x.called; done = λ b. x.done (busy_with p.held w b); broken = broken_with p.held w h x.broken })
 with_in progress.Over p w h (inr x) =
     inr (record { call = x.call; name = x.name; closing = x.closing; error = x.error; reply = x.reply; made = x.made; end = x.end; replied = x.replied; called = called_with x.call p.held w h x.called; done = λ b. x.done (busy_with p.held w b); broken = broken_with p.held w h x.broken })
 
@@ -255,11 +256,6 @@ not_connected : (n : ℕ) → IsConnected (pending n ∷ []) → ⊥
 not_connected n (inl e) = absurd (cc e)
 not_connected n (inr e) = e
 
-failed_not_connected : (n : ℕ) (e : _) → IsConnected (pending n ∷ record { name = n; reply = reply.OpenError e } ∷ []) → ⊥
-failed_not_connected n e (inl x) = absurd (cc x)
-failed_not_connected n e (inr (inl x)) = absurd (cc x)
-failed_not_connected n e (inr (inr x)) = x
-
 may_one : (q : Progress) (kind : PeerKind) (n name : ℕ) (first call : Call) (made : List (ℕ × Call)) (replied : List NamedReply) → made ≡ (n, first) ∷ [] → (MayCallIn q kind call → IsClose call × IsConnected replied) → (IsClose call × IsConnected replied → MayCallIn q kind call)
     → MayCallIn q kind call ↔ IsValidCall kind made replied name call
 may_one q kind n name first call made replied e f g = subst (λ (cs : List (ℕ × Call)). MayCallIn q kind call ↔ IsValidCall kind cs replied name call) (sym e) (f, g)
@@ -275,7 +271,7 @@ may_in progress.Open p name call h x =
     may_one progress.Open p.kind x.name name x.call call (made_in h) (replied_in h) x.made (λ m. (m, subst IsConnected (sym x.replied) (inr (inl refl)))) (λ v. v.0)
 may_in progress.Closing p name call h x = may_none p.kind x.name p.name name x.call (Close x.error) call (made_in h) (replied_in h) x.made
 may_in progress.Over p name call h (inl x) =
-    may_one progress.Over p.kind x.name name x.call call (made_in h) (replied_in h) x.made (λ m. absurd m) (λ v. failed_not_connected x.name x.error (subst IsConnected x.replied v.1))
+    may_one progress.Over p.kind x.name name x.call call (made_in h) (replied_in h) x.made (λ m. absurd m) (λ v. refusal_connects_not x.name x.error (replied_in h) x.replied v.1)
 may_in progress.Over p name call h (inr x) = may_none p.kind x.name x.closing name x.call (Close x.error) call (made_in h) (replied_in h) x.made
 
 pub may_law : {L : Type 0} (p : Peering L) (name : ℕ) (call : Call) (h : List Local) → Has p h → MayCall p name call ↔ IsValidCall p.kind (made_in h) (replied_in h) name call
@@ -504,7 +500,7 @@ spent_in progress.Idle p h x n = inr (uncalled x.made)
 spent_in progress.Opening p h x n = waiting_spent x.call p.fault p.held h x.called.holds x.unmade n
 spent_in progress.Open p h x n = made_spent x.call p.fault p.held h x.called.holds x.is_made
 spent_in progress.Closing p h x n = made_spent x.call p.fault p.held h x.called.holds x.is_made
-spent_in progress.Over p h (inl x) n = inr (answered (pending x.name ∷ []) (open_failed x.name x.error) x.replied tt)
+spent_in progress.Over p h (inl x) n = let last = refusal_last x.name x.error (replied_in h) x.replied in inr (answered last.0 (open_failed x.name x.error) last.1 tt)
 spent_in progress.Over p h (inr x) n = elim x.replied [
   | inl e ↦ inr (answered (pending x.name ∷ made_reply x.name ∷ pending x.closing ∷ []) (answered_by x.closing x.reply) e (close_last x.reply x.end))
   | inr e ↦ inr (answered (pending x.name ∷ made_reply x.name ∷ []) (answered_by x.closing x.reply) e (close_last x.reply x.end))

@@ -3,6 +3,7 @@ pub mod Said
 pub mod Moved
 pub mod Written
 pub mod Layers
+pub mod Refusals
 pub mod Parts
 pub mod Leaves
 pub mod Hears

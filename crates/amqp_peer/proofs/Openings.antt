@@ -19,6 +19,8 @@ use Rattle.amqp_engine.specs.State.{State, open_frame}
 use Rattle.amqp_engine.proofs.Runs.{within}
 use Rattle.amqp_engine.proofs.Says.{starts, starts_calm}
 use Rattle.sasl_gate.specs.declared.gate.error.NegotiationError.{NegotiationError}
+use Rattle.sasl_gate.specs.declared.gate.error.NegotiationError.TheVariants.{ScramError}
+use Rattle.sasl_gate.specs.declared.scram.error.ScramErrorKind.TheVariants.{TextNotAllowed}
 use Rattle.sasl_gate.specs.Negotiation.{IsHeldUp}
 use Rattle.amqp_opening.specs.declared.authentication.Authentication.{Authentication}
 use Rattle.amqp_opening.specs.declared.authentication.SaslCall.{SaslCall}
@@ -51,6 +53,7 @@ use Rattle.amqp_peer.proofs.Histories.{given_in-at, sent_in-at, replied_in-at, l
 use Rattle.amqp_peer.proofs.Layers.{layer_exchanging, layer_ended, layer_same}
 use Rattle.amqp_peer.proofs.Moved.{Passed, made_after, link_after, given_after, sent_after, replied_after}
 use Rattle.amqp_peer.proofs.Quiet.{quiet_replied, queued_quiet}
+use Rattle.amqp_peer.proofs.Refusals.{ending_not, negotiation_not}
 use Rattle.amqp_peer.proofs.Written.{intro_read, written_guarded, written_exchanging, queued_guarded, queued_exchanging}
 
 -- ---- what passed at the link alone
@@ -214,10 +217,11 @@ fails_open {L} link old o o' p left e h l r n w =
     let k = held_early w.call old.held o p h l r w.called in
     let ends = n.comes.1 (link_in h) k.opening in
     let made = made_same (sasl_of w.call) o.has_sasl o'.has_sasl o.negotiation.exchange o'.negotiation.exchange n.moves.layer n.moves.kept k.made in
+    let other : ¬ (e ≡ ScramError TextNotAllowed) = ending_not o'.has_sasl o'.negotiation.exchange e (n.events ++ link_in h) ends.cause in
     let calls : made_in (at_link n.events ++ h) ≡ (old.name, w.call) ∷ [] = made_after h q ∙ w.made in
     let cause : OpenCauseIn (made_in (at_link n.events ++ h)) e (link_in (at_link n.events ++ h)) =
     subst (λ (cs : List (ℕ × Call)). OpenCauseIn cs e (link_in (at_link n.events ++ h))) (sym calls)
-    (subst (λ (u : List LinkEvent). IsOpenCause w.call e u) (sym (link_after h q)) (in_opening o'.has_sasl o'.negotiation.exchange made ends)) in
+    (subst (λ (u : List LinkEvent). IsOpenCause w.call e u) (sym (link_after h q)) (in_opening o'.has_sasl o'.negotiation.exchange made other ends)) in
     let guarded = subst (λ (u : List LinkEvent). IsGuarded peer_mechanism o'.has_sasl o'.negotiation.exchange u) (sym (link_after h q)) ends.guarded in
     let wrote : HasWritten w.call (at_link n.events ++ h) = written_guarded w.call o'.has_sasl o'.negotiation.exchange (at_link n.events ++ h) made
     guarded in
@@ -231,7 +235,8 @@ fails_open {L} link old o o' p left e h l r n w =
       name = old.name;
       error = failed.Negotiation e;
       made = calls;
-      replied = ap (λ (u : List NamedReply). u ++ open_failed old.name (failed.Negotiation e) ∷ []) (replied_after h q ∙ w.replied);
+      replied = inl (ap (λ (u : List NamedReply). u ++ open_failed old.name (failed.Negotiation e) ∷ []) (replied_after h q ∙ w.replied), negotiation_not e other);
+      silent = λ t. absurd (negotiation_not e other t);
       called = record {
         holds = subst (λ (s : Stage). IsHeldAt s w.call o' p (Replied (open_failed old.name (failed.Negotiation e)) ∷ at_link n.events ++ h)) (sym n.comes.0)
             (record { written = wrote; exchange = exchange; queued = queued; given = given_after h q ∙ append-nil (given_in h) ∙ k.given; sent = sent });
@@ -386,7 +391,8 @@ connect_fails {L} link at old o p (connection.TransportError transport.FramingEr
               name = old.name;
               error = failed.TransportError transport.FramingError;
               made = w.1.made;
-              replied = ap (λ (u : List NamedReply). u ++ answer ∷ []) w.1.replied;
+              replied = inl (ap (λ (u : List NamedReply). u ++ answer ∷ []) w.1.replied, λ t. absurd (cc t));
+              silent = λ t. absurd (cc t);
               called = record {
                 holds = record { written = written_exchanging w.1.call o (Some p) h k; exchange = layer_same (sasl_of w.1.call) h (Replied answer ∷ h) refl refl (layer_exchanging w.1.call o (Some p) h k); queued = queued_quiet h (Replied answer ∷ h) (quiet_replied answer h) (queued_exchanging w.1.call o (Some p) h k); given = k.given; sent = k.sent };
                 caused = (broken_large [] h (inr (record { limit = 512; x = open_frame p.end; is_limit = sym (ap write_limit k.given); own = own_opening p (ap prepared_in w.1.made ∙ k.prepared); large = c.0 })) refl refl, w.1.called.caused);

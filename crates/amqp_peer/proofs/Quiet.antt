@@ -29,6 +29,7 @@ use Rattle.amqp_peer.specs.Prepared.{sasl_of}
 use Rattle.amqp_peer.proofs.Faulty.{broken_more}
 use Rattle.amqp_peer.proofs.Histories.{given_in-append, sent_in-append, once_more}
 use Rattle.amqp_peer.proofs.Layers.{layer_same}
+use Rattle.amqp_peer.proofs.Refusals.{silent_polled}
 use Rattle.amqp_peer.proofs.Said.{IsAdded, has_said, said_added}
 
 -- the same passed at the link, the same frames were read and queued
@@ -194,7 +195,7 @@ has_polled_in progress.Closing x at h w =
     let q = quiet_polled at h in
     record { call = w.call; name = w.name; error = w.error; made = w.made; replied = w.replied; called = called_quiet w.call x.held h (Polled at ∷ h) q w.called.caused w.called; is_made = made_quiet x.fault x.held h (Polled at ∷ h) q w.is_made; leaves = w.leaves }
 has_polled_in progress.Over x at h (inl w) =
-    inl (record { call = w.call; name = w.name; error = w.error; made = w.made; replied = w.replied; called = called_quiet w.call x.held h (Polled at ∷ h) (quiet_polled at h) w.called.caused w.called; done = w.done; broken = broken_held_quiet x.held h (Polled at ∷ h) (quiet_polled at h) w.broken })
+    inl (record { call = w.call; name = w.name; error = w.error; made = w.made; replied = w.replied; silent = λ t. silent_polled x.held at h (w.silent t); called = called_quiet w.call x.held h (Polled at ∷ h) (quiet_polled at h) w.called.caused w.called; done = w.done; broken = broken_held_quiet x.held h (Polled at ∷ h) (quiet_polled at h) w.broken })
 has_polled_in progress.Over x at h (inr w) =
     inr (record { call = w.call; name = w.name; closing = w.closing; error = w.error; reply = w.reply; made = w.made; end = w.end; replied = w.replied; called = called_quiet w.call x.held h (Polled at ∷ h) (quiet_polled at h) w.called.caused w.called; done = w.done; broken = broken_held_quiet x.held h (Polled at ∷ h) (quiet_polled at h) w.broken })
 

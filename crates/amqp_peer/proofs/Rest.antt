@@ -39,6 +39,7 @@ use Rattle.amqp_peer.specs.Said.{HasClose}
 use Rattle.amqp_peer.proofs.Answers.{ends_with_close, said_close, over_in}
 use Rattle.amqp_peer.proofs.Grows.{is_running, unheard_of}
 use Rattle.amqp_peer.proofs.Hears.{greeted_begins, mistaken_other}
+use Rattle.amqp_peer.proofs.Refusals.{refusal_waits_not, refusal_closes_not}
 use Rattle.amqp_peer.proofs.Written.{queued_running, read_running}
 
 -- ---- the phases in which a frame is awaited
@@ -161,7 +162,9 @@ rests_in {L} progress.Closing p h s x e r =
     let k = is_running x.call p.held s h e x.called in
     let l : IsLeaving s.phase = subst (λ (z : Held L). IsLeavingIn z) e x.leaves in
     rests x.call s h k r (λ w. absurd (cc (sym w.1 ∙ x.replied))) (λ w. said_at s.phase (sent_in h) r.awaits l k.runs.said)
-rests_in progress.Over p h s (inl x) e r = rests x.call s h (is_running x.call p.held s h e x.called) r (λ w. absurd (cc (sym w.1 ∙ x.replied))) (λ w. absurd (cc (sym w.2 ∙ x.replied)))
+rests_in progress.Over p h s (inl x) e r =
+    let k = is_running x.call p.held s h e x.called in
+    rests x.call s h k r (λ w. absurd (refusal_waits_not x.name x.error (replied_in h) x.replied w.0 w.1)) (λ w. absurd (refusal_closes_not x.name x.error (replied_in h) x.replied w.0 w.1 w.2))
 rests_in progress.Over p h s (inr x) e r =
     let k = is_running x.call p.held s h e x.called in
     elim x.replied [
@@ -189,7 +192,7 @@ open_waits_in progress.Idle p h x w = absurd (cc (sym w.1 ∙ x.replied))
 open_waits_in progress.Opening p h x w = tt
 open_waits_in progress.Open p h x w = absurd (cc (sym w.1 ∙ x.replied))
 open_waits_in progress.Closing p h x w = tt
-open_waits_in progress.Over p h (inl x) w = absurd (cc (sym w.1 ∙ x.replied))
+open_waits_in progress.Over p h (inl x) w = absurd (refusal_waits_not x.name x.error (replied_in h) x.replied w.0 w.1)
 open_waits_in progress.Over p h (inr x) w = elim x.replied [ inl z ↦ absurd (cc (sym w.1 ∙ z)) | inr z ↦ absurd (cc (sym w.1 ∙ z)) ]
 
 close_waits_in : {L : Type 0} (q : Progress) (p : Peering L) (h : List Local) → HasIn q p h → CloseWaits h → CallWaits q
@@ -197,7 +200,7 @@ close_waits_in progress.Idle p h x w = absurd (cc (sym w.2 ∙ x.replied))
 close_waits_in progress.Opening p h x w = tt
 close_waits_in progress.Open p h x w = absurd (cc (sym w.2 ∙ x.replied))
 close_waits_in progress.Closing p h x w = tt
-close_waits_in progress.Over p h (inl x) w = absurd (cc (sym w.2 ∙ x.replied))
+close_waits_in progress.Over p h (inl x) w = absurd (refusal_closes_not x.name x.error (replied_in h) x.replied w.0 w.1 w.2)
 close_waits_in progress.Over p h (inr x) w = elim x.replied [ inl z ↦ absurd (cc (sym w.2 ∙ z)) | inr z ↦ absurd (answered_not (replied_in h) w.0 w.1 x.name x.closing x.reply x.end w.2 z) ]
 
 pub waits_law : {L : Type 0} (p : Peering L) (h : List Local) → Has p h → HasWaiting h → CallWaits p.progress

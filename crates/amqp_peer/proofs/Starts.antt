@@ -21,6 +21,7 @@ use Rattle.amqp_engine.specs.Sentence.{Ran}
 use Rattle.amqp_engine.specs.State.{State, failing, closing, close_frame, close_phase}
 use Rattle.sasl_gate.specs.declared.gate.error.NegotiationError.{NegotiationError}
 use Rattle.sasl_gate.specs.declared.gate.error.NegotiationError.TheVariants as negotiation
+use Rattle.sasl_gate.specs.declared.scram.error.ScramErrorKind.TheVariants.{TextNotAllowed}
 use Rattle.amqp_opening.specs.declared.authentication.Authentication.{Authentication}
 use Rattle.amqp_opening.specs.declared.authentication.SaslCall.{SaslCall}
 use Rattle.amqp_opening.specs.declared.opening.Stage.TheVariants as stage
@@ -38,14 +39,14 @@ use Rattle.amqp_peer.specs.declared.held.Held.TheVariants.{Early, Late, Unopened
 use Rattle.amqp_peer.specs.declared.peer.Progress.{Progress}
 use Rattle.amqp_peer.specs.declared.peer.Progress.TheVariants as progress
 use Rattle.amqp_peer.specs.declared.prepared.Prepared.{Prepared}
-use Rattle.amqp_peer.specs.Causes.{closing as own_closing, TransportCause, MadeIn, is_layer, has_layer, IsOpenCause, not_allowed, OpenCauseIn, BeginsWithOpen, prepared_in}
+use Rattle.amqp_peer.specs.Causes.{closing as own_closing, TransportCause, MadeIn, AreAllowedTexts, is_layer, has_layer, IsOpenCause, not_allowed, OpenCauseIn, BeginsWithOpen, prepared_in}
 use Rattle.amqp_peer.specs.Gated.{IsTalk, IsGatedIn}
 use Rattle.amqp_peer.specs.Held.{IsReadyWith, IsMidway, IsBusyWith, IsExchangedWith, IsActive, IsStopped, link_at, EndedEarly}
 use Rattle.amqp_peer.specs.History.{Local, Made, Polled, Replied, made_in, link_in, given_in, replied_in, moment_in, read_in, wrote_in}
 use Rattle.amqp_peer.specs.Peering.{Peering, Has, HasIn, IsHeldAt, IsRunning, IsExchanging, IsUntouched, IsOpen, HasNothing, HasClosed, HasWritten, IsMadeIn, IsFaultIn, IsBrokenIn, link_of}
 use Rattle.amqp_peer.specs.Prepared.{prepared_of, sasl_of, error_for}
 use Rattle.amqp_peer.specs.Replies.{pending, open_failed, answered}
-use Rattle.amqp_peer.specs.Runs.{AdvancedFrom, IsToClose, RestedFrom, Rested, Stepped, IsAsked, IsAskedToClose, Refused, told, finished, close_reply, error_in, first_fault}
+use Rattle.amqp_peer.specs.Runs.{AdvancedFrom, IsToClose, RestedFrom, Rested, Stepped, IsAsked, IsToOpen, IsAskedToClose, Refused, told, finished, close_reply, error_in, first_fault}
 use Rattle.amqp_peer.proofs.Advances.{called_keeps, settled_left, concluded_left, flushed, went_late, finish_close, written_after}
 use Rattle.amqp_peer.proofs.Leaves.{called_leaves}
 use Rattle.amqp_peer.proofs.Faulty.{broken_large}
@@ -57,6 +58,7 @@ use Rattle.amqp_peer.proofs.Said.{IsDue}
 use Rattle.amqp_peer.proofs.Moved.{moved, passed, made_after, replied_after}
 use Rattle.amqp_peer.proofs.Written.{queued_nothing}
 use Rattle.amqp_peer.proofs.Layers.{layer_refused}
+use Rattle.amqp_peer.proofs.Refusals.{first_texts, closing_texts}
 
 -- ---- an open or accept
 
@@ -67,18 +69,18 @@ asked_early d (Late s) = d
 asked_early d (Unopened c) = d
 asked_early d Moving = d
 
-untouched_of : {L : Type 0} (call : Call) (old : Peering L) (o : Opened L Authentication) (p : Option Prepared) (h : List Local) → old.held ≡ Early o p → IsAsked call old h → IsUntouched o
+untouched_of : {L : Type 0} (call : Call) (old : Peering L) (o : Opened L Authentication) (p : Option Prepared) (h : List Local) → old.held ≡ Early o p → IsToOpen call old h → IsUntouched o
 untouched_of {L} call old o p h e a = subst (λ (x : Opened L Authentication). IsUntouched x) (sym (ap (asked_early o) (sym e ∙ a.holds))) a.untouched
 
 -- an exchange of headers has begun
-begins : {L : Type 0} (call : Call) (old : Peering L) (o : Opened L Authentication) (p : Prepared) (h : List Local) → IsAsked call old h → prepared_of call ≡ Some p → MadeIn (sasl_of call) o.has_sasl o.negotiation.exchange → IsMidway o.stage → IsHeldAt o.stage call o (Some p) h
+begins : {L : Type 0} (call : Call) (old : Peering L) (o : Opened L Authentication) (p : Prepared) (h : List Local) → IsToOpen call old h → prepared_of call ≡ Some p → MadeIn (sasl_of call) o.has_sasl o.negotiation.exchange → IsMidway o.stage → IsHeldAt o.stage call o (Some p) h
     → HasIn old.progress (record old { held = Early o (Some p) }) h
 begins {L} call old o p h a e m mid k =
     subst (λ (q : Progress). HasIn q (record old { held = Early o (Some p) }) h) (sym a.progress)
     (record { call = call; made = a.made; replied = a.replied; called = record { holds = k; caused = a.caused }; unmade = (a.fault, mid) })
 
 pub begins_with : {L : Type 0} (link : Ghosts L) (at n : ℕ) (call : Call) (old new : Peering L) (o : Opened L Authentication) (p0 : Option Prepared) (p : Prepared) (c : SaslCall) (x : Authentication) → old.held ≡ Early o p0 → prepared_of call ≡ Some p → sasl_of call ≡ Some c → MadeFor c x → holds_by x [] []
-    → Rested link at n (record old { held = Early (begun o x) (Some p) }) new → RestedFrom link at n (IsAsked call old) old new
+    → Rested link at n (record old { held = Early (begun o x) (Some p) }) new → RestedFrom link at n (IsToOpen call old) old new
 begins_with {L} link at n call old new o p0 p c x e prep sasl made held r =
     record {
       run = record {
@@ -100,7 +102,7 @@ begins_with {L} link at n call old new o p0 p c x e prep sasl made held r =
     }
 
 pub begins_plain : {L : Type 0} (link : Ghosts L) (at n : ℕ) (call : Call) (old new : Peering L) (o : Opened L Authentication) (p0 : Option Prepared) (p : Prepared) → old.held ≡ Early o p0 → prepared_of call ≡ Some p → sasl_of call ≡ None
-    → Rested link at n (record old { held = Early (begun_plain o) (Some p) }) new → RestedFrom link at n (IsAsked call old) old new
+    → Rested link at n (record old { held = Early (begun_plain o) (Some p) }) new → RestedFrom link at n (IsToOpen call old) old new
 begins_plain {L} link at n call old new o p0 p e prep sasl r =
     record {
       run = record {
@@ -137,16 +139,16 @@ ended_exchanged_not_at o (Some p) e = absurd (cc e)
 nothing_written : (call : Call) (c : SaslCall) (h : List Local) → sasl_of call ≡ Some c → link_in h ≡ [] → HasWritten call h
 nothing_written call c h e l = subst (λ (z : Option SaslCall). IsGatedIn z (wrote_in h) (read_in h)) (sym e) (gated_nothing IsTalk c (wrote_in h) (read_in h) (ap wrote_of l))
 
-refusal_cause : (c : SaslCall) (call : Call) (e : NegotiationError) (h : List Local) → sasl_of call ≡ Some c → IsCallRefusal c e → IsMemoryIn e None → IsOpenCause call e (link_in h)
-refusal_cause c call (negotiation.Memory a) h s r m = absurd (cc m)
-refusal_cause c call (negotiation.ProtocolHeaderMismatch x) h s r m = absurd r
-refusal_cause c call negotiation.NotImplemented h s r m = absurd r
-refusal_cause c call (negotiation.SaslError code d) h s r m = absurd r
-refusal_cause c call (negotiation.ScramError kind) h s r m = not_allowed c s r.1 (ap negotiation.ScramError r.0)
-refusal_cause c call (negotiation.Io kind) h s r m = absurd r
-refusal_cause c call negotiation.DecodeError h s r m = absurd r
-refusal_cause c call negotiation.IllegalState h s r m = absurd r
-refusal_cause c call negotiation.FramingError h s r m = absurd r
+refusal_is : (c : SaslCall) (e : NegotiationError) → IsCallRefusal c e → IsMemoryIn e None → e ≡ negotiation.ScramError TextNotAllowed
+refusal_is c (negotiation.Memory a) r m = absurd (cc m)
+refusal_is c (negotiation.ProtocolHeaderMismatch x) r m = absurd r
+refusal_is c negotiation.NotImplemented r m = absurd r
+refusal_is c (negotiation.SaslError code d) r m = absurd r
+refusal_is c (negotiation.ScramError kind) r m = ap negotiation.ScramError r.0
+refusal_is c (negotiation.Io kind) r m = absurd r
+refusal_is c negotiation.DecodeError r m = absurd r
+refusal_is c negotiation.IllegalState r m = absurd r
+refusal_is c negotiation.FramingError r m = absurd r
 
 refusal_texts : (c : SaslCall) (e : NegotiationError) → IsCallRefusal c e → IsMemoryIn e None → ¬ HasAllowedTexts c
 refusal_texts c (negotiation.Memory a) r m = absurd (cc m)
@@ -158,6 +160,9 @@ refusal_texts c (negotiation.Io kind) r m = absurd r
 refusal_texts c negotiation.DecodeError r m = absurd r
 refusal_texts c negotiation.IllegalState r m = absurd r
 refusal_texts c negotiation.FramingError r m = absurd r
+
+refusal_cause : (c : SaslCall) (asked : Call) (e : NegotiationError) (h : List Local) → sasl_of asked ≡ Some c → IsCallRefusal c e → IsMemoryIn e None → IsOpenCause asked e (link_in h)
+refusal_cause c asked e h s r m = not_allowed c s (refusal_texts c e r m) (refusal_is c e r m)
 
 pub begins_refused : {L : Type 0} (link : Ghosts L) (at n : ℕ) (call : Call) (old new : Peering L) (o : Opened L Authentication) (p0 : Option Prepared) (c : SaslCall) (e : NegotiationError) → old.held ≡ Early o p0 → sasl_of call ≡ Some c → IsCallRefusal c e → IsMemoryIn e None → Refused old e new
     → RestedFrom link at n (IsAsked call old) old new
@@ -178,7 +183,8 @@ begins_refused {L} link at n call old new o p0 c e l sasl r m f =
           name = old.name;
           error = failed.Negotiation e;
           made = a.made;
-          replied = ap (λ (u : List NamedReply). u ++ answer ∷ []) a.replied;
+          replied = inr (ap (λ (u : List NamedReply). u ++ answer ∷ []) a.replied, ap failed.Negotiation (refusal_is c e r m));
+          silent = λ t. a.link;
           called = record {
             holds = record { written = nothing_written call c h sasl a.link; exchange = layer_refused call c (Replied answer ∷ h) sasl (refusal_texts c e r m) a.link; queued = queued_nothing (Replied answer ∷ h) (ap has_layer a.made ∙ ap is_layer sasl) a.link a.sent; given = a.given; sent = a.sent };
             caused = (subst (λ (cs : List (ℕ × Call)). OpenCauseIn cs e (link_in h)) (sym a.made) (refusal_cause c call e h sasl r m), a.caused);
@@ -192,19 +198,58 @@ begins_refused {L} link at n call old new o p0 c e l sasl r m f =
       begun = λ z. ended_exchanged_not_at o p0 z;
     })
 
--- the call was made, and answered by pending
-abbrev pub asked : {L : Type 0} → Peering L → ℕ → Peering L
-asked old name = record old { name = name; progress = progress.Opening; replies = old.replies ++ pending name ∷ [] }
+-- it was asked, and pending is answered
+waits_to_open : {L : Type 0} (call : Call) (old : Peering L) (h : List Local) → AreAllowedTexts (sasl_of call) → IsAsked call old h → IsToOpen call (record old { replies = old.replies ++ pending old.name ∷ [] }) (Replied (pending old.name) ∷ h)
+waits_to_open call old h texts a =
+    record {
+      made = a.made;
+      replied = ap (λ (u : List NamedReply). u ++ pending old.name ∷ []) a.replied;
+      link = a.link;
+      given = a.given;
+      sent = a.sent;
+      caused = (first_texts call old.name h a.made texts, a.caused);
+      progress = a.progress;
+      fault = a.fault;
+      opening = a.opening;
+      prepared = a.prepared;
+      holds = a.holds;
+      untouched = a.untouched;
+    }
 
-is_asked : {L : Type 0} (old : Peering L) (name at : ℕ) (call : Call) (h : List Local) → HasNothing old h → IsAsked call (asked old name) (Replied (pending name) ∷ Made at name call ∷ h)
+pub asked_opens : {L : Type 0} (link : Ghosts L) (at n : ℕ) (call : Call) (old new : Peering L) → AreAllowedTexts (sasl_of call)
+    → RestedFrom link at n (IsToOpen call (record old { replies = old.replies ++ pending old.name ∷ [] })) (record old { replies = old.replies ++ pending old.name ∷ [] }) new → RestedFrom link at n (IsAsked call old) old new
+asked_opens {L} link at n call old new texts r =
+    let es = r.run.events in
+    let one = Replied (pending old.name) ∷ [] in
+    let links : link_in (es ++ one) ≡ link_in es = link_in-append es one ∙ append-nil (link_in es) in
+    record {
+      run = record {
+        events = es ++ one;
+        inside = inside-append es one r.run.inside tt;
+        went = λ d. subst (λ (u : List LinkEvent). Went link (link_of d old) u (link_of d new)) (sym links) (r.run.went d);
+        answers = r.run.answers ∙ append_assoc old.replies (pending old.name ∷ []) (replied_in es) ∙ ap (λ (u : List NamedReply). old.replies ++ u) (sym (replied_in-append es one));
+        few = let z = ap reads_in links in omega (arith, z, r.run.few);
+        kind = r.run.kind;
+        grows = λ h t a. subst (λ (u : List Local). Has new u) (sym (append_assoc es one h)) (r.run.grows (Replied (pending old.name) ∷ h) t (waits_to_open call old h texts a));
+      };
+      settled = λ a. settled_left new.held es one (r.settled a);
+      concluded = λ a. concluded_left new es one (r.concluded a);
+      begun = r.begun;
+    }
+
+-- an open or accept was called
+abbrev pub called_to_open : {L : Type 0} → Peering L → ℕ → Peering L
+called_to_open old name = record old { name = name; progress = progress.Opening }
+
+is_asked : {L : Type 0} (old : Peering L) (name at : ℕ) (call : Call) (h : List Local) → HasNothing old h → IsAsked call (called_to_open old name) (Made at name call ∷ h)
 is_asked old name at call h n =
     record {
       made = ap (λ (u : List (ℕ × Call)). (name, call) ∷ u) n.made;
-      replied = ap (λ (u : List NamedReply). u ++ pending name ∷ []) n.replied;
+      replied = n.replied;
       link = n.link;
       given = n.given;
       sent = n.sent;
-      caused = (tt, n.caused);
+      caused = n.caused;
       progress = refl;
       fault = n.fault;
       opening = n.opening;
@@ -213,23 +258,19 @@ is_asked old name at call h n =
       untouched = n.untouched;
     }
 
-pub started : {L : Type 0} (link : Ghosts L) (at name : ℕ) (call : Call) (old new : Peering L) → old.progress ≡ progress.Idle → RestedFrom link at (2 ^ 63) (IsAsked call (asked old name)) (asked old name) new → Stepped link old (Made at name call) new
-started {L} link at name call old new e r =
-    let es = r.run.events in
-    let one = Replied (pending name) ∷ [] in
-    let links : link_in (es ++ one) ≡ link_in es = link_in-append es one ∙ append-nil (link_in es) in
+pub started : {L : Type 0} (link : Ghosts L) (at name : ℕ) (call : Call) (old new : Peering L) → old.progress ≡ progress.Idle → RestedFrom link at (2 ^ 63) (IsAsked call (called_to_open old name)) (called_to_open old name) new → Stepped link old (Made at name call) new
+started link at name call old new e r =
     record {
-      events = es ++ one;
-      inside = inside-append es one r.run.inside tt;
-      went = λ d. subst (λ (u : List LinkEvent). Went link (link_of d old) u (link_of d new)) (sym links) (r.run.went d);
-      answers = r.run.answers ∙ append_assoc old.replies (pending name ∷ []) (replied_in es) ∙ ap (λ (u : List NamedReply). old.replies ++ u) (sym (replied_in-append es one));
-      few = let z = ap reads_in links in omega (arith, z, r.run.few);
+      events = r.run.events;
+      inside = r.run.inside;
+      went = r.run.went;
+      answers = r.run.answers;
+      few = r.run.few;
       kind = r.run.kind;
-      settled = λ a. settled_left new.held es one (r.settled a);
-      concluded = λ a. concluded_left new es one (r.concluded a);
+      settled = r.settled;
+      concluded = r.concluded;
       begun = λ b. r.begun;
-      grows = λ h x. subst (λ (u : List Local). Has new u) (sym (append_assoc es one (Made at name call ∷ h)))
-          (r.run.grows (Replied (pending name) ∷ Made at name call ∷ h) refl (is_asked old name at call h (subst (λ (q : Progress). HasIn q old h) e x)));
+      grows = λ h x. r.run.grows (Made at name call ∷ h) refl (is_asked old name at call h (subst (λ (q : Progress). HasIn q old h) e x));
     }
 
 -- ---- a close
@@ -340,7 +381,7 @@ waits_to_close {L} condition old h w =
       name = w.name;
       made = w.made;
       replied = ap (λ (u : List NamedReply). u ++ pending old.name ∷ []) w.replied;
-      called = called_keeps w.call old.held h (pending old.name) tt w.called;
+      called = called_keeps w.call old.held h (pending old.name) (closing_texts w.call (Close condition) w.name old.name old.held old.fault h w.made w.is_made w.called) w.called;
       is_made = made_quiet old.fault old.held h (Replied (pending old.name) ∷ h) (quiet_replied (pending old.name) h) w.is_made;
     }
 

@@ -1,5 +1,5 @@
 -- Steps of what an end holds, as steps of the end.
-use Rattle.std.proofs.Common.{◌≡◌, ◌≤◌, ◌^◌, ℕ, List, [], Bool, true, false, Option, Some, None, Result, Ok, Err, refl, sym, ap, ◌∙◌, subst, arith}
+use Rattle.std.proofs.Common.{◌≡◌, ◌≤◌, ◌^◌, ℕ, List, [], ◌∷◌, ◌++◌, Bool, true, false, Option, Some, None, Result, Ok, Err, refl, sym, ap, ◌∙◌, subst, arith}
 use Rattle.std.specs.Prelude.{OnOk}
 use Rattle.std.specs.declared.alloc.AllocError.{AllocError}
 use Rattle.amqp_composites.specs.declared.error.Error.{Error as AmqpError}
@@ -36,13 +36,15 @@ use Rattle.amqp_peer.specs.History.{Local, Made, Polled}
 use Rattle.amqp_peer.specs.Held.{FitsCall, IsEarly, IsLate, IsReadyWith, IsReady, IsExchangedWith, IsExchanged, IsActive, SteppedLate, ClosedLate, RanEarly, BeganWith, BeganPlain, bound, IsConnecting, Connected}
 use Rattle.amqp_peer.specs.Peering.{Peering, Has, HasIn, MayCall, MayCallIn, IsMadeIn}
 use Rattle.amqp_peer.specs.Prepared.{prepared_of, sasl_of, error_for}
+use Rattle.amqp_peer.specs.Replies.{pending}
 use Rattle.amqp_peer.specs.Runs.{Stepped, Advanced, AdvancedFrom, IsToClose, Worked, Rested, RestedFrom, IsAsked, IsAskedToClose, Refused, told, finished, concluded, greeted, close_reply, error_in, first_fault, open_error_of, without_memory, IsCloseNoted}
 use Rattle.amqp_peer.proofs.Advances.{worked_advances, pending_rests, stopped_rests, failed_advances, rested_more}
 use Rattle.amqp_peer.proofs.Leaves.{steps_leave, fails_sound}
 use Rattle.amqp_peer.proofs.Stays.{stays}
 use Rattle.amqp_peer.proofs.Parts.{pending_part, pending_awaits}
 use Rattle.amqp_peer.proofs.Openings.{early_rests, early_fails, early_exchanged, exchanged_ready, connected, connect_fails}
-use Rattle.amqp_peer.proofs.Starts.{close_queued, close_kept, close_fails, close_rests, close_worked_not, close_pending_not, close_fails_at_once, begins_with, begins_plain, begins_refused}
+use Rattle.amqp_peer.proofs.Starts.{close_queued, close_kept, close_fails, close_rests, close_worked_not, close_pending_not, close_fails_at_once, begins_with, begins_plain, begins_refused, asked_opens}
+use Rattle.amqp_peer.proofs.Refusals.{layer_texts, plain_texts}
 
 pub on_ok : {A E : Type 0} {P Q : Type 0} (r : Result A E) → (P → Q) → OnOk r P → OnOk r Q
 on_ok (Ok a) f p = f p
@@ -262,19 +264,31 @@ early_held (Late s) e = absurd e
 early_held (Unopened c) e = absurd e
 early_held Moving e = absurd e
 
-pub begin_with_step : {L : Type 0} (link : Ghosts L) (at n : ℕ) (call : Call) (old new : Peering L) (held : Held L) (p : Prepared) (c : SaslCall) (x : Authentication) → IsEarly old.held → BeganWith old.held x p held → prepared_of call ≡ Some p → sasl_of call ≡ Some c → MadeFor c x → holds_by x [] []
-    → Rested link at n (record old { held = held }) new → RestedFrom link at n (IsAsked call old) old new
-begin_with_step {L} link at n call old new held p c x e b prep sasl made holds r =
-    let k = early_held old.held e in
-    let is : held ≡ Early (begun k.o x) (Some p) = subst (λ (h : Held L). BeganWith h x p held) k.is b in
-    begins_with link at n call old new k.o k.p p c x k.is prep sasl made holds (subst (λ (h : Held L). Rested link at n (record old { held = h }) new) is r)
+-- an end whose call is answered by pending
+abbrev pub answered_pending : {L : Type 0} → Peering L → Peering L
+answered_pending p = record p { replies = p.replies ++ pending p.name ∷ [] }
 
-pub begin_plain_step : {L : Type 0} (link : Ghosts L) (at n : ℕ) (call : Call) (old new : Peering L) (held : Held L) (p : Prepared) → IsEarly old.held → BeganPlain old.held p held → prepared_of call ≡ Some p → sasl_of call ≡ None
-    → Rested link at n (record old { held = held }) new → RestedFrom link at n (IsAsked call old) old new
-begin_plain_step {L} link at n call old new held p e b prep sasl r =
+pub begin_with_step : {L : Type 0} (link : Ghosts L) (at n : ℕ) (call : Call) (old mid new : Peering L) (held : Held L) (p : Prepared) (c : SaslCall) (x : Authentication) → mid ≡ answered_pending old → IsEarly old.held → BeganWith mid.held x p held → prepared_of call ≡ Some p → sasl_of call ≡ Some c → MadeFor c x → holds_by x [] []
+    → Rested link at n (record mid { held = held }) new → RestedFrom link at n (IsAsked call old) old new
+begin_with_step {L} link at n call old mid new held p c x m e b prep sasl made holds r =
     let k = early_held old.held e in
-    let is : held ≡ Early (begun_plain k.o) (Some p) = subst (λ (h : Held L). BeganPlain h p held) k.is b in
-    begins_plain link at n call old new k.o k.p p k.is prep sasl (subst (λ (h : Held L). Rested link at n (record old { held = h }) new) is r)
+    let now : Peering L = answered_pending old in
+    let began : BeganWith old.held x p held = subst (λ (z : Peering L). BeganWith z.held x p held) m b in
+    let is : held ≡ Early (begun k.o x) (Some p) = subst (λ (h : Held L). BeganWith h x p held) k.is began in
+    let rests : Rested link at n (record now { held = held }) new = subst (λ (z : Peering L). Rested link at n (record z { held = held }) new) m r in
+    asked_opens link at n call old new (layer_texts call c x sasl made)
+    (begins_with link at n call now new k.o k.p p c x k.is prep sasl made holds (subst (λ (h : Held L). Rested link at n (record now { held = h }) new) is rests))
+
+pub begin_plain_step : {L : Type 0} (link : Ghosts L) (at n : ℕ) (call : Call) (old mid new : Peering L) (held : Held L) (p : Prepared) → mid ≡ answered_pending old → IsEarly old.held → BeganPlain mid.held p held → prepared_of call ≡ Some p → sasl_of call ≡ None
+    → Rested link at n (record mid { held = held }) new → RestedFrom link at n (IsAsked call old) old new
+begin_plain_step {L} link at n call old mid new held p m e b prep sasl r =
+    let k = early_held old.held e in
+    let now : Peering L = answered_pending old in
+    let began : BeganPlain old.held p held = subst (λ (z : Peering L). BeganPlain z.held p held) m b in
+    let is : held ≡ Early (begun_plain k.o) (Some p) = subst (λ (h : Held L). BeganPlain h p held) k.is began in
+    let rests : Rested link at n (record now { held = held }) new = subst (λ (z : Peering L). Rested link at n (record z { held = held }) new) m r in
+    asked_opens link at n call old new (plain_texts call sasl)
+    (begins_plain link at n call now new k.o k.p p k.is prep sasl (subst (λ (h : Held L). Rested link at n (record now { held = h }) new) is rests))
 
 pub begin_refused_step : {L : Type 0} (link : Ghosts L) (at n : ℕ) (call : Call) (old new : Peering L) (c : SaslCall) (e : NegotiationError) → IsEarly old.held → sasl_of call ≡ Some c → IsCallRefusal c e → IsMemoryIn e None → Refused old e new → RestedFrom link at n (IsAsked call old) old new
 begin_refused_step link at n call old new c e i sasl r m f = let k = early_held old.held i in begins_refused link at n call old new k.o k.p c e k.is sasl r m f

@@ -49,17 +49,28 @@ abbrev pub MadeIn : Option SaslCall → Bool → Authentication → Type 0
 MadeIn None layer x = layer ≡ false
 MadeIn (Some c) layer x = (layer ≡ true) × MadeFor c x
 
--- why an open or an accept failed in the exchange of headers: its user or password is outside the profile, or the exchange that it
--- began has ended by this error, with what it had taken and sent
+-- why an open or an accept failed in the exchange of headers: its user or password is outside the profile, and this error says so, or the
+-- exchange that it began has ended by another error, with what it had taken and sent
 pub data IsOpenCause (call : Call) (e : NegotiationError) (events : List LinkEvent) : Type 0 where
   not_allowed : (c : SaslCall) → sasl_of call ≡ Some c → ¬ HasAllowedTexts c → e ≡ ScramError TextNotAllowed → IsOpenCause call e events
-  in_opening : (layer : Bool) (x : Authentication) → MadeIn (sasl_of call) layer x → HasEnding peer_mechanism layer x e events → IsOpenCause call e events
+  in_opening : (layer : Bool) (x : Authentication) → MadeIn (sasl_of call) layer x → ¬ (e ≡ ScramError TextNotAllowed) → HasEnding peer_mechanism layer x e events → IsOpenCause call e events
 
 -- the same of the first of these calls
 abbrev pub OpenCauseIn : List (ℕ × Call) → NegotiationError → List LinkEvent → Type 0
 OpenCauseIn [] e events = ⊥
 OpenCauseIn (call ∷ []) e events = IsOpenCause call.1 e events
 OpenCauseIn (call ∷ earlier ∷ calls) e events = OpenCauseIn (earlier ∷ calls) e events
+
+-- user and password of the SASL layer, if there is one, are in the profile
+abbrev pub AreAllowedTexts : Option SaslCall → Type 0
+AreAllowedTexts None = ⊤
+AreAllowedTexts (Some c) = HasAllowedTexts c
+
+-- the same of the layer that the first of these calls asks for
+abbrev pub AreAllowedTextsIn : List (ℕ × Call) → Type 0
+AreAllowedTextsIn [] = ⊥
+AreAllowedTextsIn (call ∷ []) = AreAllowedTexts (sasl_of call.1)
+AreAllowedTextsIn (call ∷ earlier ∷ calls) = AreAllowedTextsIn (earlier ∷ calls)
 
 -- with what the first of these calls begins the connection
 abbrev pub prepared_in : List (ℕ × Call) → Option Prepared
@@ -292,7 +303,7 @@ ConnectionCause (connection.RemoteClosedWithError e) h = IsLeft (Some e) (given_
 
 -- a reply has its cause in what happened before it
 abbrev pub HasCause : List Local → Reply → Type 0
-HasCause h reply.Pending = ⊤
+HasCause h reply.Pending = AreAllowedTextsIn (made_in h)
 HasCause h reply.Connection = IsMade h
 HasCause h reply.Closed = IsParted h
 HasCause h (reply.OpenError (failed.Negotiation e)) = OpenCauseIn (made_in h) e (link_in h)

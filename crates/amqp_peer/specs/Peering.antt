@@ -33,7 +33,7 @@ use Rattle.amqp_peer.specs.History.{Local, made_in, link_in, given_in, sent_in, 
 use Rattle.amqp_peer.specs.Layers.{HasLayer}
 use Rattle.amqp_peer.specs.Prepared.{prepared_of, sasl_of}
 use Rattle.amqp_peer.specs.Said.{HasSaid}
-use Rattle.amqp_peer.specs.Replies.{pending, connection, open_failed, answered, IsCloseEnd}
+use Rattle.amqp_peer.specs.Replies.{pending, connection, texts_refused, answered, IsCloseEnd, IsOpenRefusal}
 
 -- an end: what holds its link, which side it is, how far its calls are, the name of the last, the first fault that was not told yet, the
 -- replies that were not taken out, and whether memory was wanting
@@ -245,13 +245,21 @@ pub record IsClosing {L : Type 0} (p : Peering L) (h : List Local) : Type 0 wher
   pub is_made : IsMadeIn p.fault p.held h
   pub leaves : IsLeavingIn p.held
 
--- the open or accept has failed
+-- the connection has not begun, and nothing was read or written
+abbrev pub IsSilent : {L : Type 0} → Held L → List Local → Type 0
+IsSilent (Early o p) h = link_in h ≡ []
+IsSilent (Late s) h = ⊥
+IsSilent (Unopened c) h = ⊥
+IsSilent Moving h = ⊥
+
+-- the open or accept has failed; where its user or password was refused, nothing else was done
 pub record HasFailedOpen {L : Type 0} (p : Peering L) (h : List Local) : Type 0 where
   pub call : Call
   pub name : ℕ
   pub error : OpenError
   pub made : made_in h ≡ (name, call) ∷ []
-  pub replied : replied_in h ≡ pending name ∷ open_failed name error ∷ []
+  pub replied : IsOpenRefusal name error (replied_in h)
+  pub silent : error ≡ texts_refused → IsSilent p.held h
   pub called : HasCalled call p.held h
   pub done : IsBusy p.held → ⊥
   pub broken : IsBrokenHeld p.held h

@@ -1,6 +1,9 @@
 -- Which replies calls may have.
 use Rattle.std.specs.Prelude.{◌≡◌, ◌⊎◌, ℕ, List, [], ◌∷◌}
+use Rattle.sasl_gate.specs.declared.gate.error.NegotiationError.TheVariants.{ScramError}
+use Rattle.sasl_gate.specs.declared.scram.error.ScramErrorKind.TheVariants.{TextNotAllowed}
 use Rattle.amqp_words.specs.declared.open_error.OpenError.{OpenError}
+use Rattle.amqp_words.specs.declared.open_error.OpenError.TheVariants as failed
 use Rattle.amqp_words.specs.declared.call.Call.{Call}
 use Rattle.amqp_words.specs.declared.reply.Reply.{Reply}
 use Rattle.amqp_words.specs.declared.reply.Reply.TheVariants as reply
@@ -26,9 +29,17 @@ IsCloseEnd reply.Closed = Unit {0}
 IsCloseEnd (reply.OpenError e) = ⊥
 IsCloseEnd (reply.ConnectionError e) = Unit {0}
 
--- an open or accept waits, is answered, or has failed
+-- the error for a user or a password outside the profile
+abbrev pub texts_refused : OpenError
+texts_refused = failed.Negotiation (ScramError TextNotAllowed)
+
+-- an open or accept has failed by this error: after it waited, or at once, and at once for its user or password alone
+abbrev pub IsOpenRefusal : ℕ → OpenError → List NamedReply → Type 0
+IsOpenRefusal n e replies = ((replies ≡ pending n ∷ open_failed n e ∷ []) × (¬ (e ≡ texts_refused))) ⊎ ((replies ≡ open_failed n e ∷ []) × (e ≡ texts_refused))
+
+-- an open or accept waits, is answered after it waited, or has failed
 abbrev pub AreOpening : ℕ → List NamedReply → Type 0
-AreOpening n replies = (replies ≡ pending n ∷ []) ⊎ ((replies ≡ pending n ∷ connection n ∷ []) ⊎ ((e : OpenError) × (replies ≡ pending n ∷ open_failed n e ∷ [])))
+AreOpening n replies = (replies ≡ pending n ∷ []) ⊎ ((replies ≡ pending n ∷ connection n ∷ []) ⊎ ((e : OpenError) × IsOpenRefusal n e replies))
 
 -- a close after it waits, is answered after it waited, or is answered at once
 abbrev pub AreClosing : ℕ → ℕ → List NamedReply → Type 0

@@ -89,8 +89,23 @@ pub record RestedFrom {L : Type 0} (link : Ghosts L) (at n : ℕ) (Before : List
 abbrev pub Rested : {L : Type 0} → Ghosts L → ℕ → ℕ → Peering L → Peering L → Type 0
 Rested link at n old new = RestedFrom link at n (Has old) old new
 
--- a call of it was made, answered by pending, and nothing else was done
+-- a call of it was made and not answered yet, and nothing else was done
 pub record IsAsked {L : Type 0} (call : Call) (p : Peering L) (h : List Local) : Type 0 where
+  pub made : made_in h ≡ (p.name, call) ∷ []
+  pub replied : replied_in h ≡ []
+  pub link : link_in h ≡ []
+  pub given : given_in h ≡ []
+  pub sent : sent_in h ≡ []
+  pub caused : AllCaused h
+  pub progress : p.progress ≡ progress.Opening
+  pub fault : p.fault ≡ None
+  pub opening : Opened L Authentication
+  pub prepared : Option Prepared
+  pub holds : p.held ≡ Early opening prepared
+  pub untouched : IsUntouched opening
+
+-- the same, answered by pending
+pub record IsToOpen {L : Type 0} (call : Call) (p : Peering L) (h : List Local) : Type 0 where
   pub made : made_in h ≡ (p.name, call) ∷ []
   pub replied : replied_in h ≡ pending p.name ∷ []
   pub link : link_in h ≡ []

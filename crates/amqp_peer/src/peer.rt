@@ -3,7 +3,9 @@ ghost use Rattle.std.specs.Prelude.{◌≡◌, ◌↔◌, ◌≤◌, ◌<◌, �
 ghost use Rattle.std.specs.Borrow.{Lends, sem};
 ghost use Rattle.amqp_peer.specs.contracts.peer.Peer.{the_row};
 ghost use Rattle.amqp_peer.specs.declared.peer.PeerError.TheVariants.{Memory};
+ghost use Rattle.amqp_opening.specs.Authentication.{MadeFor, holds_by};
 ghost use Rattle.amqp_opening.specs.Permission.{IsAllowedSaslCall};
+ghost use Rattle.amqp_opening.specs.declared.authentication.SaslCall.{SaslCall};
 ghost use Rattle.amqp_words.specs.declared.call.Call.{Call};
 ghost use Rattle.amqp_peer.specs.declared.peer.Progress.{Progress};
 ghost use Rattle.amqp_peer.specs.Calls.{IsAllowedLayer};
@@ -20,7 +22,7 @@ use crate::valid::is_first_call;
 use amqp_composites::error::Error as AmqpError;
 use amqp_engine::{EngineStep, Error as ConnectionError};
 use amqp_frames::ConnectionStopReason;
-use amqp_opening::authentication::{SaslCall, exchange_for};
+use amqp_opening::authentication::{Authentication, SaslCall, exchange_for};
 use amqp_opening::opening::{OpeningPoll, memory_in};
 use amqp_text::Symbol;
 use amqp_wire::link::Link;
@@ -404,7 +406,7 @@ impl<L: Link> Peer<L> {
         }
     }
 
-    // The call begins no exchange.
+    // The call begins no exchange: its one answer is this error.
     fn refuse(&mut self, error: NegotiationError) -> Result<(), AllocError>
         requires { IsEarly self.old.held }
         ensures ok { OnOk result (Refused self.old error self.new) }
@@ -414,7 +416,25 @@ impl<L: Link> Peer<L> {
         self.finish(Reply::OpenError(OpenError::Negotiation(error)))
     }
 
-    // An open or accept with a SASL layer begins.
+    // An open or accept with this exchange waits.
+    fn begin_made(
+        &mut self,
+        at: u64,
+        prepared: Prepared,
+        exchange: Authentication,
+    ) -> Result<(), AllocError>
+        requires { IsEarly self.old.held }
+        ensures ok { OnOk result ((call : Call) → (asked : SaslCall) → prepared_of call ≡ Some prepared → sasl_of call ≡ Some asked → MadeFor asked exchange → holds_by exchange [] [] → RestedFrom L.Link at (2 ^ 63) (IsAsked call self.old) self.old self.new) }
+        ensures alive { self.new.failed ≡ self.old.failed }
+    {
+        self.answer(Reply::Pending)?;
+        match self.held.begin(exchange, prepared) {
+            Ok(()) => self.open(at),
+            Err(error) => Err(error),
+        }
+    }
+
+    // An open or accept with a SASL layer begins; it is answered at once where it has no exchange.
     fn begin_with(&mut self, at: u64, prepared: Prepared, sasl: SaslCall) -> Result<(), AllocError>
         requires early { IsEarly self.old.held }
         requires allowed { IsAllowedSaslCall sasl }
@@ -422,10 +442,7 @@ impl<L: Link> Peer<L> {
         ensures alive { self.new.failed ≡ self.old.failed }
     {
         match exchange_for(self.alloc, sasl) {
-            Ok(exchange) => match self.held.begin(exchange, prepared) {
-                Ok(()) => self.open(at),
-                Err(error) => Err(error),
-            },
+            Ok(exchange) => self.begin_made(at, prepared, exchange),
             Err(error) => match memory_in(&error) {
                 Some(error) => Err(error),
                 None => self.refuse(error),
@@ -433,12 +450,13 @@ impl<L: Link> Peer<L> {
         }
     }
 
-    // An open or accept without a SASL layer begins.
+    // An open or accept without a SASL layer waits.
     fn begin_plain(&mut self, at: u64, prepared: Prepared) -> Result<(), AllocError>
         requires { IsEarly self.old.held }
         ensures ok { OnOk result ((call : Call) → prepared_of call ≡ Some prepared → sasl_of call ≡ None → RestedFrom L.Link at (2 ^ 63) (IsAsked call self.old) self.old self.new) }
         ensures alive { self.new.failed ≡ self.old.failed }
     {
+        self.answer(Reply::Pending)?;
         match self.held.begin_plain(prepared) {
             Ok(()) => self.open(at),
             Err(error) => Err(error),
@@ -478,7 +496,6 @@ impl<L: Link> Peer<L> {
     {
         self.name = name;
         self.progress = Progress::Opening;
-        self.answer(Reply::Pending)?;
         self.begin(at, prepared, sasl)
     }
 
