@@ -1,7 +1,8 @@
--- What a listener with one user has stored.
-use Rattle.std.proofs.Common.{◌≡◌, ◌≢◌, ℕ, Bool, true, false, List, Option, Some, None, if◌then◌else◌, refl, sym, ◌∙◌, bytes_eq}
+-- What a listener with one user has stored, and its password.
+use Rattle.std.proofs.Common.{◌≡◌, ◌≢◌, ℕ, Bool, true, false, List, Option, Some, None, if◌then◌else◌, refl, ap, sym, ◌∙◌, bytes_eq}
+use Rattle.std.proofs.lemmas.Option.{same_Some}
 use Rattle.std.proofs.lemmas.Slice.Eq.{bytes_eq-Decides}
-use Rattle.amqp_opening.specs.Authentication.{stored_for}
+use Rattle.amqp_opening.specs.Authentication.{passwords_for, stored_for}
 use Rattle.sasl_gate.specs.declared.scram.stored.StoredPassword.{StoredPassword}
 use Rattle.sasl_gate.specs.States.{Account}
 
@@ -26,3 +27,24 @@ missing account name keys is e same =
     let equal : bytes_eq account.user name ≡ true = (bytes_eq-Decides account.user name).1 (sym same) in
     let both : true ≡ false = sym equal ∙ other in
     cc
+
+-- ---- its password
+
+password_by : (b : Bool) (own password : List ℕ) → (if b then Some own else None) ≡ Some password → (b ≡ true) × (own ≡ password)
+password_by true own password e = (refl, same_Some own password e)
+password_by false own password e = absurd (cc e)
+
+has_by : (b : Bool) (own : List ℕ) → b ≡ true → (if b then Some own else None) ≡ Some own
+has_by true own e = refl
+has_by false own e = absurd (cc e)
+
+-- a password that is found is that of the account, whose user has this name
+pub found_password : (account : Account) (name password : List ℕ) → passwords_for account name ≡ Some password → (name ≡ account.user) × (password ≡ account.password)
+found_password account name password e =
+    let both = password_by (bytes_eq account.user name) account.password password e in
+    (sym ((bytes_eq-Decides account.user name).0 both.0), sym both.1)
+
+-- the account's own is found
+pub own_password : (account : Account) (name password : List ℕ) → name ≡ account.user → password ≡ account.password → passwords_for account name ≡ Some password
+own_password account name password user same =
+    has_by (bytes_eq account.user name) account.password ((bytes_eq-Decides account.user name).1 (sym user)) ∙ ap Some (sym same)

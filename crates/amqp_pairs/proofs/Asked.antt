@@ -4,7 +4,7 @@ use Rattle.amqp_composites.specs.declared.sasl_body.SaslBody.{SaslBody}
 use Rattle.amqp_composites.specs.declared.sasl_code.SaslCode.{SaslCode}
 use Rattle.amqp_composites.specs.declared.sasl_code.SaslCode.TheVariants as sasl
 use Rattle.sasl_gate.specs.declared.gate.exchange.Turn.TheVariants.{Pass}
-use Rattle.sasl_gate.specs.declared.gate.server.ServerStage.{ServerStage}
+use Rattle.sasl_gate.specs.declared.gate.scram_server.ServerStage.{ServerStage}
 use Rattle.sasl_gate.specs.declared.scram.stored.StoredPassword.{StoredPassword}
 use Rattle.sasl_gate.specs.Check.{ServerCheck}
 use Rattle.sasl_gate.specs.declared.scram.hash.ScramHash.{ScramHash}

@@ -1,5 +1,5 @@
 -- The parts of bodies, and of lists of them.
-use Rattle.std.proofs.Common.{◌≡◌, ◌⊎◌, inl, inr, ℕ, List, [], ◌∷◌, ◌++◌, Option, Some, None, refl, ap}
+use Rattle.std.proofs.Common.{◌≡◌, ◌⊎◌, inl, inr, ℕ, List, [], ◌∷◌, ◌++◌, Option, Some, None, refl, ap, sym, ◌∙◌, append-nil}
 use Rattle.amqp_composites.specs.declared.sasl_body.SaslBody.{SaslBody}
 use Rattle.amqp_composites.specs.declared.sasl_body.SaslBody.TheVariants.{Mechanisms, Init, Challenge, Response, Outcome}
 use Rattle.amqp_composites.specs.declared.sasl_code.SaslCode.{SaslCode}
@@ -81,6 +81,10 @@ told_not_none code other text e = let k : Some text ≡ None = ap payload_in e i
 
 -- ---- lists of bodies
 
+-- the third of these bodies is no challenge
+abbrev pub OneChallenge : List SaslBody → Type 0
+OneChallenge bodies = (a b : SaslBody) (text : List ℕ) (more : List SaslBody) → bodies ≡ a ∷ b ∷ challenge_body text ∷ more → ⊥
+
 -- where a body stands in a list
 pub in_none : (before more : List SaslBody) (body : SaslBody) → before ++ body ∷ more ≡ [] → ⊥
 in_none [] more body e = cc
@@ -112,3 +116,30 @@ last_once (a ∷ xs) (b ∷ ys) x y e =
     let first : a ≡ b = cc in
     let rest : xs ≡ ys = both.0 in
     (cc, both.1)
+
+-- the whole of a list of one, two or three bodies, by its last
+pub last_of_one : (before : List SaslBody) (body a : SaslBody) → before ++ body ∷ [] ≡ a ∷ [] → (before ≡ []) × (body ≡ a)
+last_of_one before body a e = last_once before [] body a e
+
+pub last_of_two : (before : List SaslBody) (body a b : SaslBody) → before ++ body ∷ [] ≡ a ∷ b ∷ [] → (before ≡ a ∷ []) × (body ≡ b)
+last_of_two before body a b e = last_once before (a ∷ []) body b e
+
+pub last_of_three : (before : List SaslBody) (body a b c : SaslBody) → before ++ body ∷ [] ≡ a ∷ b ∷ c ∷ [] → (before ≡ a ∷ b ∷ []) × (body ≡ c)
+last_of_three before body a b c e = last_once before (a ∷ b ∷ []) body c e
+
+-- ---- bodies in flight
+
+-- the last body in flight, where it was not taken
+pub last_in_flight : (given flight before : List SaslBody) (o : SaslBody) → ((front more : List SaslBody) → front ++ o ∷ more ≡ given → ⊥) → given ++ flight ≡ before ++ o ∷ []
+    → (front : List SaslBody) × (flight ≡ front ++ o ∷ [])
+last_in_flight [] flight before o none e = (before, e)
+last_in_flight (g ∷ gs) flight [] o none e =
+    let head : o ≡ g = cc in
+    absurd (none [] gs (ap (λ (u : SaslBody). u ∷ gs) head))
+last_in_flight (g ∷ gs) flight (b ∷ bs) o none e =
+    let tail : gs ++ flight ≡ bs ++ o ∷ [] = cc in
+    last_in_flight gs flight bs o (λ front more f. none (g ∷ front) more (ap (λ (u : List SaslBody). g ∷ u) f)) tail
+
+-- where nothing is in flight, all was taken
+pub none_in_flight : (given flight sent : List SaslBody) → given ++ flight ≡ sent → flight ≡ [] → given ≡ sent
+none_in_flight given flight sent e none = sym (append-nil given) ∙ ap (λ (u : List SaslBody). given ++ u) (sym none) ∙ e

@@ -20,7 +20,9 @@ use Rattle.amqp_pairs.proofs.Accounts.{missing}
 use Rattle.amqp_pairs.proofs.Answers.{IsAnswerTo, answer_to, client_answer, other_password}
 use Rattle.amqp_pairs.proofs.Asked.{Asked, IsAsked}
 use Rattle.amqp_pairs.proofs.Bodies.{text_in, payload_in, mechanism_in, in_none, in_some}
-use Rattle.amqp_pairs.proofs.ClientViews.{ClientSent, nothing, init, response, IsAnswered, client_view, client_sent}
+use Rattle.amqp_pairs.proofs.Challenges.{first_of_one, one_challenge}
+use Rattle.amqp_pairs.proofs.ClientViews.{ClientSent, ClientView, nothing, init, response, IsAnswered, client_view, client_sent}
+use Rattle.amqp_pairs.proofs.ListenerViews.{listener_view}
 use Rattle.amqp_pairs.proofs.Refusals.{first_refused}
 
 -- ---- what a client sent, as the listener is given it
@@ -79,8 +81,13 @@ sent_in_order x given sent before rest body (response list first final more s g 
 -- ---- the listener
 
 module _ (x : ClientEnd) (y : ServerEnd Account) (salt : List ℕ) (count : ℕ) (gc sc gl sl fc fl : List SaslBody) (j : AreJoined x y salt count gc sc gl sl fc fl) where
+  pub client_seen : ClientView x.stage x gc sc
+  client_seen =
+      client_view x.stage x gc sc
+      (first_of_one gc fc sl j.reads_listener (one_challenge y.hash y.stage (stored_for y.server.provider) y.server.nonce gl sl (listener_view y gl sl j.ends.listener))) j.ends.client
+
   pub sent_by_client : ClientSent x gc sc
-  sent_by_client = client_sent x.stage x gc sc (client_view x.stage x gc sc j.ends.client)
+  sent_by_client = client_sent x.stage x gc sc client_seen
 
   -- an init that was given, or will be
   pub init_given : (name : List ℕ) (first hostname : Option (List ℕ)) (rest : List SaslBody) → init_body name first hostname ∷ rest ≡ sc

@@ -1,5 +1,5 @@
 -- Why a client refuses the next body of the listener to which it is joined.
-use Rattle.std.proofs.Common.{◌≡◌, ◌≢◌, ℕ, true, false, List, [], ◌∷◌, ◌++◌, Option, Some, None, refl, ap, sym, ◌∙◌, subst, Contains}
+use Rattle.std.proofs.Common.{◌≡◌, ◌≢◌, inl, inr, ℕ, true, false, List, [], ◌∷◌, ◌++◌, Option, Some, None, refl, ap, sym, ◌∙◌, subst, Contains}
 use Rattle.std.proofs.lemmas.List.Elements.{Contains-push}
 use Rattle.amqp_composites.specs.declared.sasl_body.SaslBody.{SaslBody}
 use Rattle.amqp_composites.specs.declared.sasl_code.SaslCode.{SaslCode}
@@ -13,7 +13,7 @@ use Rattle.sasl_gate.specs.declared.scram.error.ScramErrorKind.TheVariants as sc
 use Rattle.sasl_gate.specs.declared.scram.stored.StoredPassword.{StoredPassword}
 use Rattle.sasl_gate.specs.declared.scram.hash.ScramHash.{ScramHash}
 use Rattle.sasl_gate.specs.Check.{ClientAnswers, ServerCheck}
-use Rattle.sasl_gate.specs.ClientGate.{ClientEnd, IsDisorder, IsScramCause, by_challenge, by_outcome, by_no_signature, client_causes, client_init, is_next}
+use Rattle.sasl_gate.specs.ClientGate.{ClientEnd, IsDisorder, IsScramCause, by_challenge, by_final, by_no_signature, client_causes, client_init, is_next}
 use Rattle.sasl_gate.specs.Hashes.{digest_of, block_of, output_of, mechanism_of}
 use Rattle.sasl_gate.specs.Refusals.{IsMemory, IsServerFirstRefusal, IsServerFinalRefusal}
 use Rattle.sasl_gate.specs.ScramBodies.{challenge_body, init_body, mechanisms_body, outcome_body, response_body}
@@ -23,21 +23,12 @@ use Rattle.amqp_pairs.specs.Errors.{IsCollided, IsTold, MayRefuse}
 use Rattle.amqp_pairs.specs.Joined.{AreJoined}
 use Rattle.amqp_pairs.proofs.Answers.{client_answer, other_signature, signature_told}
 use Rattle.amqp_pairs.proofs.Asked.{asked, told_check, IsChecked}
-use Rattle.amqp_pairs.proofs.Bodies.{challenge_not_outcome, code_in, last_once, list_not_challenge, list_not_outcome, names_in, payload_in, text_in, told_not_none}
+use Rattle.amqp_pairs.proofs.Bodies.{challenge_not_outcome, code_in, last_of_one, last_of_three, last_of_two, last_once, list_not_challenge, list_not_outcome, names_in, payload_in, text_in, told_not_none}
+use Rattle.amqp_pairs.proofs.Challenges.{one_challenge}
 use Rattle.amqp_pairs.proofs.Causes.{answer_of, refusal_cause, text_given}
 use Rattle.amqp_pairs.proofs.ListenerViews.{ListenerView, listener_view}
 use Rattle.amqp_pairs.proofs.Places.{IsSentChallenge, Place, at_challenge, at_list, at_outcome, at_refusal, challenged, place}
 use Rattle.amqp_pairs.proofs.Refusals.{server_first_taken}
-
--- the whole of a list of one, two or three bodies, by its last
-pub last_of_one : (before : List SaslBody) (body a : SaslBody) → before ++ body ∷ [] ≡ a ∷ [] → (before ≡ []) × (body ≡ a)
-last_of_one before body a e = last_once before [] body a e
-
-last_of_two : (before : List SaslBody) (body a b : SaslBody) → before ++ body ∷ [] ≡ a ∷ b ∷ [] → (before ≡ a ∷ []) × (body ≡ b)
-last_of_two before body a b e = last_once before (a ∷ []) body b e
-
-last_of_three : (before : List SaslBody) (body a b c : SaslBody) → before ++ body ∷ [] ≡ a ∷ b ∷ c ∷ [] → (before ≡ a ∷ b ∷ []) × (body ≡ c)
-last_of_three before body a b c e = last_once before (a ∷ b ∷ []) body c e
 
 own_listed : (hash : ScramHash) (names : List (List ℕ)) → names ≡ mechanism_of hash ∷ [] → Contains names (mechanism_of hash)
 own_listed hash names e = subst (λ (u : List (List ℕ)). Contains u (mechanism_of hash)) (sym e) (Contains-push [] (mechanism_of hash))
@@ -47,7 +38,8 @@ refusal_next : (front : List SaslBody) → is_next front (outcome_body sasl.Auth
 refusal_next [] = refl
 refusal_next (a ∷ []) = refl
 refusal_next (a ∷ b ∷ []) = refl
-refusal_next (a ∷ b ∷ c ∷ more) = refl
+refusal_next (a ∷ b ∷ c ∷ []) = refl
+refusal_next (a ∷ b ∷ c ∷ d ∷ more) = refl
 
 module _ (x : ClientEnd) (y : ServerEnd Account) (salt : List ℕ) (count : ℕ) (gc sc gl sl fc fl : List SaslBody) (j : AreJoined x y salt count gc sc gl sl fc fl) where
   abbrev stored : List ℕ → Option StoredPassword
@@ -155,9 +147,18 @@ module _ (x : ClientEnd) (y : ServerEnd Account) (salt : List ℕ) (count : ℕ)
         let why = other_signature y.hash y.server.provider x.client.user x.client.password x.client.nonce y.server.nonce salt count first final text first signature kind signature_is refl b refused in
         (why.0, record { passes = c.passes; user = sym mine.user_is; password = why.1 })
 
+    -- the third body is no challenge
+    late : (a b : SaslBody) (text : List ℕ) → front ++ body ∷ [] ≡ a ∷ b ∷ challenge_body text ∷ [] → ⊥
+    late a b text e =
+        let at = last_of_three front body a b (challenge_body text) e in
+        one_challenge y.hash y.stage stored y.server.nonce gl sl seen a b text more (sym (stream (a ∷ b ∷ []) (challenge_body text) at.0 at.1))
+
     scram_cause : (kind : ScramErrorKind) → IsScramCause x kind (front ++ body ∷ []) sc → (kind ≡ scram.Signature) × IsCollided x y
     scram_cause kind (by_challenge names text e m r) = absurd (taken (mechanisms_body names) text kind e m r)
-    scram_cause kind (by_outcome names first final signature text e s a r) = collided (mechanisms_body names) first final signature text kind e s a r
+    scram_cause kind (by_final names first final signature text last (inl is) e s a r) =
+        collided (mechanisms_body names) first final signature text kind (e ∙ ap (λ (u : SaslBody). mechanisms_body names ∷ challenge_body first ∷ u ∷ []) is) s a r
+    scram_cause kind (by_final names first final signature text last (inr is) e s a r) =
+        absurd (late (mechanisms_body names) (challenge_body first) text (e ∙ ap (λ (u : SaslBody). mechanisms_body names ∷ challenge_body first ∷ u ∷ []) is))
     scram_cause kind (by_no_signature names first e k) =
         absurd (signed_outcome (last_of_three front body (mechanisms_body names) (challenge_body first) (outcome_body sasl.Ok None) e).1 here)
 

@@ -1,20 +1,21 @@
--- How far a client is, by what it was given and what it sent.
-use Rattle.std.proofs.Common.{◌≡◌, ℕ, List, [], ◌∷◌, Some, refl}
+-- How far a client is that was given one challenge at most, by what it was given and what it sent.
+use Rattle.std.proofs.Common.{◌≡◌, ℕ, List, [], ◌∷◌, Some, refl, ap, ◌∙◌}
 use Rattle.amqp_composites.specs.declared.sasl_body.SaslBody.{SaslBody}
 use Rattle.amqp_composites.specs.declared.sasl_code.SaslCode.TheVariants as sasl
 use Rattle.base64.specs.Engines.{standard}
 use Rattle.base64.specs.GeneralPurpose.{encode_of}
-use Rattle.sasl_gate.specs.declared.gate.client.ClientStage.{ClientStage}
-use Rattle.sasl_gate.specs.declared.gate.client.ClientStage.TheVariants.{AwaitsMechanisms, OwesInit, AwaitsChallenge, OwesResponse, AwaitsOutcome, Passed}
+use Rattle.sasl_gate.specs.declared.gate.scram_client.ClientStage.{ClientStage}
+use Rattle.sasl_gate.specs.declared.gate.scram_client.ClientStage.TheVariants.{AwaitsMechanisms, OwesInit, AwaitsChallenge, OwesResponse, AwaitsOutcome, OwesEmptyResponse, AwaitsEnd, Passed}
 use Rattle.sasl_gate.specs.declared.gate.exchange.Turn.TheVariants.{Send, Receive, Pass}
 use Rattle.sasl_gate.specs.declared.scram.client.ClientPhase.{ClientPhase}
 use Rattle.sasl_gate.specs.declared.scram.client.ClientPhase.TheVariants.{Unanswered, Answered, Verified}
 use Rattle.sasl_gate.specs.Check.{ClientAnswers}
-use Rattle.sasl_gate.specs.ClientGate.{ClientEnd, HasAnswer, client_init, holds_in, turn_in}
+use Rattle.sasl_gate.specs.ClientGate.{ClientEnd, HasAnswer, HasPassed, IsFinal, in_challenge, in_outcome, client_init, holds_in, turn_in}
 use Rattle.sasl_gate.specs.Hashes.{digest_of, block_of, output_of}
 use Rattle.sasl_gate.specs.ScramBodies.{challenge_body, mechanisms_body, outcome_body, response_body}
 use Rattle.sasl_gate.specs.States.{ForAnswered}
 use Rattle.sasl_gate.specs.Texts.{IsServerFinal}
+use Rattle.amqp_pairs.proofs.Bodies.{OneChallenge}
 
 -- an answer to a server first
 pub record IsAnswered (x : ClientEnd) (first final : List ℕ) : Type 0 where
@@ -46,15 +47,25 @@ owed_in Unanswered text x given sent h = absurd h
 owed_in (Answered a) text x given sent h = owes_response h.1.names a.server_first refl h.1.given_is h.1.sent_is
 owed_in Verified text x given sent h = absurd h
 
-pub client_view : (stage : ClientStage) (x : ClientEnd) (given sent : List SaslBody) → holds_in stage x given sent → ClientView stage x given sent
-client_view AwaitsMechanisms x given sent h = awaits_mechanisms refl h.0 h.1
-client_view OwesInit x given sent h = owes_init h.names refl h.given_is h.sent_is
-client_view AwaitsChallenge x given sent h = awaits_challenge h.names refl h.given_is h.sent_is
-client_view (OwesResponse text) x given sent h = owed_in x.client.phase text x given sent h
-client_view AwaitsOutcome x given sent h = answered_in x.client.phase AwaitsOutcome x given sent refl h
-client_view Passed x given sent h =
-    passed h.names h.server_first h.client_final h.server_final refl h.given_is h.sent_is
+passed_in : (x : ClientEnd) (given sent : List SaslBody) → OneChallenge given → (h : HasPassed x given sent) → IsFinal h.server_final h.told h.replied → ClientView Passed x given sent
+passed_in x given sent one h (in_outcome told replied) =
+    passed h.names h.server_first h.client_final h.server_final refl
+    (h.given_is ∙ ap (λ (u : List SaslBody). mechanisms_body h.names ∷ challenge_body h.server_first ∷ u) told)
+    (h.sent_is ∙ ap (λ (u : List SaslBody). client_init x ∷ response_body h.client_final ∷ u) replied)
     (record { signature = h.check.signature; answers = h.check.answers }) h.check.server_final_is
+passed_in x given sent one h (in_challenge payload told replied) =
+    absurd (one (mechanisms_body h.names) (challenge_body h.server_first) h.server_final (outcome_body sasl.Ok payload ∷ [])
+    (h.given_is ∙ ap (λ (u : List SaslBody). mechanisms_body h.names ∷ challenge_body h.server_first ∷ u) told))
+
+pub client_view : (stage : ClientStage) (x : ClientEnd) (given sent : List SaslBody) → OneChallenge given → holds_in stage x given sent → ClientView stage x given sent
+client_view AwaitsMechanisms x given sent one h = awaits_mechanisms refl h.0 h.1
+client_view OwesInit x given sent one h = owes_init h.names refl h.given_is h.sent_is
+client_view AwaitsChallenge x given sent one h = awaits_challenge h.names refl h.given_is h.sent_is
+client_view (OwesResponse text) x given sent one h = owed_in x.client.phase text x given sent h
+client_view AwaitsOutcome x given sent one h = answered_in x.client.phase AwaitsOutcome x given sent refl h
+client_view OwesEmptyResponse x given sent one h = absurd (one (mechanisms_body h.names) (challenge_body h.server_first) h.server_final [] h.given_is)
+client_view AwaitsEnd x given sent one h = absurd (one (mechanisms_body h.names) (challenge_body h.server_first) h.server_final [] h.given_is)
+client_view Passed x given sent one h = passed_in x given sent one h h.final
 
 -- ---- what it sent, and what it was given before that
 

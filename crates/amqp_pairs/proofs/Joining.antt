@@ -1,11 +1,10 @@
--- Two ends are joined, and stay so.
+-- Two ends with SCRAM are joined, and stay so.
 use Rattle.std.proofs.Common.{◌≡◌, ℕ, List, [], ◌∷◌, ◌++◌, Option, Some, refl, ap, sym, ◌∙◌, subst, append_assoc}
 use Rattle.amqp_composites.specs.declared.sasl_body.SaslBody.{SaslBody}
 use Rattle.amqp_opening.specs.Authentication.{stored_for}
 use Rattle.base64.specs.GeneralPurpose.{IsBytes}
-use Rattle.sasl_gate.specs.declared.gate.client.SaslProfile.{SaslProfile}
 use Rattle.sasl_gate.specs.Check.{stored_of}
-use Rattle.sasl_gate.specs.ClientGate.{ClientEnd, ClientSame, client_begun, client_holds, hash_of, nonce_of, username_of}
+use Rattle.sasl_gate.specs.ClientGate.{ClientEnd, ClientSame, client_begun, client_holds}
 use Rattle.sasl_gate.specs.declared.scram.hash.ScramHash.{ScramHash}
 use Rattle.sasl_gate.specs.Hashes.{digest_of, block_of, output_of}
 use Rattle.sasl_gate.specs.Profile.{IsAllowedUser, IsAllowedCount, IsNonce}
@@ -13,13 +12,13 @@ use Rattle.sasl_gate.specs.ServerGate.{ServerEnd, ServerSame, server_begun, serv
 use Rattle.sasl_gate.specs.States.{Account}
 use Rattle.amqp_pairs.specs.Joined.{AreJoined}
 
-pub begun : (profile : SaslProfile) (hostname : Option (List ℕ)) (hash : ScramHash) (account : Account) (own salt : List ℕ) (count : ℕ) → hash ≡ hash_of profile
-    → IsAllowedUser (username_of profile) → IsNonce (nonce_of profile) → IsNonce own
+pub begun : (hash : ScramHash) (user password nonce : List ℕ) (hostname : Option (List ℕ)) (account : Account) (own salt : List ℕ) (count : ℕ)
+    → IsAllowedUser user → IsNonce nonce → IsNonce own
     → account.stored ≡ Some (stored_of (digest_of hash) (block_of hash) (output_of hash) account.password salt count) → IsBytes salt → IsAllowedCount count
-    → AreJoined (client_begun profile hostname) (server_begun hash account own) salt count [] [] [] [] [] []
-begun profile hostname hash account own salt count same u n o s b c = record {
+    → AreJoined (client_begun hash user password nonce hostname) (server_begun hash account own) salt count [] [] [] [] [] []
+begun hash user password nonce hostname account own salt count u n o s b c = record {
   ends = record {
-    same_hash = sym same;
+    same_hash = refl;
     user_is = u;
     nonce_is = n;
     own_is = o;
@@ -34,11 +33,11 @@ begun profile hostname hash account own salt count same u n o s b c = record {
 }
 
 -- a body that is sent is behind those in flight
-sent_behind : (given flight sent : List SaslBody) (body : SaslBody) → given ++ flight ≡ sent → given ++ (flight ++ body ∷ []) ≡ sent ++ body ∷ []
+pub sent_behind : (given flight sent : List SaslBody) (body : SaslBody) → given ++ flight ≡ sent → given ++ (flight ++ body ∷ []) ≡ sent ++ body ∷ []
 sent_behind given flight sent body e = sym (append_assoc given flight (body ∷ [])) ∙ ap (λ (u : List SaslBody). u ++ body ∷ []) e
 
 -- a body that is given is no more in flight
-given_next : (given flight sent : List SaslBody) (body : SaslBody) → given ++ body ∷ flight ≡ sent → (given ++ body ∷ []) ++ flight ≡ sent
+pub given_next : (given flight sent : List SaslBody) (body : SaslBody) → given ++ body ∷ flight ≡ sent → (given ++ body ∷ []) ++ flight ≡ sent
 given_next given flight sent body e = append_assoc given (body ∷ []) flight ∙ e
 
 module _ (x x' : ClientEnd) (y : ServerEnd Account) (salt : List ℕ) (count : ℕ) (gc sc gl sl fc fl : List SaslBody) (body : SaslBody) where

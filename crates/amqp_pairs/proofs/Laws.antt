@@ -1,30 +1,34 @@
--- The laws of two joined ends.
+-- The laws of two joined ends with SCRAM.
 use Rattle.std.proofs.Common.{◌≡◌, ◌≢◌, inl, inr, ℕ, List, [], ◌∷◌, ◌++◌, Option, None, ap, sym, ◌∙◌, subst, append_assoc, append-nil}
 use Rattle.amqp_composites.specs.declared.sasl_body.SaslBody.{SaslBody}
 use Rattle.amqp_composites.specs.declared.sasl_code.SaslCode.{SaslCode}
 use Rattle.amqp_composites.specs.declared.sasl_code.SaslCode.TheVariants as sasl
 use Rattle.amqp_opening.specs.Authentication.{stored_for}
+use Rattle.sasl_gate.specs.declared.gate.client.ClientExchange.TheVariants as client
+use Rattle.sasl_gate.specs.declared.gate.server.ServerExchange.TheVariants as server
 use Rattle.sasl_gate.specs.declared.gate.error.NegotiationError.{NegotiationError}
 use Rattle.sasl_gate.specs.declared.gate.error.NegotiationError.TheVariants.{Memory, ProtocolHeaderMismatch, NotImplemented, SaslError, ScramError, Io, DecodeError, IllegalState, FramingError}
 use Rattle.sasl_gate.specs.declared.gate.exchange.Turn.TheVariants.{Send, Receive, Refuse, Pass}
-use Rattle.sasl_gate.specs.declared.gate.server.ServerStage.{ServerStage}
-use Rattle.sasl_gate.specs.declared.gate.server.ServerStage.TheVariants.{OwesMechanisms, AwaitsInit, OwesChallenge, AwaitsResponse, OwesOutcome, Passed, OwesRefusal, Refused}
+use Rattle.sasl_gate.specs.declared.gate.scram_server.ServerStage.{ServerStage}
+use Rattle.sasl_gate.specs.declared.gate.scram_server.ServerStage.TheVariants.{OwesMechanisms, AwaitsInit, OwesChallenge, AwaitsResponse, OwesOutcome, Passed, OwesRefusal, Refused}
 use Rattle.sasl_gate.specs.declared.scram.hash.ScramHash.{ScramHash}
 use Rattle.sasl_gate.specs.declared.scram.stored.StoredPassword.{StoredPassword}
-use Rattle.sasl_gate.specs.ClientGate.{ClientEnd, client_causes, client_holds, client_turn}
+use Rattle.sasl_gate.specs.ClientGate.{ClientEnd, client_causes, client_turn}
 use Rattle.sasl_gate.specs.Exchange.{refused_with}
 use Rattle.sasl_gate.specs.ScramBodies.{outcome_body}
-use Rattle.sasl_gate.specs.ServerGate.{ServerEnd, IsRefusalCause, Waited, holds_in, server_holds, server_turn}
+use Rattle.sasl_gate.specs.ServerGate.{ServerEnd, IsRefusalCause, Waited, holds_in, server_turn}
 use Rattle.sasl_gate.specs.States.{Account, ServerState}
 use Rattle.sasl_gate.proofs.ServerGates.{awaited}
 use Rattle.amqp_pairs.specs.Errors.{MayRefuse}
 use Rattle.amqp_pairs.specs.Joined.{AreJoined, IsOtherAccount, IsRefusing, IsSameAccount}
 use Rattle.amqp_pairs.proofs.Asked.{Asked, asked, asking_asked}
-use Rattle.amqp_pairs.proofs.Causes.{refusal_cause}
-use Rattle.amqp_pairs.proofs.ClientCauses.{client_cause, last_of_one, seen}
-use Rattle.amqp_pairs.proofs.ClientViews.{ClientView, client_view}
-use Rattle.amqp_pairs.proofs.ListenerViews.{ListenerView, owes_mechanisms, awaits_init, owes_challenge, awaits_response, owes_outcome, passed, owes_refusal, refused, asking, listener_view}
-use Rattle.amqp_pairs.proofs.Rest.{both_pass, took_no_refusal}
+use Rattle.amqp_pairs.proofs.Bodies.{last_in_flight, last_of_one, none_in_flight}
+use Rattle.amqp_pairs.proofs.Causes.{client_seen, refusal_cause}
+use Rattle.amqp_pairs.proofs.ClientCauses.{client_cause, seen}
+use Rattle.amqp_pairs.proofs.ClientViews.{ClientView}
+use Rattle.amqp_pairs.proofs.ListenerViews.{ListenerView, owes_mechanisms, awaits_init, owes_challenge, awaits_response, owes_outcome, passed, owes_refusal, refused, asking}
+use Rattle.amqp_pairs.proofs.Rest.{took_no_refusal}
+use Rattle.amqp_pairs.proofs.Still.{both_still}
 
 -- no account is the same and another
 pub apart : (x : ClientEnd) (account : Account) → IsSameAccount x account → IsOtherAccount x account → ⊥
@@ -54,27 +58,12 @@ cause_in hash Passed s given sent r h = absurd r
 cause_in hash (OwesRefusal code) s given sent r h = (code, h.cause)
 cause_in hash (Refused code) s given sent r h = (code, h.cause)
 
--- the last body in flight, where it was not taken
-last_in_flight : (given flight before : List SaslBody) (o : SaslBody) → ((front more : List SaslBody) → front ++ o ∷ more ≡ given → ⊥) → given ++ flight ≡ before ++ o ∷ []
-    → (front : List SaslBody) × (flight ≡ front ++ o ∷ [])
-last_in_flight [] flight before o none e = (before, e)
-last_in_flight (g ∷ gs) flight [] o none e =
-    let head : o ≡ g = cc in
-    absurd (none [] gs (ap (λ (u : SaslBody). u ∷ gs) head))
-last_in_flight (g ∷ gs) flight (b ∷ bs) o none e =
-    let tail : gs ++ flight ≡ bs ++ o ∷ [] = cc in
-    last_in_flight gs flight bs o (λ front more f. none (g ∷ front) more (ap (λ (u : List SaslBody). g ∷ u) f)) tail
-
--- where nothing is in flight, all was taken
-pub none_in_flight : (given flight sent : List SaslBody) → given ++ flight ≡ sent → flight ≡ [] → given ≡ sent
-none_in_flight given flight sent e none = sym (append-nil given) ∙ ap (λ (u : List SaslBody). given ++ u) (sym none) ∙ e
-
 module _ (x : ClientEnd) (y : ServerEnd Account) (salt : List ℕ) (count : ℕ) (gc sc gl sl fc fl : List SaslBody) (j : AreJoined x y salt count gc sc gl sl fc fl) where
   abbrev stored : List ℕ → Option StoredPassword
   stored = stored_for y.server.provider
 
   abbrev far : ClientView x.stage x gc sc
-  far = client_view x.stage x gc sc j.ends.client
+  far = client_seen x y salt count gc sc gl sl fc fl j
 
   abbrev seen_now : ListenerView y.hash y.stage stored y.server.nonce gl sl
   seen_now = seen x y salt count gc sc gl sl fc fl j
@@ -158,17 +147,8 @@ module _ (x : ClientEnd) (y : ServerEnd Account) (salt : List ℕ) (count : ℕ)
       let same = last_of_one t.2 (outcome_body sasl.Auth None) body (sym t.3 ∙ next) in
       (gc, ap (λ (u : SaslBody). gc ++ u ∷ []) (sym same.1), auth_not_ok)
 
--- two ends of which each took all that the other sent, and neither sends
-pub both_still : (x : ClientEnd) (y : ServerEnd Account) (gc sc gl sl : List SaslBody) → client_holds x gc sc → server_holds stored_for y gl sl → gc ≡ sl → gl ≡ sc
-    → client_turn x ≢ Send → server_turn y ≢ Send → (client_turn x ≡ Pass) × (server_turn y ≡ Pass)
-both_still x y gc sc gl sl held held' heard told idle ready =
-    let w : ListenerView y.hash y.stage (stored_for y.server.provider) y.server.nonce sc gc =
-    subst (λ (u : List SaslBody). ListenerView y.hash y.stage (stored_for y.server.provider) y.server.nonce sc u) (sym heard)
-    (subst (λ (u : List SaslBody). ListenerView y.hash y.stage (stored_for y.server.provider) y.server.nonce u sl) told (listener_view y gl sl held')) in
-    both_pass y.hash x.stage x gc sc idle y.stage (stored_for y.server.provider) y.server.nonce (client_view x.stage x gc sc held) w ready
-
 -- nothing is in flight, and neither end sends
 pub at_rest : (x : ClientEnd) (y : ServerEnd Account) (salt : List ℕ) (count : ℕ) (gc sc gl sl fc fl : List SaslBody) → AreJoined x y salt count gc sc gl sl fc fl
     → fc ≡ [] → fl ≡ [] → client_turn x ≢ Send → server_turn y ≢ Send → (client_turn x ≡ Pass) × (server_turn y ≡ Pass)
 at_rest x y salt count gc sc gl sl fc fl j p q idle ready =
-    both_still x y gc sc gl sl j.ends.client j.ends.listener (none_in_flight gc fc sl j.reads_listener p) (none_in_flight gl fl sc j.reads_client q) idle ready
+    both_still (client.Scram x) (server.Scram y) gc sc gl sl j.ends.client j.ends.listener (none_in_flight gc fc sl j.reads_listener p) (none_in_flight gl fl sc j.reads_client q) idle ready

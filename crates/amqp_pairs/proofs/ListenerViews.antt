@@ -5,8 +5,8 @@ use Rattle.amqp_composites.specs.declared.sasl_code.SaslCode.{SaslCode}
 use Rattle.amqp_composites.specs.declared.sasl_code.SaslCode.TheVariants as sasl
 use Rattle.amqp_opening.specs.Authentication.{stored_for}
 use Rattle.sasl_gate.specs.declared.gate.exchange.Turn.TheVariants.{Send, Receive, Refuse, Pass}
-use Rattle.sasl_gate.specs.declared.gate.server.ServerStage.{ServerStage}
-use Rattle.sasl_gate.specs.declared.gate.server.ServerStage.TheVariants.{OwesMechanisms, AwaitsInit, OwesChallenge, AwaitsResponse, OwesOutcome, Passed, OwesRefusal, Refused}
+use Rattle.sasl_gate.specs.declared.gate.scram_server.ServerStage.{ServerStage}
+use Rattle.sasl_gate.specs.declared.gate.scram_server.ServerStage.TheVariants.{OwesMechanisms, AwaitsInit, OwesChallenge, AwaitsResponse, OwesOutcome, Passed, OwesRefusal, Refused}
 use Rattle.sasl_gate.specs.declared.scram.server.ServerPhase.{ServerPhase}
 use Rattle.sasl_gate.specs.declared.scram.server.ServerPhase.TheVariants.{Unasked, Challenged, Proved}
 use Rattle.sasl_gate.specs.declared.scram.stored.StoredPassword.{StoredPassword}

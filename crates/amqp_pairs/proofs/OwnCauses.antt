@@ -1,5 +1,5 @@
 -- A client that took its bodies has no cause to refuse one of them.
-use Rattle.std.proofs.Common.{◌≡◌, ◌⊎◌, inl, inr, ℕ, List, [], ◌∷◌, ◌++◌, length, Some, None, refl, ap, sym, ◌∙◌, subst, append_assoc}
+use Rattle.std.proofs.Common.{◌≡◌, ◌⊎◌, inl, inr, ℕ, List, [], ◌∷◌, ◌++◌, length, Some, refl, ap, sym, ◌∙◌, subst, append_assoc}
 use Rattle.amqp_composites.specs.declared.sasl_body.SaslBody.{SaslBody}
 use Rattle.amqp_composites.specs.declared.sasl_code.SaslCode.TheVariants as sasl
 use Rattle.base64.specs.Engines.{standard}
@@ -11,7 +11,7 @@ use Rattle.sasl_gate.specs.declared.gate.error.NegotiationError.TheVariants.{Mem
 use Rattle.sasl_gate.specs.declared.scram.error.ScramErrorKind.{ScramErrorKind}
 use Rattle.sasl_gate.specs.declared.scram.error.ScramErrorKind.TheVariants as scram
 use Rattle.sasl_gate.specs.Check.{ClientAnswers}
-use Rattle.sasl_gate.specs.ClientGate.{ClientEnd, IsScramCause, by_challenge, by_outcome, by_no_signature, client_causes}
+use Rattle.sasl_gate.specs.ClientGate.{ClientEnd, IsScramCause, by_challenge, by_final, by_no_signature, client_causes}
 use Rattle.sasl_gate.specs.Hashes.{digest_of, block_of, output_of}
 use Rattle.sasl_gate.specs.Keys.{server_key_of}
 use Rattle.sasl_gate.specs.Refusals.{IsServerFinalRefusal, IsServerFirstRefusal}
@@ -22,11 +22,13 @@ use Rattle.sasl_gate.specs.Texts.{IsServerFinal}
 use Rattle.amqp_pairs.specs.Errors.{IsTold, MayRefuse}
 use Rattle.amqp_pairs.specs.Joined.{AreJoined}
 use Rattle.amqp_pairs.proofs.Answers.{client_answer, salted, signed}
-use Rattle.amqp_pairs.proofs.Bodies.{in_none, text_in}
-use Rattle.amqp_pairs.proofs.Causes.{answer_of, text_given}
+use Rattle.amqp_pairs.proofs.Bodies.{OneChallenge, text_in}
+use Rattle.amqp_pairs.proofs.Challenges.{first_of_one, one_challenge}
+use Rattle.amqp_pairs.proofs.Causes.{answer_of, client_seen, text_given}
 use Rattle.amqp_pairs.proofs.ClientCauses.{client_cause, seen}
-use Rattle.amqp_pairs.proofs.ClientViews.{ClientView, awaits_mechanisms, owes_init, awaits_challenge, owes_response, awaits_outcome, passed, client_view, IsAnswered}
+use Rattle.amqp_pairs.proofs.ClientViews.{ClientView, awaits_mechanisms, owes_init, awaits_challenge, owes_response, awaits_outcome, passed, IsAnswered}
 use Rattle.amqp_pairs.proofs.Keys.{hmac_bytes, length-hmac}
+use Rattle.amqp_pairs.proofs.NoCauses.{no_cause_yet}
 use Rattle.amqp_pairs.proofs.Places.{IsSentChallenge, challenged}
 use Rattle.amqp_pairs.proofs.Refusals.{own_final_taken}
 use Rattle.amqp_pairs.proofs.Rest.{took_no_refusal}
@@ -40,27 +42,6 @@ three_one given a b c d e g = let both : a ∷ b ∷ c ∷ [] ≡ d ∷ [] = sym
 
 three_two : (given : List SaslBody) (a b c d f : SaslBody) → given ≡ a ∷ b ∷ c ∷ [] → given ≡ d ∷ f ∷ [] → ⊥
 three_two given a b c d f e g = let both : a ∷ b ∷ c ∷ [] ≡ d ∷ f ∷ [] = sym e ∙ g in cc
-
--- a client that was given nothing has no cause
-nothing_is : (given front : List SaslBody) (body : SaslBody) → given ≡ [] → given ≡ front ++ body ∷ [] → ⊥
-nothing_is given front body none is = in_none front [] body (sym is ∙ none)
-
-scram_not_yet : (x : ClientEnd) (kind : ScramErrorKind) (given sent : List SaslBody) → given ≡ [] → IsScramCause x kind given sent → ⊥
-scram_not_yet x kind given sent none (by_challenge names text is m r) = nothing_is given (mechanisms_body names ∷ []) (challenge_body text) none is
-scram_not_yet x kind given sent none (by_outcome names first final signature text is s a r) =
-    nothing_is given (mechanisms_body names ∷ challenge_body first ∷ []) (outcome_body sasl.Ok (Some text)) none is
-scram_not_yet x kind given sent none (by_no_signature names first is k) = nothing_is given (mechanisms_body names ∷ challenge_body first ∷ []) (outcome_body sasl.Ok None) none is
-
-pub no_cause_yet : (x : ClientEnd) (e : NegotiationError) (given sent : List SaslBody) → given ≡ [] → client_causes x e given sent → ⊥
-no_cause_yet x (Memory a) given sent none c = c
-no_cause_yet x (ProtocolHeaderMismatch h) given sent none c = c
-no_cause_yet x NotImplemented given sent none (names, is, not) = nothing_is given [] (mechanisms_body names) none is
-no_cause_yet x (SaslError code payload) given sent none (before, is, ne) = nothing_is given before (outcome_body code payload) none is
-no_cause_yet x (ScramError kind) given sent none c = scram_not_yet x kind given sent none c
-no_cause_yet x (Io kind) given sent none c = c
-no_cause_yet x DecodeError given sent none c = c
-no_cause_yet x IllegalState given sent none d = nothing_is given d.before d.body none d.given_is
-no_cause_yet x FramingError given sent none c = c
 
 -- a list has a last body, or none
 last_of : (given : List SaslBody) → (given ≡ []) ⊎ ((front : List SaslBody) × (body : SaslBody) × (given ≡ front ++ body ∷ []))
@@ -111,11 +92,17 @@ module _ (x : ClientEnd) (y : ServerEnd Account) (salt : List ℕ) (count : ℕ)
       (subst (λ (u : List ℕ). IsServerFinalRefusal (output_of x.hash) signature u kind) told_is r)
 
   seen_so_far : ClientView x.stage x gc sc
-  seen_so_far = client_view x.stage x gc sc j.ends.client
+  seen_so_far = client_seen x y salt count gc sc gl sl fc fl j
+
+  one_so_far : OneChallenge gc
+  one_so_far = first_of_one gc fc sl j.reads_listener (one_challenge y.hash y.stage (stored_for y.server.provider) y.server.nonce gl sl (seen x y salt count gc sc gl sl fc fl j))
 
   own_scram : (kind : ScramErrorKind) → IsScramCause x kind gc sc → kind ≡ scram.Signature → ⊥
   own_scram kind (by_challenge names text is m r) k = subst (λ (q : ScramErrorKind). IsServerFirstRefusal x.client.nonce text q) k r
-  own_scram kind (by_outcome names first final signature text is s a r) k = own_outcome (mechanisms_body names) first final signature text kind is a r seen_so_far
+  own_scram kind (by_final names first final signature text last (inl is) e s a r) k =
+      own_outcome (mechanisms_body names) first final signature text kind (e ∙ ap (λ (u : SaslBody). mechanisms_body names ∷ challenge_body first ∷ u ∷ []) is) a r seen_so_far
+  own_scram kind (by_final names first final signature text last (inr is) e s a r) k =
+      one_so_far (mechanisms_body names) (challenge_body first) text [] (e ∙ ap (λ (u : SaslBody). mechanisms_body names ∷ challenge_body first ∷ u ∷ []) is)
   own_scram kind (by_no_signature names first is s) k =
       took_no_refusal x.stage x gc sc (mechanisms_body names ∷ challenge_body first ∷ []) [] sasl.Ok seen_so_far (sym is)
 

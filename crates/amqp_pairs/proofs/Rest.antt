@@ -3,9 +3,9 @@ use Rattle.std.proofs.Common.{◌≡◌, ◌≢◌, inl, inr, ℕ, List, [], ◌
 use Rattle.amqp_composites.specs.declared.sasl_body.SaslBody.{SaslBody}
 use Rattle.amqp_composites.specs.declared.sasl_code.SaslCode.{SaslCode}
 use Rattle.amqp_composites.specs.declared.sasl_code.SaslCode.TheVariants as sasl
-use Rattle.sasl_gate.specs.declared.gate.client.ClientStage.{ClientStage}
+use Rattle.sasl_gate.specs.declared.gate.scram_client.ClientStage.{ClientStage}
 use Rattle.sasl_gate.specs.declared.gate.exchange.Turn.TheVariants.{Send, Pass}
-use Rattle.sasl_gate.specs.declared.gate.server.ServerStage.{ServerStage}
+use Rattle.sasl_gate.specs.declared.gate.scram_server.ServerStage.{ServerStage}
 use Rattle.sasl_gate.specs.declared.scram.stored.StoredPassword.{StoredPassword}
 use Rattle.sasl_gate.specs.ClientGate.{ClientEnd, client_init, turn_in as client_turn_in}
 use Rattle.sasl_gate.specs.declared.scram.hash.ScramHash.{ScramHash}
@@ -15,7 +15,7 @@ use Rattle.sasl_gate.specs.ServerGate.{own_mechanisms, turn_in}
 use Rattle.amqp_pairs.proofs.Bodies.{challenge_not_outcome, in_none, in_some, list_not_outcome, told_not_none}
 use Rattle.amqp_pairs.proofs.ClientViews.{ClientView, awaits_mechanisms, owes_init, awaits_challenge, owes_response, awaits_outcome, passed}
 use Rattle.amqp_pairs.proofs.ListenerViews as listener
-use Rattle.amqp_pairs.proofs.ListenerViews.{ListenerView, Asking}
+use Rattle.amqp_pairs.proofs.ListenerViews.{ListenerView}
 
 -- ---- a client took no outcome that refuses
 

@@ -3,8 +3,8 @@ use Rattle.std.specs.Prelude.{◌≡◌, ◌≢◌, ◌⊎◌, ℕ, List, ◌++�
 use Rattle.amqp_composites.specs.declared.sasl_body.SaslBody.{SaslBody}
 use Rattle.base64.specs.GeneralPurpose.{IsBytes}
 use Rattle.amqp_opening.specs.Authentication.{stored_for}
-use Rattle.sasl_gate.specs.declared.gate.server.ServerStage.{ServerStage}
-use Rattle.sasl_gate.specs.declared.gate.server.ServerStage.TheVariants as server_stage
+use Rattle.sasl_gate.specs.declared.gate.scram_server.ServerStage.{ServerStage}
+use Rattle.sasl_gate.specs.declared.gate.scram_server.ServerStage.TheVariants as server_stage
 use Rattle.sasl_gate.specs.Check.{stored_of}
 use Rattle.sasl_gate.specs.ClientGate.{ClientEnd, client_holds}
 use Rattle.sasl_gate.specs.Hashes.{digest_of, block_of, output_of}

@@ -1,4 +1,5 @@
 pub mod Joined
+pub mod InitEnds
 pub mod Errors
 pub mod Streams
 pub mod Failures

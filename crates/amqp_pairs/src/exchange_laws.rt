@@ -1,4 +1,4 @@
-//! Laws over the bodies of an exchange (RFC 5802, section 3; OASIS AMQP 1.0, part 5, section 5.3.2).
+//! Laws over the bodies of an exchange with SCRAM (RFC 5802, section 3; OASIS AMQP 1.0, part 5, section 5.3.2).
 ghost use Rattle.std.specs.Prelude.{◌≡◌, ◌≢◌, List, [], ◌∷◌, ◌++◌, None};
 ghost use Rattle.amqp_composites.specs.declared.sasl_body.SaslBody.{SaslBody};
 ghost use Rattle.amqp_composites.specs.declared.sasl_code.SaslCode.{SaslCode};

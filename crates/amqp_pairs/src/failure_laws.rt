@@ -1,4 +1,4 @@
-//! Laws over ends whose negotiation failed by its mechanism (RFC 5802, section 3; OASIS AMQP 1.0, part 5, section 5.3.2).
+//! Laws over ends with SCRAM whose negotiation failed by its mechanism (RFC 5802, section 3; OASIS AMQP 1.0, part 5, section 5.3.2).
 ghost use Rattle.std.specs.Prelude.{◌≡◌, ℕ, List};
 ghost use Rattle.amqp_composites.specs.declared.sasl_body.SaslBody.{SaslBody};
 ghost use Rattle.amqp_composites.specs.declared.sasl_code.SaslCode.TheVariants as sasl;

@@ -1,12 +1,11 @@
-//! Two ends are joined from the beginning, and stay so by each step of one of them.
+//! Two ends with SCRAM are joined from the beginning, and stay so by each step of one of them.
 ghost use Rattle.std.specs.Prelude.{◌≡◌, ℕ, List, [], ◌∷◌, ◌++◌, Option, Some};
 ghost use Rattle.amqp_composites.specs.declared.sasl_body.SaslBody.{SaslBody};
 ghost use Rattle.amqp_opening.specs.Authentication.{stored_for};
 ghost use Rattle.base64.specs.GeneralPurpose.{IsBytes};
-ghost use Rattle.sasl_gate.specs.declared.gate.client.SaslProfile.{SaslProfile};
 ghost use Rattle.sasl_gate.specs.declared.scram.hash.ScramHash.{ScramHash};
 ghost use Rattle.sasl_gate.specs.Check.{stored_of};
-ghost use Rattle.sasl_gate.specs.ClientGate.{ClientEnd, ClientSame, client_begun, client_holds, hash_of, nonce_of, username_of};
+ghost use Rattle.sasl_gate.specs.ClientGate.{ClientEnd, ClientSame, client_begun, client_holds};
 ghost use Rattle.sasl_gate.specs.Hashes.{digest_of, block_of, output_of};
 ghost use Rattle.sasl_gate.specs.Profile.{IsAllowedUser, IsAllowedCount, IsNonce};
 ghost use Rattle.sasl_gate.specs.ServerGate.{ServerEnd, ServerSame, server_begun, server_holds};
@@ -15,11 +14,11 @@ ghost use Rattle.amqp_pairs.specs.Joined.{AreJoined};
 
 /// Two ends of the same mechanism that have read and written nothing are joined.
 pub fn begun_ends_are_joined()
-    ensures { (profile : SaslProfile) (hostname : Option (List ℕ)) (hash : ScramHash) (account : Account) (own salt : List ℕ) (count : ℕ)
-        → hash ≡ hash_of profile → IsAllowedUser (username_of profile) → IsNonce (nonce_of profile) → IsNonce own
+    ensures { (hash : ScramHash) (user password nonce : List ℕ) (hostname : Option (List ℕ)) (account : Account) (own salt : List ℕ) (count : ℕ)
+        → IsAllowedUser user → IsNonce nonce → IsNonce own
         → account.stored ≡ Some (stored_of (digest_of hash) (block_of hash) (output_of hash) account.password salt count)
         → IsBytes salt → IsAllowedCount count
-        → AreJoined (client_begun profile hostname) (server_begun hash account own) salt count [] [] [] [] [] [] }
+        → AreJoined (client_begun hash user password nonce hostname) (server_begun hash account own) salt count [] [] [] [] [] [] }
 {}
 
 /// They stay joined where one sends a body, which is then in flight, or takes the next one.

@@ -1,4 +1,4 @@
-use Rattle.amqp_pairs.proofs.Mechanisms.{client_next, client_refuses, list, no_client_cause, no_listener_cause, nothing, restless}
+use Rattle.amqp_pairs.proofs.Unlike.{client_next, client_refuses, list, no_client_cause, no_listener_cause, nothing, restless}
 use Rattle.amqp_pairs.proofs.mechanism_laws.other_mechanisms_do_not_meet.Goals as goal
 
 pub returns : goal.returns
