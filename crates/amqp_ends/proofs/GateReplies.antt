@@ -20,7 +20,7 @@ use Rattle.amqp_ends.proofs.Hearing.{read_before}
 use Rattle.amqp_ends.proofs.Honesty.{calm_before}
 
 -- no call is made inside
-made_before : (inside before : List Local) → IsInside inside → made_in (inside ++ before) ≡ made_in before
+pub made_before : (inside before : List Local) → IsInside inside → made_in (inside ++ before) ≡ made_in before
 made_before [] before i = refl
 made_before (Made at name call ∷ inside) before i = absurd i
 made_before (Polled at ∷ inside) before i = absurd i
@@ -54,7 +54,7 @@ module _ (before far : List Local) (left : List ℕ) (heard : read_in far ++ lef
 
   -- at each moment inside, the other end has read nothing that was written later
   module _ (later inside : List Local) (i : IsInside inside) (f : Faces (later ++ (inside ++ before)) far) (opposite : AreOpposite (made_in before) (made_in far)) where
-    faces_at : Faces (inside ++ before) far
+    pub faces_at : Faces (inside ++ before) far
     faces_at = record {
       opposite = subst (λ (calls : List (ℕ × Call)). AreOpposite calls (made_in far)) (sym (made_before inside before i)) opposite;
       left = read_in later ++ f.left;

@@ -1,5 +1,5 @@
 -- What an end with a SASL layer reads of one without, and of one with such a layer.
-use Rattle.std.proofs.Common.{◌≡◌, ◌⊎◌, ◌≤◌, inl, inr, ℕ, List, [], ◌∷◌, ◌++◌, length, take, Bool, true, false, None, refl, sym, ap, ◌∙◌, subst, arith, append_assoc, append-nil, length-append, All, flat_map}
+use Rattle.std.proofs.Common.{◌≡◌, ◌⊎◌, ◌≤◌, inl, inr, ℕ, List, [], ◌∷◌, ◌++◌, length, take, Bool, true, false, None, refl, sym, ap, ◌∙◌, arith, append_assoc, append-nil, length-append, All}
 use Rattle.std.proofs.lemmas.List.{take-append-le}
 use Rattle.amqp_composites.specs.declared.sasl_body.SaslBody.{SaslBody}
 use Rattle.amqp_engine.specs.Sentence.{bytes_of_all}
@@ -8,11 +8,10 @@ use Rattle.amqp_wire.specs.declared.link.IoKind.TheVariants.{Fault, End}
 use Rattle.amqp_wire.specs.Events.{LinkEvent, HasFailed}
 use Rattle.sasl_gate.specs.declared.gate.error.NegotiationError.{NegotiationError}
 use Rattle.sasl_gate.specs.declared.gate.error.NegotiationError.TheVariants.{Memory, ProtocolHeaderMismatch, NotImplemented, SaslError, ScramError, Io, DecodeError, IllegalState, FramingError}
-use Rattle.sasl_gate.specs.Frames.{HasSaslFrame, Heard, said, sasl_frame, sasl_header}
+use Rattle.sasl_gate.specs.Frames.{HasSaslFrame, Heard, said, sasl_header}
 use Rattle.sasl_gate.specs.Negotiation.{LinkCause}
 use Rattle.amqp_opening.specs.Opening.{amqp_header}
 use Rattle.amqp_pairs.specs.Streams.{IsAfterSasl, IsSaid}
-use Rattle.amqp_pairs.proofs.Streams.{first_said}
 use Rattle.amqp_words.specs.declared.call.Call.{Call}
 use Rattle.amqp_peer.specs.Causes.{has_layer, is_layer, IsLayerWritten, IsTail, IsTied}
 use Rattle.amqp_peer.specs.History.{Local, made_in, read_in, wrote_in}
@@ -121,20 +120,6 @@ said_to read wrote left out after sent f a w e =
     record { frames = f; after_is = a; stream = sym (append_assoc read left out) ∙ ap (λ (u : List ℕ). u ++ out) e ∙ w }
 
 -- where all bodies were taken, the next eight bytes are the AMQP header
-too_many : (given : List SaslBody) (b : SaslBody) (others : List SaslBody) (few : ℕ) → length given ≡ few → length (given ++ b ∷ others) ≤ few → ⊥
-too_many given b others few n l = let a = length-append given (b ∷ others) in omega (arith, n, l, a)
-
-none_other : (given others : List SaslBody) (few : ℕ) → length given ≡ few → length (given ++ others) ≤ few → others ≡ []
-none_other given [] few n l = refl
-none_other given (b ∷ others) few n l = absurd (too_many given b others few n l)
-
-rest_front : (Passes : Type 0) (rest coming after more : List ℕ) → IsBehind Passes after more → rest ++ coming ≡ after → 8 ≤ length rest → take 8 rest ≡ amqp_header
+pub rest_front : (Passes : Type 0) (rest coming after more : List ℕ) → IsBehind Passes after more → rest ++ coming ≡ after → 8 ≤ length rest → take 8 rest ≡ amqp_header
 rest_front Passes rest coming after more (inl n) e l = absurd (none_read rest coming l (e ∙ n))
 rest_front Passes rest coming after more (inr (p, m)) e l = sym (take-append-le 8 rest coming l) ∙ ap (take 8) (e ∙ m)
-
-pub header_follows : (Passes : Type 0) (read rest coming after more : List ℕ) (given sent : List SaslBody) (few : ℕ) → IsSaid read coming after sent → IsBehind Passes after more → Heard read given rest
-    → length given ≡ few → length sent ≤ few → 8 ≤ length rest → take 8 rest ≡ amqp_header
-header_follows Passes read rest coming after more given sent few s b h n l long =
-    let r = first_said read rest coming after given sent (record { frames = s.frames; after_is = s.after_is; heard = h; stream = s.stream }) in
-    let none = none_other given r.others few n (subst (λ (u : List SaslBody). length u ≤ few) r.sent_is l) in
-    rest_front Passes rest coming after more b (r.left_is ∙ ap (λ (u : List SaslBody). flat_map sasl_frame u ++ after) none) long

@@ -17,8 +17,10 @@ use Rattle.amqp_engine.specs.declared.phase.BodyKind.{BodyKind}
 use Rattle.amqp_engine.specs.declared.phase.BodyKind.TheVariants as kind
 use Rattle.amqp_engine.specs.Heard.{IsGreeted, IsRejected, IsStray}
 use Rattle.amqp_engine.specs.Phases.{kind_of, IsInner}
+use Rattle.sasl_gate.specs.declared.gate.client.ClientExchange.TheVariants as client
 use Rattle.sasl_gate.specs.declared.gate.error.NegotiationError.{NegotiationError}
 use Rattle.sasl_gate.specs.declared.gate.error.NegotiationError.TheVariants as negotiation
+use Rattle.sasl_gate.specs.declared.gate.server.ServerExchange.TheVariants as server
 use Rattle.sasl_gate.specs.Negotiation.{LinkCause, at_link, at_header, at_frame, by_body, too_long}
 use Rattle.amqp_opening.specs.declared.authentication.Authentication.{Authentication}
 use Rattle.amqp_opening.specs.declared.authentication.Authentication.TheVariants.{Idle, Client, Listener}
@@ -141,8 +143,10 @@ by_body_not x k h c (in_negotiation (at_link l)) = link_not h k c l
 by_body_not x k h c (in_negotiation (at_header r)) = r
 by_body_not x k h c (in_negotiation (at_frame given rest heard f)) = f
 by_body_not Idle k h c (in_negotiation (by_body given sent rest heard f)) = f
-by_body_not (Client x) k h c (in_negotiation (by_body given sent rest heard f)) = f
-by_body_not (Listener x) k h c (in_negotiation (by_body given sent rest heard f)) = f
+by_body_not (Client (client.Scram x)) k h c (in_negotiation (by_body given sent rest heard f)) = f
+by_body_not (Client (client.Init x)) k h c (in_negotiation (by_body given sent rest heard f)) = f
+by_body_not (Listener (server.Scram x)) k h c (in_negotiation (by_body given sent rest heard f)) = f
+by_body_not (Listener (server.Init x)) k h c (in_negotiation (by_body given sent rest heard f)) = f
 by_body_not x k h c (in_negotiation (too_long y o l e)) = absurd (cc e)
 by_body_not x k h c (at_amqp_header given sent rest heard held turn l n e) = absurd (cc e)
 
@@ -153,7 +157,7 @@ opening_not false x k h c (at_plain_header l n e) = absurd (cc e)
 
 open_not : (call : Call) (k : IoKind) (h : List Local) → IsCalm (link_in h) → IsOpenCause call (negotiation.Io k) (link_in h) → ⊥
 open_not call k h c (not_allowed s is n e) = absurd (cc e)
-open_not call k h c (in_opening layer x made o) = opening_not layer x k h c o.cause
+open_not call k h c (in_opening layer x made n o) = opening_not layer x k h c o.cause
 
 call_not : (calls : List (ℕ × Call)) (k : IoKind) (h : List Local) → IsCalm (link_in h) → OpenCauseIn calls (negotiation.Io k) (link_in h) → ⊥
 call_not [] k h c o = o

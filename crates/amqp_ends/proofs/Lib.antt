@@ -15,7 +15,11 @@ pub mod Quiet
 pub mod Wants
 pub mod GateWords
 pub mod GateEnds
+pub mod GateSame
 pub mod GateClient
 pub mod GateListener
 pub mod GateFair
 pub mod GateReplies
+pub mod Agreed
+pub mod Passes
+pub mod Faced

@@ -128,7 +128,7 @@ waits_not (Some c) far h g r l x y q s = layered_not c far h g r l x y q s
 pub headers_do_not_wait : (h g : List Local) → IsQuiet h g → IsResting (layer_in (made_in h)) h → IsResting (layer_in (made_in g)) g ⊎ RestsBehind g → ⊥
 headers_do_not_wait h g q r s = waits_not (layer_in (made_in h)) (layer_in (made_in g)) h g r q.far_layer refl refl q s
 
-other_way : (calls far : List (ℕ × Call)) → AreOpposite calls far → AreOpposite far calls
+pub other_way : (calls far : List (ℕ × Call)) → AreOpposite calls far → AreOpposite far calls
 other_way calls far (inl o) = inr (o.1, o.0)
 other_way calls far (inr o) = inl (o.1, o.0)
 

@@ -5,19 +5,20 @@ use Rattle.amqp_composites.specs.declared.sasl_body.SaslBody.{SaslBody}
 use Rattle.amqp_opening.specs.declared.authentication.Authentication.{Authentication}
 use Rattle.amqp_opening.specs.declared.authentication.Authentication.TheVariants.{Idle, Client, Listener}
 use Rattle.amqp_opening.specs.declared.authentication.SaslCall.{SaslCall}
-use Rattle.amqp_opening.specs.Authentication.{stored_for, holds_by}
+use Rattle.amqp_opening.specs.Authentication.{passwords_for, stored_for, holds_by}
 use Rattle.sasl_gate.specs.Frames.{HasSaslFrame, sasl_header}
-use Rattle.sasl_gate.proofs.ClientGates.{client_few}
-use Rattle.sasl_gate.proofs.ServerGates.{server_few}
+use Rattle.sasl_gate.proofs.AnyClients.{any_client_few}
+use Rattle.sasl_gate.proofs.AnyServers.{any_server_few}
 use Rattle.amqp_peer.specs.History.{Local, made_in, wrote_in}
 use Rattle.amqp_peer.specs.Layers.{layer_in, HasExchange, HasLayer}
 use Rattle.amqp_ends.specs.Quiet.{HasFewFrames, IsFewOf, IsFew}
 
--- a mechanism sends three bodies at most
+-- a mechanism sends three bodies at most: a client with SCRAM its init, a response, and where it read the end of the exchange as a challenge
+-- an empty response (part 5, section 5.3.3)
 sends_few : (x : Authentication) (given sent : List SaslBody) → holds_by x given sent → length sent ≤ 3
 sends_few Idle given sent h = absurd h
-sends_few (Client x) given sent h = let n = client_few x given sent h in omega (arith, n)
-sends_few (Listener y) given sent h = server_few stored_for y given sent h
+sends_few (Client x) given sent h = any_client_few x given sent h
+sends_few (Listener y) given sent h = any_server_few passwords_for stored_for y given sent h
 
 few_exchanged : (c : SaslCall) (h : List Local) → HasExchange c h → HasFewFrames h
 few_exchanged c h k = record {

@@ -1,5 +1,5 @@
 -- Two ends with a SASL layer that have written all that they queued, where nothing is in flight.
-use Rattle.std.proofs.Common.{◌≡◌, ◌≢◌, ◌≤◌, inl, inr, ℕ, List, [], ◌∷◌, ◌++◌, length, Bool, true, Some, refl, sym, ap, ◌∙◌, subst, arith, append_assoc, append-nil, length-append, All, flat_map}
+use Rattle.std.proofs.Common.{◌≡◌, ◌≢◌, inl, inr, ℕ, List, [], ◌∷◌, ◌++◌, length, Bool, true, Some, refl, sym, ap, ◌∙◌, subst, arith, append_assoc, append-nil, length-append, All, flat_map}
 use Rattle.std.proofs.lemmas.List.Elements.{All-head, All-tail}
 use Rattle.amqp_composites.specs.declared.sasl_body.SaslBody.{SaslBody}
 use Rattle.amqp_wire.specs.declared.frame.Front.TheVariants.{Partial}
@@ -11,14 +11,14 @@ use Rattle.sasl_gate.specs.Negotiation.{IsHeard}
 use Rattle.amqp_opening.specs.declared.authentication.SaslCall.{SaslCall}
 use Rattle.amqp_opening.specs.Authentication.{turn_by}
 use Rattle.amqp_opening.specs.Opening.{amqp_header}
-use Rattle.amqp_pairs.specs.Streams.{IsAfterSasl, IsPart, IsRead}
-use Rattle.amqp_pairs.proofs.Streams.{all_said, first_said, no_frame_after, written}
+use Rattle.amqp_pairs.specs.Streams.{IsAfterSasl, IsPart, IsRead, IsSaid}
+use Rattle.amqp_pairs.proofs.Streams.{all_behind, all_said, first_said, no_frame_after, written}
 use Rattle.amqp_words.specs.declared.call.Call.{Call}
 use Rattle.amqp_peer.specs.Causes.{BeginsWithOpen, IsLayerWritten, has_layer, is_layer}
 use Rattle.amqp_peer.specs.History.{Local, made_in, sent_in, read_in, wrote_in}
 use Rattle.amqp_peer.specs.Layers.{layer_in, HasExchange}
 use Rattle.amqp_peer.specs.Rest.{IsAllOut, RestsBehind}
-use Rattle.amqp_ends.proofs.QuietEnds.{AreOpposed, both_pass, given_enough, given_some}
+use Rattle.amqp_ends.proofs.QuietEnds.{AreOpposed, both_pass, given_some, heard_all, opposed_ends}
 
 -- ---- where an end stands
 
@@ -61,24 +61,17 @@ reading c far h g k m rest all e f =
 
 -- ---- what was given is what was sent
 
-none_more : (given others : List SaslBody) → length (given ++ others) ≤ length given → others ≡ []
-none_more given [] n = refl
-none_more given (y ∷ ys) n = absurd (omega (arith, n, length-append given (y ∷ ys)))
+-- what one end reads of another that has written all
+saying : (c : SaslCall) (h : List Local) (k : HasExchange c h) (read : List ℕ) → k.out ≡ [] → read ≡ wrote_in h → IsSaid read [] k.after k.sent
+saying c h k read all e = record { frames = k.framed; after_is = after_of c h k; stream = append-nil read ∙ e ∙ wrote_all c h k all }
 
--- where as many were given as may be sent, these are all
-enough_said : (read rest after : List ℕ) (given sent : List SaslBody) → IsRead read rest [] after given sent → length sent ≤ length given → (given ≡ sent) × (rest ≡ after)
-enough_said read rest after given sent r n =
-    let f = first_said read rest [] after given sent r in
-    let none = none_more given f.others (subst (λ (u : List SaslBody). length u ≤ length given) f.sent_is n) in (
-      sym (append-nil given) ∙ ap (λ (u : List SaslBody). given ++ u) (sym none) ∙ sym f.sent_is,
-      sym (append-nil rest) ∙ f.left_is ∙ ap (λ (u : List SaslBody). flat_map sasl_frame u ++ after) none,
-    )
-
-all_given : (c far : SaslCall) (h g : List Local) (k : HasExchange c h) (p : Place c h k) (m : HasExchange far g) → AreOpposed c far → m.out ≡ [] → read_in h ≡ wrote_in g
+all_given : (c far : SaslCall) (h g : List Local) (k : HasExchange c h) (p : Place c h k) (m : HasExchange far g) → AreOpposed c far → k.out ≡ [] → m.out ≡ [] → read_in h ≡ wrote_in g → read_in g ≡ wrote_in h
     → (k.given ≡ m.sent) × (rest_at p ≡ m.after)
-all_given c far h g k (at_body rest t a f p) m o all e = all_said (read_in h) rest m.after k.given m.sent (reading c far h g k m rest all e f) p
-all_given c far h g k (behind_it rest more t a f) m o all e =
-    enough_said (read_in h) rest m.after k.given m.sent (reading c far h g k m rest all e f) (given_enough c far k.x m.x k.given k.sent m.given m.sent o k.made m.made t k.held m.held)
+all_given c far h g k (at_body rest t a f p) m o own all e e' = all_said (read_in h) rest m.after k.given m.sent (reading c far h g k m rest all e f) p
+all_given c far h g k (behind_it rest more t a f) m o own all e e' =
+    let r = heard_all k.x m.x k.given k.sent m.given m.sent (read_in h) rest [] m.after (read_in g) [] k.after (opposed_ends c far k.x m.x o k.made m.made) k.held m.held
+    (saying far g m (read_in h) all e) m.heard (saying c h k (read_in g) own e') f t in
+    (r.0, sym (append-nil rest) ∙ r.1)
 
 idle : (c : SaslCall) (h : List Local) (k : HasExchange c h) → Place c h k → turn_by k.x ≢ Send
 idle c h k (at_body rest t a f p) e = absurd (cc (sym t ∙ e))
@@ -94,9 +87,9 @@ pub have_passed : (c far : SaslCall) (h g : List Local) (k : HasExchange c h) (p
     → k.out ≡ [] → read_in h ≡ wrote_in g → read_in g ≡ wrote_in h → HavePassed c far h g k p n.exchange
 have_passed c far h g k p n o q all reads far_reads =
     let m = n.exchange in
-    let heard = all_given c far h g k p m o n.all reads in
-    let told = all_given far c g h m n.place k q all far_reads in
-    let both = both_pass c far k.x m.x k.given k.sent m.given m.sent o k.made m.made k.held m.held heard.0 told.0 (idle c h k p) (idle far g m n.place) in
+    let heard = all_given c far h g k p m o all n.all reads far_reads in
+    let told = all_given far c g h m n.place k q n.all all far_reads reads in
+    let both = both_pass k.x m.x k.given k.sent m.given m.sent (opposed_ends c far k.x m.x o k.made m.made) k.held m.held heard.0 told.0 (idle c h k p) (idle far g m n.place) in
     record { passes = both.0; far_passes = both.1; rest_is = heard.1 }
 
 -- ---- an end behind the headers
@@ -112,18 +105,14 @@ carries_said (y ∷ ys) more a = (
   carries_said ys more (All-tail HasSaslFrame y ys a),
 )
 
-heard_said : (bodies : List SaslBody) (more : List ℕ) → All HasSaslFrame bodies → Heard (said bodies ++ more) bodies more
+pub heard_said : (bodies : List SaslBody) (more : List ℕ) → All HasSaslFrame bodies → Heard (said bodies ++ more) bodies more
 heard_said bodies more a = record { tail = flat_map sasl_frame bodies ++ more; header = append_assoc sasl_header (flat_map sasl_frame bodies) more; frames = carries_said bodies more a }
 
 -- the AMQP header is no frame of the layer
-none_behind : (others : List SaslBody) (more tail : List ℕ) → All HasSaslFrame others → amqp_header ++ more ≡ flat_map sasl_frame others ++ tail → others ≡ []
+pub none_behind : (others : List SaslBody) (more tail : List ℕ) → All HasSaslFrame others → amqp_header ++ more ≡ flat_map sasl_frame others ++ tail → others ≡ []
 none_behind [] more tail a e = refl
 none_behind (y ∷ ys) more tail a e =
     absurd (no_frame_after (sasl_frame y) (flat_map sasl_frame ys ++ tail) (amqp_header ++ more) y (written y (All-head HasSaslFrame y ys a)) (more, inr refl) (sym (append_assoc (sasl_frame y) (flat_map sasl_frame ys) tail) ∙ sym e))
-
-all_behind : (first others : List SaslBody) → All HasSaslFrame (first ++ others) → All HasSaslFrame others
-all_behind [] others a = a
-all_behind (y ∷ ys) others a = all_behind ys others (All-tail HasSaslFrame y (ys ++ others) a)
 
 no_length : (xs : List ℕ) → length xs ≡ 0 → xs ≡ []
 no_length [] e = refl

@@ -19,7 +19,7 @@ use Rattle.amqp_peer.specs.declared.prepared.Prepared.{Prepared}
 use Rattle.amqp_peer.specs.Causes.{prepared_in, BeginsWithOpen, EndsWithClose, IsReadTo, HasCause, AllCaused}
 use Rattle.amqp_peer.specs.History.{Local, Made, Polled, AtLink, Exchanged, Got, Put, Replied, made_in, given_in, sent_in, replied_in, read_in}
 use Rattle.amqp_peer.specs.Layers.{layer_in, IsResting}
-use Rattle.amqp_peer.specs.Replies.{IsConnected, pending, open_failed, AreReplies}
+use Rattle.amqp_peer.specs.Replies.{IsConnected, IsOpenRefusal, pending, AreReplies}
 use Rattle.amqp_peer.specs.Rest.{OpenWaits, CloseWaits, HasWaiting, IsAllOut, RestsBehind}
 use Rattle.amqp_peer.specs.Said.{IsPlain, HasSaid, HasClose, CloseCause, called, answers, mistaken, rejected}
 use Rattle.amqp_ends.specs.Joined.{Meets}
@@ -61,7 +61,7 @@ unsent_connects (Replied r ∷ h) c s k = elim (connects_last (replied_in h) r k
 ]
 
 -- an end that called, sent nothing and waits for nothing was refused
-refused_by : (calls : List (ℕ × Call)) (replied : List NamedReply) → AreReplies calls replied → (IsConnected replied → ⊥) → ((n : ℕ) → replied ≡ pending n ∷ [] → ⊥) → (calls ≡ []) ⊎ ((n : ℕ) × (e : OpenError) × (replied ≡ pending n ∷ open_failed n e ∷ []))
+refused_by : (calls : List (ℕ × Call)) (replied : List NamedReply) → AreReplies calls replied → (IsConnected replied → ⊥) → ((n : ℕ) → replied ≡ pending n ∷ [] → ⊥) → (calls ≡ []) ⊎ ((n : ℕ) × (e : OpenError) × IsOpenRefusal n e replied)
 refused_by [] replied r n w = inl refl
 refused_by (first ∷ []) replied (inl e) n w = absurd (w first.0 e)
 refused_by (first ∷ []) replied (inr (inl e)) n w = absurd (n (subst IsConnected (sym e) (inr (inl refl))))
@@ -106,10 +106,10 @@ quiet h far left far_left a l f = record {
   kinds = a.kinds;
 }
 
-meets : (h far : List Local) (left far_left : List ℕ) → AreStill h far left far_left → Meets h far
+pub meets : (h far : List Local) (left far_left : List ℕ) → AreStill h far left far_left → Meets h far
 meets h far left far_left a = record { calm = a.calm; tied = a.tied; far_tied = a.far_tied; far_said = a.far_said; left = left; reads = a.reads }
 
-meets_back : (h far : List Local) (left far_left : List ℕ) → AreStill h far left far_left → Meets far h
+pub meets_back : (h far : List Local) (left far_left : List ℕ) → AreStill h far left far_left → Meets far h
 meets_back h far left far_left a = record { calm = a.far_calm; tied = a.far_tied; far_tied = a.tied; far_said = a.said; left = far_left; reads = a.far_reads }
 
 -- ---- the other end said a Close
@@ -273,13 +273,17 @@ parted_not h far left far_left a u c =
 was_called : (calls : List (ℕ × Call)) → 1 ≤ length calls → calls ≡ [] → ⊥
 was_called calls l e = omega (arith, l, ap length e)
 
-refused_called : (h : List Local) → IsAnswered h → 1 ≤ length (made_in h) → sent_in h ≡ [] → (HasWaiting h → ⊥) → HasRefused h
+-- it was refused before a frame of it was queued
+abbrev pub IsTurnedDown : List Local → Type 0
+IsTurnedDown h = (sent_in h ≡ []) × HasRefused h
+
+refused_called : (h : List Local) → IsAnswered h → 1 ≤ length (made_in h) → sent_in h ≡ [] → (HasWaiting h → ⊥) → IsTurnedDown h
 refused_called h a l s w = elim (refused_by (made_in h) (replied_in h) a.replies (unsent_connects h a.caused s) (λ n e. w (inl (n, e)))) [
   | inl n ↦ absurd (was_called (made_in h) l n)
-  | inr r ↦ r
+  | inr r ↦ (s, r)
 ]
 
-header_resting : (h far : List Local) (left far_left : List ℕ) → AreStill h far left far_left → IsResting (layer_in (made_in h)) h → left ≡ [] → sent_in h ≡ [] → 1 ≤ length (made_in far) → Stands far far_left → HasRefused far ⊎ HasFailed h far
+header_resting : (h far : List Local) (left far_left : List ℕ) → AreStill h far left far_left → IsResting (layer_in (made_in h)) h → left ≡ [] → sent_in h ≡ [] → 1 ≤ length (made_in far) → Stands far far_left → IsTurnedDown far ⊎ HasFailed h far
 header_resting h far left far_left a r l u n (uncalled m w) = absurd (was_called (made_in far) n m)
 header_resting h far left far_left a r l u n (in_headers v s f) = absurd (headers_do_not_wait h far (quiet h far left far_left a l f) r (inl s))
 header_resting h far left far_left a r l u n (behind s c f) = absurd (headers_do_not_wait h far (quiet h far left far_left a l f) r (inr s))
@@ -288,7 +292,7 @@ header_resting h far left far_left a r l u n (refused s w) = inl (refused_called
 header_resting h far left far_left a r l u n (broken b) = inr (other b)
 header_resting h far left far_left a r l u n (vast v) = inr (many (inr v))
 
-header_in : (h far : List Local) (left far_left : List ℕ) → AreStill h far left far_left → 1 ≤ length (made_in h) → 1 ≤ length (made_in far) → Stands h left → HasHeader h ⊎ ((HasRefused h ⊎ HasRefused far) ⊎ HasFailed h far)
+pub header_in : (h far : List Local) (left far_left : List ℕ) → AreStill h far left far_left → 1 ≤ length (made_in h) → 1 ≤ length (made_in far) → Stands h left → HasHeader h ⊎ ((IsTurnedDown h ⊎ IsTurnedDown far) ⊎ HasFailed h far)
 header_in h far left far_left a m n (uncalled e w) = absurd (was_called (made_in h) m e)
 header_in h far left far_left a m n (in_headers v r l) = elim (header_resting h far left far_left a r l (resting_unsent (layer_in (made_in h)) h r) n a.far_stands) [
   | inl e ↦ inr (inl (inr e))
@@ -300,9 +304,16 @@ header_in h far left far_left a m n (refused s w) = inr (inl (inl (refused_calle
 header_in h far left far_left a m n (broken b) = inr (inr (own b))
 header_in h far left far_left a m n (vast v) = inr (inr (many (inl v)))
 
+-- the same without what was queued
+header_or : (h far : List Local) → HasHeader h ⊎ ((IsTurnedDown h ⊎ IsTurnedDown far) ⊎ HasFailed h far) → HasHeader h ⊎ ((HasRefused h ⊎ HasRefused far) ⊎ HasFailed h far)
+header_or h far (inl k) = inl k
+header_or h far (inr (inl (inl r))) = inr (inl (inl r.1))
+header_or h far (inr (inl (inr r))) = inr (inl (inr r.1))
+header_or h far (inr (inr f)) = inr (inr f)
+
 pub wants : (h far : List Local) (left far_left : List ℕ) → AreStill h far left far_left → Wants h far
 wants h far left far_left a = record {
   opening = λ w. opening_in h far left far_left a w a.stands;
   closing = λ w. closing_in h far left far_left a w a.stands;
-  header = λ m n. header_in h far left far_left a m n a.stands;
+  header = λ m n. header_or h far (header_in h far left far_left a m n a.stands);
 }

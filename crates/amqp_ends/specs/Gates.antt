@@ -5,9 +5,8 @@ use Rattle.amqp_composites.specs.declared.sasl_code.SaslCode.TheVariants as sasl
 use Rattle.sasl_gate.specs.declared.gate.error.NegotiationError.{NegotiationError}
 use Rattle.sasl_gate.specs.declared.gate.error.NegotiationError.TheVariants.{Memory, ProtocolHeaderMismatch, NotImplemented, SaslError, ScramError, Io, DecodeError, IllegalState, FramingError}
 use Rattle.sasl_gate.specs.declared.gate.exchange.Turn.TheVariants.{Pass}
+use Rattle.sasl_gate.specs.declared.gate.server.ServerExchange.TheVariants as server
 use Rattle.sasl_gate.specs.declared.scram.error.ScramErrorKind.TheVariants.{Signature, TextNotAllowed}
-use Rattle.sasl_gate.specs.declared.scram.hash.ScramHash.{ScramHash}
-use Rattle.sasl_gate.specs.ClientGate.{hash_of, username_of, password_of}
 use Rattle.sasl_gate.specs.Negotiation.{IsOverlong}
 use Rattle.sasl_gate.specs.ServerGate.{ServerEnd, server_holds, server_turn}
 use Rattle.sasl_gate.specs.States.{Account}
@@ -15,7 +14,7 @@ use Rattle.amqp_opening.specs.declared.authentication.Authentication.{Authentica
 use Rattle.amqp_opening.specs.declared.authentication.Authentication.TheVariants.{Listener as ListenerExchange}
 use Rattle.amqp_opening.specs.declared.authentication.SaslCall.{SaslCall}
 use Rattle.amqp_opening.specs.declared.authentication.SaslCall.TheVariants as layer
-use Rattle.amqp_opening.specs.Authentication.{accept_hash, accept_username, accept_password, MadeFor, HasAllowedTexts, holds_by, owes_by, stored_for}
+use Rattle.amqp_opening.specs.Authentication.{account_of_call, mechanism_of_call, MadeFor, HasAllowedTexts, holds_by, owes_by, stored_for}
 use Rattle.amqp_opening.specs.Opening.{amqp_header}
 use Rattle.amqp_words.specs.declared.open_error.OpenError.TheVariants as failed
 use Rattle.amqp_words.specs.declared.reply.Reply.{Reply}
@@ -58,53 +57,69 @@ AsksAlone None there = ⊥
 AsksAlone (Some c) None = ⊤
 AsksAlone (Some c) (Some d) = ⊥
 
--- the hash function of the mechanism that a layer is asked for: there is one mechanism for each (RFC 5802, section 4)
-abbrev pub hash_in : SaslCall → ScramHash
-hash_in (layer.Client p hostname) = hash_of p
-hash_in (layer.Listener a) = accept_hash a
-
--- the user and the password that a layer is asked for
-abbrev pub user_in : SaslCall → List ℕ
-user_in (layer.Client p hostname) = username_of p
-user_in (layer.Listener a) = accept_username a
-
-abbrev pub password_in : SaslCall → List ℕ
-password_in (layer.Client p hostname) = password_of p
-password_in (layer.Listener a) = accept_password a
-
--- user or password differ
-abbrev pub AreOtherAccounts : SaslCall → SaslCall → Type 0
-AreOtherAccounts c d = (user_in c ≢ user_in d) ⊎ (password_in c ≢ password_in d)
-
--- the mechanisms differ
+-- the mechanisms are not the same (part 5, section 5.3.3.1)
 abbrev pub AreOtherMechanisms : SaslCall → SaslCall → Type 0
-AreOtherMechanisms c d = hash_in c ≢ hash_in d
+AreOtherMechanisms c d = mechanism_of_call c ≢ mechanism_of_call d
+
+-- user and password, where there are any, are not the same (RFC 4616, section 2; RFC 5802, section 5.1)
+abbrev pub AreOtherAccounts : SaslCall → SaslCall → Type 0
+AreOtherAccounts c d = account_of_call c ≢ account_of_call d
+
+-- the mechanism is the same, and user or password are not: so it is not ANONYMOUS, which has none (RFC 4505, section 2)
+abbrev pub DifferInAccount : SaslCall → SaslCall → Type 0
+DifferInAccount c d = (mechanism_of_call c ≡ mechanism_of_call d) × AreOtherAccounts c d
 
 -- the first is a client's, whose mechanism the listener does not have
 abbrev pub LacksMechanism : SaslCall → SaslCall → Type 0
 LacksMechanism (layer.Client p hostname) d = AreOtherMechanisms (layer.Client p hostname) d
 LacksMechanism (layer.Listener a) d = ⊥
 
--- A listener passes a client of the same mechanism with another password for its user: it took a proof that another key made (RFC 5802,
--- section 3), as only a collision of the hash lets it.
+-- A listener with SCRAM passes a client of the same mechanism and the same user with another password: it took a proof that another key
+-- made (RFC 5802, section 3), as only a collision of the hash lets it.
 pub record IsCollision (client listener : SaslCall) : Type 0 where
-  pub same_hash : hash_in client ≡ hash_in listener
-  pub same_user : user_in client ≡ user_in listener
-  pub other_password : password_in client ≢ password_in listener
+  pub same_mechanism : mechanism_of_call client ≡ mechanism_of_call listener
+  pub user : List ℕ
+  pub password : List ℕ
+  pub other : List ℕ
+  pub account : account_of_call client ≡ Some (user, password)
+  pub far_account : account_of_call listener ≡ Some (user, other)
+  pub other_password : password ≢ other
   pub y : ServerEnd Account
-  pub made : MadeFor listener (ListenerExchange y)
+  pub made : MadeFor listener (ListenerExchange (server.Scram y))
   pub given : List SaslBody
   pub sent : List SaslBody
   pub held : server_holds stored_for y given sent
   pub passes : server_turn y ≡ Pass
 
--- an exchange of this layer owes a body that has no frame of at most 512 bytes (part 5, section 5.3.1)
-pub record OwesOverlong (c : SaslCall) : Type 0 where
+-- ---- a body that has no frame
+
+-- An exchange of this layer that is joined to another: the bodies that the other was given are the first of those that this one sent, and
+-- of the bodies that the other sent, this one was given the first.
+pub record IsJoinedTo (d : SaslCall) (given sent : List SaslBody) : Type 0 where
+  pub y : Authentication
+  pub made : MadeFor d y
+  pub far_given : List SaslBody
+  pub far_sent : List SaslBody
+  pub held : holds_by y far_given far_sent
+  pub to_near : List SaslBody
+  pub reads : given ++ to_near ≡ far_sent
+  pub to_far : List SaslBody
+  pub far_reads : far_given ++ to_far ≡ sent
+
+-- the bodies that an exchange was given and sent, where its peer has this layer or none: it was given nothing, or what such a peer says
+abbrev pub MayHear : Option SaslCall → List SaslBody → List SaslBody → Type 0
+MayHear None given sent = given ≡ []
+MayHear (Some d) given sent = (given ≡ []) ⊎ IsJoinedTo d given sent
+
+-- an exchange of the first layer owes a peer with the second, or with none, a body that has no frame of at most 512 bytes (part 5,
+-- section 5.3.1)
+pub record OwesOverlong (c : SaslCall) (far : Option SaslCall) : Type 0 where
   pub x : Authentication
   pub made : MadeFor c x
   pub given : List SaslBody
   pub sent : List SaslBody
   pub held : holds_by x given sent
+  pub heard : MayHear far given sent
   pub body : SaslBody
   pub owed : owes_by x body
   pub long : IsOverlong body
@@ -114,19 +129,39 @@ pub record OwesOverlong (c : SaslCall) : Type 0 where
 -- By the layer of an end and that of the other: where one of them has a layer and the other has none, the end with the layer read the AMQP
 -- header in place of the SASL header, and the one without did not know the SASL header (part 2, section 2.2); where both have one, a client
 -- was offered another mechanism (part 5, section 5.3.3.1), or with the same mechanism the accounts are not the same (part 5, section
--- 5.3.3.6; RFC 5802, section 5); or the end's own user or password is outside the profile, or a body of its own is too long. Neither the
--- link nor what the other wrote is a cause.
+-- 5.3.3.6; RFC 4616, section 2; RFC 5802, section 5); or the end's own user or password is outside the profile, or a body of its own is too
+-- long. Neither the link nor what the other wrote is a cause.
 abbrev pub IsFairNegotiation : Option SaslCall → Option SaslCall → NegotiationError → Type 0
 IsFairNegotiation near far (Memory a) = ⊥
 IsFairNegotiation near far (ProtocolHeaderMismatch h) = (h ≡ amqp_header) × AsksAlone near far
 IsFairNegotiation near far NotImplemented = AsksAlone far near ⊎ BothAsk near far LacksMechanism
-IsFairNegotiation near far (SaslError code payload) = (code ≡ sasl.Auth) × (payload ≡ None) × BothAsk near far (λ c d. (hash_in c ≡ hash_in d) × AreOtherAccounts c d)
+IsFairNegotiation near far (SaslError code payload) = (code ≡ sasl.Auth) × (payload ≡ None) × BothAsk near far DifferInAccount
 IsFairNegotiation near far (ScramError kind) =
     ((kind ≡ TextNotAllowed) × Asks near (λ c. ¬ HasAllowedTexts c)) ⊎ ((kind ≡ Signature) × BothAsk near far IsCollision)
 IsFairNegotiation near far (Io kind) = ⊥
 IsFairNegotiation near far DecodeError = ⊥
 IsFairNegotiation near far IllegalState = ⊥
-IsFairNegotiation near far FramingError = Asks near OwesOverlong
+IsFairNegotiation near far FramingError = Asks near (λ c. OwesOverlong c far)
+
+-- ---- two layers that agree
+
+-- They are asked for with the same mechanism, and the same user and password, which are in the profile; and no exchange of one of them owes
+-- the other a body that has no frame of at most 512 bytes.
+pub record AreAlike (c d : SaslCall) : Type 0 where
+  pub same_mechanism : mechanism_of_call c ≡ mechanism_of_call d
+  pub same_account : account_of_call c ≡ account_of_call d
+  pub allowed : HasAllowedTexts c
+  pub within : OwesOverlong c (Some d) → ⊥
+  pub far_within : OwesOverlong d (Some c) → ⊥
+
+-- both ends have such a layer, or neither has one
+abbrev pub Agree : Option SaslCall → Option SaslCall → Type 0
+Agree None None = ⊤
+Agree None (Some d) = ⊥
+Agree (Some c) None = ⊥
+Agree (Some c) (Some d) = AreAlike c d
+
+-- ---- replies
 
 -- a reply that tells of a negotiation tells of such a failure
 abbrev pub IsFairReply : Option SaslCall → Option SaslCall → Reply → Type 0

@@ -4,3 +4,4 @@ pub mod Standing
 pub mod Quiet
 pub mod Wants
 pub mod Gates
+pub mod Passes

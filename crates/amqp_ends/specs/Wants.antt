@@ -7,7 +7,7 @@ use Rattle.amqp_words.specs.declared.open_error.OpenError.{OpenError}
 use Rattle.amqp_peer.specs.Causes.{has_layer, AllCaused, IsBroken, IsLayerWritten, IsTied}
 use Rattle.amqp_peer.specs.History.{Local, made_in, link_in, replied_in, read_in, wrote_in}
 use Rattle.amqp_peer.specs.Layers.{layer_in, HasLayer}
-use Rattle.amqp_peer.specs.Replies.{AreReplies, pending, open_failed}
+use Rattle.amqp_peer.specs.Replies.{AreReplies, IsOpenRefusal}
 use Rattle.amqp_peer.specs.Rest.{OpenWaits, CloseWaits}
 use Rattle.amqp_peer.specs.Said.{HasSaid}
 use Rattle.amqp_ends.specs.Joined.{IsCalm}
@@ -47,7 +47,7 @@ LastCloses calls = (name : ℕ) × (condition : Option (List ℕ)) × (earlier :
 
 -- an open or accept was refused
 abbrev pub HasRefused : List Local → Type 0
-HasRefused h = (name : ℕ) × (error : OpenError) × (replied_in h ≡ pending name ∷ open_failed name error ∷ [])
+HasRefused h = (name : ℕ) × (error : OpenError) × IsOpenRefusal name error (replied_in h)
 
 -- the transport of one of the ends failed, as for its idle time or an own frame that was too large, or a great many reads or frames came
 pub data HasFailed (h far : List Local) : Type 0 where

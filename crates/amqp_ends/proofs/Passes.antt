@@ -1,0 +1,235 @@
+-- Two ends whose layers agree pass both.
+use Rattle.std.proofs.Common.{◌≡◌, ◌⊎◌, ◌≤◌, inl, inr, ℕ, List, [], ◌∷◌, ◌++◌, length, Bool, true, Option, Some, None, refl, sym, ap, ◌∙◌, subst, arith, append_assoc, All, flat_map}
+use Rattle.amqp_composites.specs.declared.sasl_body.SaslBody.{SaslBody}
+use Rattle.amqp_wire.specs.Events.{LinkEvent}
+use Rattle.amqp_transport.specs.declared.transport.Error.{Error as TransportFault}
+use Rattle.amqp_transport.specs.declared.transport.Error.TheVariants as fault
+use Rattle.amqp_transport.specs.declared.frames.Frame.{Frame}
+use Rattle.sasl_gate.specs.declared.gate.error.NegotiationError.{NegotiationError}
+use Rattle.sasl_gate.specs.declared.gate.exchange.Turn.TheVariants.{Pass}
+use Rattle.sasl_gate.specs.Frames.{HasSaslFrame, said, sasl_frame}
+use Rattle.amqp_opening.specs.declared.authentication.SaslCall.{SaslCall}
+use Rattle.amqp_opening.specs.Authentication.{turn_by}
+use Rattle.amqp_opening.specs.Opening.{amqp_header}
+use Rattle.amqp_pairs.specs.Streams.{IsRead}
+use Rattle.amqp_pairs.proofs.Streams.{all_behind, first_said}
+use Rattle.amqp_words.specs.declared.call.Call.{Call}
+use Rattle.amqp_words.specs.declared.open_error.OpenError.{OpenError}
+use Rattle.amqp_words.specs.declared.open_error.OpenError.TheVariants as failed
+use Rattle.amqp_words.specs.declared.reply.Reply.TheVariants as reply
+use Rattle.amqp_words.specs.declared.reply.NamedReply.{NamedReply}
+use Rattle.amqp_peer.specs.Causes.{AllCaused, BeginsWithOpen, HasCause, IsBrokenBy, IsLayerWritten, OpenCauseIn, is_layer}
+use Rattle.amqp_peer.specs.History.{Local, Made, Polled, AtLink, Exchanged, Got, Put, Replied, made_in, link_in, sent_in, replied_in}
+use Rattle.amqp_peer.specs.Layers.{layer_in, HasExchange, HasLayer}
+use Rattle.amqp_peer.specs.Replies.{pending, open_failed}
+use Rattle.amqp_peer.proofs.Histories.{made_in-append, sent_in-append}
+use Rattle.amqp_ends.specs.Gates.{Agree}
+use Rattle.amqp_ends.specs.Honest.{AllHonest, IsHonest, IsHonestFault}
+use Rattle.amqp_ends.specs.Joined.{IsCalm}
+use Rattle.amqp_ends.specs.Passes.{AreAgreed, FacedOnce, FacedWhenTold, AllFit, HasPassed, IsThrough}
+use Rattle.amqp_ends.specs.Wants.{AreStill, HasFailed, HasHeader, own, other, many}
+use Rattle.amqp_ends.proofs.Agreed.{agreed_not, agreed_turned}
+use Rattle.amqp_ends.proofs.GateFair.{negotiation_fair, silence_fair}
+use Rattle.amqp_ends.proofs.Honesty.{calm_before, honest_replies}
+use Rattle.amqp_ends.proofs.Quiet.{other_way}
+use Rattle.amqp_ends.proofs.QuietLayers.{asked_layer, heard_said, none_behind}
+use Rattle.amqp_ends.proofs.Sizes.{never_refused}
+use Rattle.amqp_ends.proofs.Wants.{IsTurnedDown, header_in, meets, meets_back}
+
+-- ---- the layer is that of the first call
+
+layer_later : (calls more : List (ℕ × Call)) → 1 ≤ length calls → layer_in (more ++ calls) ≡ layer_in calls
+layer_later calls [] l = refl
+layer_later [] (m ∷ more) l = absurd (omega (arith, l))
+layer_later (c ∷ calls) (m ∷ []) l = refl
+layer_later (c ∷ calls) (m ∷ n ∷ more) l = layer_later (c ∷ calls) (n ∷ more) l
+
+layer_then : (h later before : List Local) → h ≡ later ++ before → 1 ≤ length (made_in before) → layer_in (made_in h) ≡ layer_in (made_in before)
+layer_then h later before split l = ap (λ (u : List Local). layer_in (made_in u)) split ∙ ap layer_in (made_in-append later before) ∙ layer_later (made_in before) (made_in later) l
+
+caused_called : (calls : List (ℕ × Call)) (e : NegotiationError) (events : List LinkEvent) → OpenCauseIn calls e events → 1 ≤ length calls
+caused_called [] e events c = absurd c
+caused_called (call ∷ calls) e events c = omega arith
+
+-- ---- the last reply, when it was made
+
+record LastReply (h : List Local) (r : NamedReply) : Type 0 where
+  pub later : List Local
+  pub before : List Local
+  pub split : h ≡ later ++ Replied r ∷ before
+  pub caused : HasCause before r.reply
+
+none_last : (rs : List NamedReply) (r : NamedReply) → [] ≡ rs ++ r ∷ [] → ⊥
+none_last [] r e = absurd (cc e)
+none_last (q ∷ rs) r e = absurd (cc e)
+
+last_same : (xs ys : List NamedReply) (a b : NamedReply) → xs ++ a ∷ [] ≡ ys ++ b ∷ [] → a ≡ b
+last_same [] [] a b e = cc e
+last_same [] (y ∷ ys) a b e = absurd (none_last ys b (cc e))
+last_same (x ∷ xs) [] a b e = absurd (none_last xs a (cc (sym e)))
+last_same (x ∷ xs) (y ∷ ys) a b e = last_same xs ys a b (cc e)
+
+then_reply : (x : Local) (h : List Local) (r : NamedReply) → LastReply h r → LastReply (x ∷ h) r
+then_reply x h r l = record { later = x ∷ l.later; before = l.before; split = ap (λ (u : List Local). x ∷ u) l.split; caused = l.caused }
+
+last_reply : (h : List Local) (rs : List NamedReply) (r : NamedReply) → AllCaused h → replied_in h ≡ rs ++ r ∷ [] → LastReply h r
+last_reply [] rs r c e = absurd (none_last rs r e)
+last_reply (Made at name call ∷ h) rs r c e = then_reply (Made at name call) h r (last_reply h rs r c e)
+last_reply (Polled at ∷ h) rs r c e = then_reply (Polled at) h r (last_reply h rs r c e)
+last_reply (AtLink x ∷ h) rs r c e = then_reply (AtLink x) h r (last_reply h rs r c e)
+last_reply (Exchanged ∷ h) rs r c e = then_reply Exchanged h r (last_reply h rs r c e)
+last_reply (Got x ∷ h) rs r c e = then_reply (Got x) h r (last_reply h rs r c e)
+last_reply (Put x ∷ h) rs r c e = then_reply (Put x) h r (last_reply h rs r c e)
+last_reply (Replied q ∷ h) rs r c e =
+    let same = last_same (replied_in h) rs q r e in
+    record { later = []; before = h; split = ap (λ (z : NamedReply). Replied z ∷ h) same; caused = subst (λ (z : NamedReply). HasCause h z.reply) same c.0 }
+
+first_honest : (r : NamedReply) → AllHonest (r ∷ []) → IsHonest r.reply
+first_honest r (a, b) = a
+
+second_honest : (r q : NamedReply) → AllHonest (r ∷ q ∷ []) → IsHonest q.reply
+second_honest r q (a, (b, c)) = b
+
+-- ---- an end is not refused
+
+nothing_opens : (first more : List Frame) → first ++ more ≡ [] → BeginsWithOpen first → ⊥
+nothing_opens [] more e o = absurd (cc o.is)
+nothing_opens (x ∷ first) more e o = absurd (cc e)
+
+module _ (h far : List Local) (left far_left : List ℕ) (a : AreStill h far left far_left) (agreed : Agree (layer_in (made_in h)) (layer_in (made_in far))) (faced : FacedWhenTold h far) (fit : AllFit h) where
+  -- its negotiation does not fail
+  negotiates : (later g : List Local) (name : ℕ) (e : NegotiationError) → h ≡ later ++ Replied (open_failed name (failed.Negotiation e)) ∷ g → OpenCauseIn (made_in g) e (link_in g) → ⊥
+  negotiates later g name e split c =
+      let told : Local = Replied (open_failed name (failed.Negotiation e)) in
+      let k : FacedOnce g far = faced later g name e split in
+      let calm : IsCalm (link_in g) = calm_before later (told ∷ g) (subst (λ (u : List Local). IsCalm (link_in u)) split a.calm) in
+      let near : layer_in (made_in h) ≡ layer_in (made_in g) = layer_then h later (told ∷ g) split (caused_called (made_in g) e (link_in g) c) in
+      let agrees : Agree (layer_in (made_in g)) (layer_in (made_in far)) = subst (λ (z : Option SaslCall). Agree z (layer_in (made_in far))) near agreed in
+      elim k.begun as (λ _. ⊥) [
+        | inl called ↦ agreed_not (layer_in (made_in g)) (layer_in (made_in k.before))
+            (subst (λ (z : Option SaslCall). Agree (layer_in (made_in g)) z) (layer_then far k.since k.before k.split called) agrees)
+            e (negotiation_fair g k.before calm k.faces e c)
+        | inr none ↦ agreed_not (layer_in (made_in g)) (layer_in (made_in far)) agrees e (silence_fair g k.before calm k.faces e none (layer_in (made_in far)) c)
+      ]
+
+  -- its transport does not fail before it begins
+  carries : (later g : List Local) (r : NamedReply) (e : TransportFault) → h ≡ later ++ Replied r ∷ g → sent_in h ≡ [] → IsHonestFault e → IsBrokenBy e g → ⊥
+  carries later g r (fault.Memory m) split none k b = k
+  carries later g r (fault.Io kind) split none k b = k
+  carries later g r fault.IdleTimeoutElapsed split none k b =
+      let whole : h ≡ (later ++ Replied r ∷ b.later) ++ b.earlier =
+      split ∙ ap (λ (u : List Local). later ++ Replied r ∷ u) b.split ∙ sym (append_assoc later (Replied r ∷ b.later) b.earlier) in
+      nothing_opens (sent_in b.earlier) (sent_in (later ++ Replied r ∷ b.later)) (sym (sent_in-append (later ++ Replied r ∷ b.later) b.earlier) ∙ ap sent_in (sym whole) ∙ none) b.cause.opens
+  carries later g r fault.DecodeError split none k b = k
+  carries later g r fault.NotImplemented split none k b = k
+  carries later g r fault.FramingError split none k b =
+      let whole : h ≡ (later ++ Replied r ∷ b.later) ++ b.earlier =
+      split ∙ ap (λ (u : List Local). later ++ Replied r ∷ u) b.split ∙ sym (append_assoc later (Replied r ∷ b.later) b.earlier) in
+      elim b.cause as (λ _. ⊥) [
+        | inl refused ↦ never_refused h far (meets h far left far_left a) (meets_back h far left far_left a)
+            (record { later = later ++ Replied r ∷ b.later; earlier = b.earlier; split = whole; held = refused })
+        | inr large ↦ fit (record { later = later ++ Replied r ∷ b.later; earlier = b.earlier; split = whole; held = large })
+      ]
+
+  opens : (name : ℕ) (e : OpenError) → LastReply h (open_failed name e) → sent_in h ≡ [] → IsHonest (reply.OpenError e) → ⊥
+  opens name (failed.Negotiation e) l none k = negotiates l.later l.before name e l.split l.caused
+  opens name (failed.TransportError e) l none k = carries l.later l.before (open_failed name (failed.TransportError e)) e l.split none k l.caused
+  opens name failed.RemoteClosed l none k = k
+  opens name (failed.RemoteClosedWithError e) l none k = k
+  opens name failed.IllegalState l none k = k
+
+  accepted : IsTurnedDown h → ⊥
+  accepted (none, (name, e, inl all)) =
+      let honest : AllHonest (pending name ∷ open_failed name e ∷ []) = subst AllHonest all.0 (honest_replies h far (meets h far left far_left a) a.answered.caused) in
+      opens name e (last_reply h (pending name ∷ []) (open_failed name e) a.answered.caused all.0) none (second_honest (pending name) (open_failed name e) honest)
+  accepted (none, (name, e, inr all)) =
+      let honest : AllHonest (open_failed name e ∷ []) = subst AllHonest all.0 (honest_replies h far (meets h far left far_left a) a.answered.caused) in
+      opens name e (last_reply h [] (open_failed name e) a.answered.caused all.0) none (first_honest (open_failed name e) honest)
+
+-- ---- an AMQP header stands behind an exchange that has passed
+
+header_not : (others : List SaslBody) (more : List ℕ) → All HasSaslFrame others → amqp_header ++ more ≡ flat_map sasl_frame others ++ [] → ⊥
+header_not others more framed e =
+    let none = none_behind others more [] framed e in
+    absurd (cc (e ∙ ap (λ (u : List SaslBody). flat_map sasl_frame u ++ []) none))
+
+unpassed_not : (c : SaslCall) (h : List Local) (k : HasExchange c h) (t : HasHeader h) → IsLayerWritten true t.head → k.after ≡ [] → ⊥
+unpassed_not c h k t (bodies, framed, head) none =
+    let after = amqp_header ++ t.behind in
+    let bytes : (said bodies ++ after) ++ k.out ≡ said k.sent ++ [] =
+    ap (λ (u : List ℕ). (u ++ after) ++ k.out) (sym head) ∙ ap (λ (u : List ℕ). u ++ k.out) (sym t.wrote) ∙ k.wrote ∙ ap (λ (u : List ℕ). said k.sent ++ u) none in
+    let r : IsRead (said bodies ++ after) after k.out [] bodies k.sent =
+    record { frames = k.framed; after_is = (amqp_header, inl refl); heard = heard_said bodies after framed; stream = bytes } in
+    let f = first_said (said bodies ++ after) after k.out [] bodies k.sent r in
+    header_not f.others (t.behind ++ k.out) (all_behind bodies f.others (subst (λ (u : List SaslBody). All HasSaslFrame u) f.sent_is k.framed))
+    (sym (append_assoc amqp_header t.behind k.out) ∙ f.left_is)
+
+has_passed : (c : SaslCall) (h : List Local) → layer_in (made_in h) ≡ Some c → (k : HasExchange c h) → HasHeader h → turn_by k.x ≡ Pass
+has_passed c h is k t =
+    let layer = subst (λ (z : Bool). IsLayerWritten z t.head) (asked_layer (made_in h) ∙ ap is_layer is) t.layer in
+    elim k.behind [ inl none ↦ absurd (unpassed_not c h k t layer none) | inr e ↦ e.0 ]
+
+header_unwritten : (head tail : List ℕ) → head ++ (amqp_header ++ tail) ≡ [] → ⊥
+header_unwritten [] tail e = absurd (cc e)
+header_unwritten (x ∷ head) tail e = absurd (cc e)
+
+passed_in : (c : Option SaslCall) (h : List Local) → layer_in (made_in h) ≡ c → HasLayer c h → HasHeader h → HasPassed c h
+passed_in None h is k t = tt
+passed_in (Some c) h is (inl k) t = (k, has_passed c h is k t)
+passed_in (Some c) h is (inr n) t = absurd (header_unwritten t.head t.behind (sym t.wrote ∙ n.1))
+
+-- ---- two ends
+
+pub still_turned : (h far : List Local) (left far_left : List ℕ) → AreStill h far left far_left → AreStill far h far_left left
+still_turned h far left far_left a = record {
+  stands = a.far_stands;
+  far_stands = a.stands;
+  reads = a.far_reads;
+  far_reads = a.reads;
+  calm = a.far_calm;
+  far_calm = a.calm;
+  tied = a.far_tied;
+  far_tied = a.tied;
+  said = a.far_said;
+  far_said = a.said;
+  layer = a.far_layer;
+  far_layer = a.layer;
+  kinds = other_way (made_in h) (made_in far) a.kinds;
+  answered = a.far_answered;
+  far_answered = a.answered;
+}
+
+failed_turned : (h far : List Local) → HasFailed far h → HasFailed h far
+failed_turned h far (own b) = other b
+failed_turned h far (other b) = own b
+failed_turned h far (many (inl v)) = many (inr v)
+failed_turned h far (many (inr v)) = many (inl v)
+
+agreed_still : (h far : List Local) (left far_left : List ℕ) → AreAgreed h far left far_left → AreAgreed far h far_left left
+agreed_still h far left far_left a = record {
+  still = still_turned h far left far_left a.still;
+  called = a.far_called;
+  far_called = a.called;
+  agreed = agreed_turned (layer_in (made_in h)) (layer_in (made_in far)) a.agreed;
+  faced = a.far_faced;
+  far_faced = a.faced;
+  fit = a.far_fit;
+  far_fit = a.fit;
+  sound = λ f. a.sound (failed_turned h far f);
+}
+
+header_of : (h far : List Local) (left far_left : List ℕ) → AreAgreed h far left far_left → HasHeader h ⊎ ((IsTurnedDown h ⊎ IsTurnedDown far) ⊎ HasFailed h far) → HasHeader h
+header_of h far left far_left a (inl t) = t
+header_of h far left far_left a (inr (inl (inl r))) = absurd (accepted h far left far_left a.still a.agreed a.faced a.fit r)
+header_of h far left far_left a (inr (inl (inr r))) =
+    let b = agreed_still h far left far_left a in
+    absurd (accepted far h far_left left b.still b.agreed b.faced b.fit r)
+header_of h far left far_left a (inr (inr f)) = absurd (a.sound f)
+
+through : (h far : List Local) (left far_left : List ℕ) → AreAgreed h far left far_left → IsThrough h
+through h far left far_left a =
+    let t = header_of h far left far_left a (header_in h far left far_left a.still a.called a.far_called a.still.stands) in
+    record { header = t; passed = passed_in (layer_in (made_in h)) h refl a.still.layer t }
+
+pub both_through : (h far : List Local) (left far_left : List ℕ) → AreAgreed h far left far_left → IsThrough h × IsThrough far
+both_through h far left far_left a = (through h far left far_left a, through far h far_left left (agreed_still h far left far_left a))

@@ -1,0 +1,51 @@
+-- Two ends whose layers agree, and what they come to (OASIS AMQP 1.0, part 5, section 5.3.2).
+use Rattle.std.specs.Prelude.{◌≡◌, ◌⊎◌, ◌≤◌, ℕ, List, [], ◌∷◌, ◌++◌, length, Option, Some, None, ⊤}
+use Rattle.sasl_gate.specs.declared.gate.error.NegotiationError.{NegotiationError}
+use Rattle.sasl_gate.specs.declared.gate.exchange.Turn.TheVariants.{Pass}
+use Rattle.amqp_opening.specs.declared.authentication.SaslCall.{SaslCall}
+use Rattle.amqp_opening.specs.Authentication.{turn_by}
+use Rattle.amqp_words.specs.declared.open_error.OpenError.TheVariants as failed
+use Rattle.amqp_peer.specs.Causes.{IsOverlarge}
+use Rattle.amqp_peer.specs.History.{Local, Replied, made_in, wrote_in, Once}
+use Rattle.amqp_peer.specs.Layers.{layer_in, HasExchange}
+use Rattle.amqp_peer.specs.Replies.{open_failed}
+use Rattle.amqp_ends.specs.Gates.{Agree, Faces}
+use Rattle.amqp_ends.specs.Wants.{AreStill, HasFailed, HasHeader}
+
+-- an end faced the other as that was at one time: it was called by then, or had written nothing
+pub record FacedOnce (g far : List Local) : Type 0 where
+  pub since : List Local
+  pub before : List Local
+  pub split : far ≡ since ++ before
+  pub faces : Faces g before
+  pub begun : (1 ≤ length (made_in before)) ⊎ (wrote_in before ≡ [])
+
+-- an end that told of a negotiation that failed faced the other when it told
+abbrev pub FacedWhenTold : List Local → List Local → Type 0
+FacedWhenTold h far = (later g : List Local) (name : ℕ) (e : NegotiationError) → h ≡ later ++ Replied (open_failed name (failed.Negotiation e)) ∷ g → FacedOnce g far
+
+-- no frame of a call of an end was too large for the other
+abbrev pub AllFit : List Local → Type 0
+AllFit h = Once IsOverlarge h → ⊥
+
+-- Two ends with layers that agree, both of which were called, and each of which has done what it can. No transport failed.
+pub record AreAgreed (h far : List Local) (left far_left : List ℕ) : Type 0 where
+  pub still : AreStill h far left far_left
+  pub called : 1 ≤ length (made_in h)
+  pub far_called : 1 ≤ length (made_in far)
+  pub agreed : Agree (layer_in (made_in h)) (layer_in (made_in far))
+  pub faced : FacedWhenTold h far
+  pub far_faced : FacedWhenTold far h
+  pub fit : AllFit h
+  pub far_fit : AllFit far
+  pub sound : HasFailed h far → ⊥
+
+-- the exchange of this layer has passed; without a layer nothing is said
+abbrev pub HasPassed : Option SaslCall → List Local → Type 0
+HasPassed None h = ⊤
+HasPassed (Some c) h = (k : HasExchange c h) × (turn_by k.x ≡ Pass)
+
+-- an end's check holds, if it has one, and its AMQP header is written behind it
+pub record IsThrough (h : List Local) : Type 0 where
+  pub header : HasHeader h
+  pub passed : HasPassed (layer_in (made_in h)) h
