@@ -1,7 +1,9 @@
-//! Rows that run the world: the conversations of RFC 7677 and RFC 5802, whole, refused and cut, and its statuses.
+//! Rows that run the world: the conversations of RFC 7677 and RFC 5802, whole, refused and cut, those of PLAIN and
+//! ANONYMOUS, and its statuses.
 use crate::tests::outcome;
 use amqp_wire::status::Status;
 use std::alloc::{AllocError, Global};
+use std::process::Abort;
 use std::str;
 use std::test::Fail;
 
@@ -119,6 +121,158 @@ fn other_hash(rt: HostRuntime) -> Result<(), Fail> {
         text.ends_with("3 0 error Open.Negotiation.NotImplemented\n"),
         "{text}"
     );
+    Ok(())
+}
+
+// What a script writes whose steps are all made.
+fn traced(rt: &impl Abort, alloc: Global, script: &str) -> Result<Vec<u8>, Fail> {
+    let (status, written) = outcome(alloc, &["world"], script.as_bytes(), &[], &[])?;
+    assert_eq!(rt; status, Status::Done);
+    Ok(written)
+}
+
+// RFC 4616: the client's init has its user and its password, and the listener's outcome no data.
+const SCRIPT_PLAIN: &str = "c 0 open id=c sasl=plain user=user pass=pencil
+l 0 accept id=l sasl=plain user=user pass=pencil
+l 0 take 8
+c 0 take 32
+l 0 take 35
+c 0 take 24
+l 0 take 34
+c 0 take 26
+";
+
+const TRACE_PLAIN: &str = "0 0 pending
+0 wrote 414d515003010000
+1 1 pending
+1 wrote 414d515003010000
+2 wrote 0000001802010000005340c00b01e00801a305504c41494e
+3 wrote 0000002302010000005341c01602a305504c41494ea00c00757365720070656e63696c
+4 wrote 0000001002010000005344c003015000414d515000010000
+5 wrote 414d5150000100000000001a02000000005310c00d04a101634070000400006000ff
+6 1 connection
+6 wrote 0000001a02000000005310c00d04a1016c4070000400006000ff
+7 0 connection
+";
+
+// RFC 4505: the client's init names its mechanism alone.
+const SCRIPT_ANONYMOUS: &str = "c 0 open id=c sasl=anonymous
+l 0 accept id=l sasl=anonymous
+l 0 take 8
+c 0 take 36
+l 0 take 25
+c 0 take 24
+l 0 take 34
+c 0 take 26
+";
+
+const TRACE_ANONYMOUS: &str = "0 0 pending
+0 wrote 414d515003010000
+1 1 pending
+1 wrote 414d515003010000
+2 wrote 0000001c02010000005340c00f01e00c01a309414e4f4e594d4f5553
+3 wrote 0000001902010000005341c00c01a309414e4f4e594d4f5553
+4 wrote 0000001002010000005344c003015000414d515000010000
+5 wrote 414d5150000100000000001a02000000005310c00d04a101634070000400006000ff
+6 1 connection
+6 wrote 0000001a02000000005310c00d04a1016c4070000400006000ff
+7 0 connection
+";
+
+#[test]
+fn conversations_of_an_init(rt: HostRuntime) -> Result<(), Fail> {
+    let rows = [
+        (SCRIPT_PLAIN, TRACE_PLAIN),
+        (SCRIPT_ANONYMOUS, TRACE_ANONYMOUS),
+    ];
+    for (script, wanted) in rows {
+        let written = traced(&rt, rt.alloc(), script)?;
+        assert_eq!(rt; written.as_slice(), wanted.as_bytes());
+    }
+    Ok(())
+}
+
+// Another password, and a listener with another mechanism.
+#[test]
+fn refusals_of_an_init(rt: HostRuntime) -> Result<(), Fail> {
+    let rows = [
+        (
+            "c 0 open id=c sasl=plain user=user pass=pencil2
+l 0 accept id=l sasl=plain user=user pass=pencil
+l 0 take 8
+c 0 take 32
+l 0 take 36
+c 0 take all
+",
+            "4 1 error Open.Negotiation.SaslError 1 -
+4 wrote 0000001002010000005344c003015001
+5 0 error Open.Negotiation.SaslError 1 -
+",
+        ),
+        (
+            "c 0 open id=c sasl=plain user=user pass=pencil
+l 0 accept id=l sasl=anonymous
+l 0 take 8
+c 0 take all
+",
+            "3 0 error Open.Negotiation.NotImplemented
+",
+        ),
+        (
+            "c 0 open id=c sasl=plain user=user pass=pencil
+l 0 accept id=l sasl=sha256 user=user pass=pencil salt=AA== rounds=1 nonce=n
+l 0 take 8
+c 0 take all
+",
+            "3 0 error Open.Negotiation.NotImplemented
+",
+        ),
+    ];
+    for (script, end) in rows {
+        let written = traced(&rt, rt.alloc(), script)?;
+        let text = str::from_utf8(written.as_slice())?;
+        assert!(rt; text.ends_with(end), "{text}");
+        assert!(rt; !text.contains("414d515000010000"), "{text}");
+    }
+    Ok(())
+}
+
+// A user outside the profile is refused before a byte is written.
+#[test]
+fn users_outside_the_profile(rt: HostRuntime) -> Result<(), Fail> {
+    let rows = [
+        "c 0 open id=c sasl=plain user=%C3%BC pass=pencil\n",
+        "l 0 accept id=l sasl=plain user=%C3%BC pass=pencil\n",
+        "c 0 open id=c sasl=sha256 user=%C3%BC pass=pencil nonce=n\n",
+    ];
+    for script in rows {
+        let written = traced(&rt, rt.alloc(), script)?;
+        let wanted = b"0 0 error Open.Negotiation.ScramError.TextNotAllowed\n";
+        assert_eq!(rt; written.as_slice(), wanted.as_slice());
+    }
+    Ok(())
+}
+
+// RFC 5802, section 5.1: a comma and an equals sign of the user go out as `=2C` and `=3D`.
+#[test]
+fn escaped_user(rt: HostRuntime) -> Result<(), Fail> {
+    let script = "c 0 open id=c sasl=sha256 user=a,b%3Dc pass=pencil nonce=rOprNGfwEbeRWgbNEkqO
+l 0 accept id=l sasl=sha256 user=a,b%3Dc pass=pencil salt=W22ZaJ0SNY7soEsUEjb6gQ== rounds=4096 nonce=%25hvYDpWUa2RaTCAfuxFIlj)hNlF$k0
+l 0 take all
+c 0 take all
+l 0 take all
+c 0 take all
+l 0 take all
+c 0 take all
+l 0 take all
+c 0 take all
+";
+    let written = traced(&rt, rt.alloc(), script)?;
+    let text = str::from_utf8(written.as_slice())?;
+    // `n=a=2Cb=3Dc` in hexadecimal.
+    assert!(rt; text.contains("6e3d613d3243623d334463"), "{text}");
+    assert!(rt; text.contains("8 1 connection\n"), "{text}");
+    assert!(rt; text.ends_with("9 0 connection\n"), "{text}");
     Ok(())
 }
 

@@ -12,9 +12,9 @@ use Rattle.amqp_world.specs.History.{Event, is_same, last_moment}
 use Rattle.amqp_world.specs.Valid.{IsValid, IsValidAct, kind_of}
 use Rattle.amqp_world.specs.Explains.{past_of, Explained}
 use Rattle.amqp_world.specs.Turn.{CanAct, Turned, IsTurn, IsTurnAt, empty_pipe}
-use Rattle.amqp_world.specs.Related.{Side, Related, past_in, view_of}
+use Rattle.amqp_world.specs.Related.{Sides, Related, past_in, view_of}
 use Rattle.amqp_world.proofs.Growth.{past_more, length-past_of}
-use Rattle.amqp_world.proofs.Sides.{side_near, side_far, side_start, histories, explains_turn, may_act}
+use Rattle.amqp_world.proofs.Sides.{sides_start, sides_client, sides_listener, histories, explains_turn, may_act}
 
 past_turn : (b b' : Both) (s : Step) (x : Entry) → Related b → b'.steps ≡ b.steps ++ s ∷ [] → b'.trace.entries ≡ b.trace.entries ++ x ∷ [] → past_in b' ≡ record { step = s; entry = x } ∷ past_in b
 past_turn b b' s x r steps entries =
@@ -36,13 +36,12 @@ related_client b b' s x name r h v e t steps entries moment =
     let n : is_same Client s.end ≡ true = ap (is_same Client) h in
     let m : is_same Listener s.end ≡ false = ap (is_same Listener) h in
     let va : IsValidAct Client (past_in b) s.act = subst (λ (y : End). IsValidAct y (past_in b) s.act) h v.act in
-    let near : Side Client Listener b'.client (ev ∷ past_in b) = side_near Client Listener ev (past_in b) b.client b.listener b'.client b'.listener n m refl va r.client r.listener u in
-    let far : Side Listener Client b'.listener (ev ∷ past_in b) = side_far Client Listener ev (past_in b) b.client b.listener b'.client b'.listener n m refl refl va r.client r.listener u in
+    let after : Sides b'.client b'.listener (ev ∷ past_in b) = sides_client ev (past_in b) b.client b.listener b'.client b'.listener h va r.sides u in
+    let kinds = inl (after.client.begins, r.sides.listener.begins) in
     record {
       form = form_turn b b' s x r steps entries;
-      client = subst (λ (p : List Event). Side Client Listener b'.client p) (sym past) near;
-      listener = subst (λ (p : List Event). Side Listener Client b'.listener p) (sym past) far;
-      explained = subst Explained (sym past) (explains_turn Client Listener ev (past_in b) b.client b.listener b'.client b'.listener n m h refl refl v r.client r.listener (inl (near.begins, r.listener.begins)) u near far (histories b'.client b'.listener (ev ∷ past_in b) near far), r.explained);
+      sides = subst (Sides b'.client b'.listener) (sym past) after;
+      explained = subst Explained (sym past) (explains_turn Client Listener ev (past_in b) b.client b.listener b'.client b'.listener n m h refl refl v r.sides.client r.sides.listener kinds u after.client after.listener (histories b'.client b'.listener (ev ∷ past_in b) after), r.explained);
       moment = moment ∙ sym (ap last_moment past);
     }
 
@@ -54,13 +53,12 @@ related_listener b b' s x name r h v e t steps entries moment =
     let n : is_same Listener s.end ≡ true = ap (is_same Listener) h in
     let m : is_same Client s.end ≡ false = ap (is_same Client) h in
     let va : IsValidAct Listener (past_in b) s.act = subst (λ (y : End). IsValidAct y (past_in b) s.act) h v.act in
-    let near : Side Listener Client b'.listener (ev ∷ past_in b) = side_near Listener Client ev (past_in b) b.listener b.client b'.listener b'.client n m refl va r.listener r.client u in
-    let far : Side Client Listener b'.client (ev ∷ past_in b) = side_far Listener Client ev (past_in b) b.listener b.client b'.listener b'.client n m refl refl va r.listener r.client u in
+    let after : Sides b'.client b'.listener (ev ∷ past_in b) = sides_listener ev (past_in b) b.client b.listener b'.client b'.listener h va r.sides u in
+    let kinds = inr (after.listener.begins, r.sides.client.begins) in
     record {
       form = form_turn b b' s x r steps entries;
-      client = subst (λ (p : List Event). Side Client Listener b'.client p) (sym past) far;
-      listener = subst (λ (p : List Event). Side Listener Client b'.listener p) (sym past) near;
-      explained = subst Explained (sym past) (explains_turn Listener Client ev (past_in b) b.listener b.client b'.listener b'.client n m h refl refl v r.listener r.client (inr (near.begins, r.client.begins)) u near far (histories b'.client b'.listener (ev ∷ past_in b) far near), r.explained);
+      sides = subst (Sides b'.client b'.listener) (sym past) after;
+      explained = subst Explained (sym past) (explains_turn Listener Client ev (past_in b) b.listener b.client b'.listener b'.client n m h refl refl v r.sides.listener r.sides.client kinds u after.listener after.client (histories b'.client b'.listener (ev ∷ past_in b) after), r.explained);
       moment = moment ∙ sym (ap last_moment past);
     }
 
@@ -70,8 +68,7 @@ related_start b client listener steps entries moment =
     let past : past_in b ≡ [] = ap (λ (ss : List Step). past_of ss b.trace.entries) steps ∙ ap (λ (xs : List Entry). past_of [] xs) entries in
     record {
       form = ap length steps ∙ sym (ap length entries);
-      client = subst (λ (p : List Event). Side Client Listener b.client p) (sym past) (subst (λ (p : Peering Piped). Side Client Listener p []) (sym client) (side_start Client Listener));
-      listener = subst (λ (p : List Event). Side Listener Client b.listener p) (sym past) (subst (λ (p : Peering Piped). Side Listener Client p []) (sym listener) (side_start Listener Client));
+      sides = subst (Sides b.client b.listener) (sym past) (subst (λ (p : Peering Piped). Sides p b.listener []) (sym client) (subst (λ (q : Peering Piped). Sides (fresh empty_pipe (kind_of Client)) q []) (sym listener) sides_start));
       explained = subst Explained (sym past) tt;
       moment = moment ∙ sym (ap last_moment past);
     }
@@ -80,13 +77,13 @@ related_start b client listener steps entries moment =
 
 pub may_client : (b : Both) (s : Step) (name : ℕ) → Related b → s.end ≡ Client → name ≡ length b.steps → CanAct b.client b.listener name s.act ↔ IsValidAct s.end (past_in b) s.act
 may_client b s name r h e =
-    let own : CanAct b.client b.listener (length (past_in b)) s.act ↔ IsValidAct Client (past_in b) s.act = may_act Client Listener b.client b.listener (past_in b) s.act refl r.client r.listener in
+    let own : CanAct b.client b.listener (length (past_in b)) s.act ↔ IsValidAct Client (past_in b) s.act = may_act Client Listener b.client b.listener (past_in b) s.act refl r.sides.client r.sides.listener in
     let named : CanAct b.client b.listener name s.act ↔ IsValidAct Client (past_in b) s.act = subst (λ (n : ℕ). CanAct b.client b.listener n s.act ↔ IsValidAct Client (past_in b) s.act) (sym (next_name b name r e)) own in
     subst (λ (y : End). CanAct b.client b.listener name s.act ↔ IsValidAct y (past_in b) s.act) (sym h) named
 
 pub may_listener : (b : Both) (s : Step) (name : ℕ) → Related b → s.end ≡ Listener → name ≡ length b.steps → CanAct b.listener b.client name s.act ↔ IsValidAct s.end (past_in b) s.act
 may_listener b s name r h e =
-    let own : CanAct b.listener b.client (length (past_in b)) s.act ↔ IsValidAct Listener (past_in b) s.act = may_act Listener Client b.listener b.client (past_in b) s.act refl r.listener r.client in
+    let own : CanAct b.listener b.client (length (past_in b)) s.act ↔ IsValidAct Listener (past_in b) s.act = may_act Listener Client b.listener b.client (past_in b) s.act refl r.sides.listener r.sides.client in
     let named : CanAct b.listener b.client name s.act ↔ IsValidAct Listener (past_in b) s.act = subst (λ (n : ℕ). CanAct b.listener b.client n s.act ↔ IsValidAct Listener (past_in b) s.act) (sym (next_name b name r e)) own in
     subst (λ (y : End). CanAct b.listener b.client name s.act ↔ IsValidAct y (past_in b) s.act) (sym h) named
 

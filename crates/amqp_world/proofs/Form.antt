@@ -5,11 +5,13 @@ use Rattle.amqp_words.specs.declared.open_error.OpenError as open_error
 use Rattle.amqp_words.specs.declared.call.Call as peer_call
 use Rattle.amqp_words.specs.declared.call.Call.TheVariants.{Open, Accept, Close}
 use Rattle.amqp_peer.specs.declared.peer.PeerKind.{PeerKind}
+use Rattle.amqp_peer.specs.declared.peer.PeerKind.TheVariants as kind
 use Rattle.amqp_words.specs.declared.reply.Reply.{Reply}
 use Rattle.amqp_words.specs.declared.reply.Reply.TheVariants.{Pending, Connection, OpenError}
 use Rattle.amqp_words.specs.declared.reply.NamedReply.{NamedReply}
-use Rattle.amqp_peer.specs.Calls.{IsValidCall, IsClose}
-use Rattle.amqp_peer.specs.Replies.{pending, connection, open_failed, answered, IsCloseEnd, AreOpening, AreClosing, AreReplies, IsConnected}
+use Rattle.amqp_peer.specs.Calls.{IsFirstCall, IsValidCall, IsClose}
+use Rattle.amqp_peer.specs.Replies.{pending, connection, open_failed, texts_refused, answered, IsCloseEnd, IsOpenRefusal, AreOpening, AreClosing, AreReplies, IsConnected}
+use Rattle.amqp_peer.proofs.Refusals.{refusal_connects_not}
 use Rattle.amqp_words.specs.declared.step.End.{End}
 use Rattle.amqp_words.specs.declared.step.End.TheVariants.{Client, Listener}
 use Rattle.amqp_words.specs.declared.step.Act.{Act}
@@ -24,11 +26,15 @@ named_end : (m n : ℕ) (c d : peer_call.Call) (r : Reply) (rs : List NamedReply
 named_end m n c d r rs (inl q) = subst (λ (u : List NamedReply). AreNamed ((m, c) ∷ (n, d) ∷ []) u) (sym q) (inr (inl refl), (inr (inl refl), (inl refl, (inl refl, tt))))
 named_end m n c d r rs (inr q) = subst (λ (u : List NamedReply). AreNamed ((m, c) ∷ (n, d) ∷ []) u) (sym q) (inr (inl refl), (inr (inl refl), (inl refl, tt)))
 
+named_refusal : (c : ℕ × peer_call.Call) (e : open_error.OpenError) (rs : List NamedReply) → IsOpenRefusal c.0 e rs → AreNamed (c ∷ []) rs
+named_refusal c e rs (inl q) = subst (λ (u : List NamedReply). AreNamed (c ∷ []) u) (sym q.0) (inl refl, (inl refl, tt))
+named_refusal c e rs (inr q) = subst (λ (u : List NamedReply). AreNamed (c ∷ []) u) (sym q.0) (inl refl, tt)
+
 named_all : (cs : List (ℕ × peer_call.Call)) (rs : List NamedReply) → AreReplies cs rs → AreNamed cs rs
 named_all [] rs p = subst (λ (u : List NamedReply). AreNamed [] u) (sym p) tt
 named_all (c ∷ []) rs (inl q) = subst (λ (u : List NamedReply). AreNamed (c ∷ []) u) (sym q) (inl refl, tt)
 named_all (c ∷ []) rs (inr (inl q)) = subst (λ (u : List NamedReply). AreNamed (c ∷ []) u) (sym q) (inl refl, (inl refl, tt))
-named_all (c ∷ []) rs (inr (inr q)) = subst (λ (u : List NamedReply). AreNamed (c ∷ []) u) (sym q.1) (inl refl, (inl refl, tt))
+named_all (c ∷ []) rs (inr (inr q)) = named_refusal c q.0 rs q.1
 named_all (c ∷ d ∷ []) rs (inl q) = subst (λ (u : List NamedReply). AreNamed (c ∷ d ∷ []) u) (sym q) (inr (inl refl), (inr (inl refl), (inl refl, tt)))
 named_all (c ∷ d ∷ []) rs (inr q) = named_end c.0 d.0 c.1 d.1 q.0 rs q.2
 named_all (c ∷ d ∷ e ∷ cs) rs p = absurd p
@@ -103,6 +109,14 @@ orderly_failed : (e : open_error.OpenError) (b : Bool) → IsOrderly (kept b Pen
 orderly_failed e true = record { first = (failed_is_not_pending e, tt); last = (λ f. absurd f, (λ f. refl, tt)) }
 orderly_failed e false = orderly_none
 
+orderly_alone : (e : open_error.OpenError) (b : Bool) → IsOrderly (kept b (OpenError e) [])
+orderly_alone e true = record { first = tt; last = (λ f. refl, tt) }
+orderly_alone e false = orderly_none
+
+orderly_refusal : (n : ℕ) (e : open_error.OpenError) (rs : List NamedReply) (name : ℕ) → IsOpenRefusal n e rs → IsOrderly (replies_to name rs)
+orderly_refusal n e rs name (inl q) = subst (λ (u : List NamedReply). IsOrderly (replies_to name u)) (sym q.0) (orderly_failed e (name == n))
+orderly_refusal n e rs name (inr q) = subst (λ (u : List NamedReply). IsOrderly (replies_to name u)) (sym q.0) (orderly_alone e (name == n))
+
 orderly_three : (b c : Bool) → (b ≡ true → c ≡ true → ⊥) → IsOrderly (kept b Pending (kept b Connection (kept c Pending [])))
 orderly_three true true p = absurd (p refl refl)
 orderly_three true false p = orderly_made
@@ -133,7 +147,7 @@ orderly_all : (k : ℕ) (cs : List (ℕ × peer_call.Call)) (rs : List NamedRepl
 orderly_all k [] rs name f p = subst (λ (u : List NamedReply). IsOrderly (replies_to name u)) (sym p) orderly_none
 orderly_all k (c ∷ []) rs name f (inl q) = subst (λ (u : List NamedReply). IsOrderly (replies_to name u)) (sym q) (orderly_one (name == c.0))
 orderly_all k (c ∷ []) rs name f (inr (inl q)) = subst (λ (u : List NamedReply). IsOrderly (replies_to name u)) (sym q) (orderly_two (name == c.0))
-orderly_all k (c ∷ []) rs name f (inr (inr q)) = subst (λ (u : List NamedReply). IsOrderly (replies_to name u)) (sym q.1) (orderly_failed q.0 (name == c.0))
+orderly_all k (c ∷ []) rs name f (inr (inr q)) = orderly_refusal c.0 q.0 rs name q.1
 orderly_all k (c ∷ d ∷ []) rs name f p = orderly_closing c.0 d.0 rs name f.1.0 p
 orderly_all k (c ∷ d ∷ e ∷ cs) rs name f p = absurd p
 
@@ -143,8 +157,8 @@ orderly_of e past name p = orderly_all (length past) (calls e past) (replied e p
 -- ---- a call is replied to in its own step
 
 waits_first : (call : peer_call.Call) → IsFirstReply call Pending
-waits_first (Open settings host sasl) = refl
-waits_first (Accept settings sasl) = refl
+waits_first (Open settings host sasl) = inl refl
+waits_first (Accept settings sasl) = inl refl
 waits_first (Close error) = inl refl
 
 ends_first : (call : peer_call.Call) (r : Reply) → IsClose call → IsCloseEnd r → IsFirstReply call r
@@ -152,24 +166,29 @@ ends_first (Open settings host sasl) r c e = absurd c
 ends_first (Accept settings sasl) r c e = absurd c
 ends_first (Close error) r c e = inr e
 
-opening_first : (name : ℕ) (call : peer_call.Call) (rs : List NamedReply) → AreOpening name rs → RepliesAtOnce name (Call call) rs
-opening_first name call rs (inl q) = (Pending, [], waits_first call, q)
-opening_first name call rs (inr (inl q)) = (Pending, connection name ∷ [], waits_first call, q)
-opening_first name call rs (inr (inr q)) = (Pending, open_failed name q.0 ∷ [], waits_first call, q.1)
+refused_first : (k : PeerKind) (call : peer_call.Call) (e : open_error.OpenError) → IsFirstCall k call → e ≡ texts_refused → IsFirstReply call (OpenError e)
+refused_first k (Open settings host sasl) e v t = inr (ap OpenError t)
+refused_first k (Accept settings sasl) e v t = inr (ap OpenError t)
+refused_first kind.Client (Close error) e v t = absurd v
+refused_first kind.Listener (Close error) e v t = absurd v
+
+refusal_first : (k : PeerKind) (name : ℕ) (call : peer_call.Call) (e : open_error.OpenError) (rs : List NamedReply) → IsFirstCall k call → IsOpenRefusal name e rs → RepliesAtOnce name (Call call) rs
+refusal_first k name call e rs v (inl q) = (Pending, open_failed name e ∷ [], waits_first call, q.0)
+refusal_first k name call e rs v (inr q) = (OpenError e, [], refused_first k call e v q.1, q.0)
+
+opening_first : (k : PeerKind) (name : ℕ) (call : peer_call.Call) (rs : List NamedReply) → IsFirstCall k call → AreOpening name rs → RepliesAtOnce name (Call call) rs
+opening_first k name call rs v (inl q) = (Pending, [], waits_first call, q)
+opening_first k name call rs v (inr (inl q)) = (Pending, connection name ∷ [], waits_first call, q)
+opening_first k name call rs v (inr (inr q)) = refusal_first k name call q.0 rs v q.1
 
 waits_not_connected : (n : ℕ) → IsConnected (pending n ∷ []) → ⊥
 waits_not_connected n (inl e) = absurd (cc e)
 waits_not_connected n (inr e) = e
 
-failed_not_connected : (n : ℕ) (f : open_error.OpenError) → IsConnected (pending n ∷ open_failed n f ∷ []) → ⊥
-failed_not_connected n f (inl e) = absurd (cc e)
-failed_not_connected n f (inr (inl e)) = absurd (cc e)
-failed_not_connected n f (inr (inr e)) = e
-
 connected_is : (n : ℕ) (rs : List NamedReply) → AreOpening n rs → IsConnected rs → rs ≡ pending n ∷ connection n ∷ []
 connected_is n rs (inl q) c = absurd (waits_not_connected n (subst IsConnected q c))
 connected_is n rs (inr (inl q)) c = q
-connected_is n rs (inr (inr q)) c = absurd (failed_not_connected n q.0 (subst IsConnected q.1 c))
+connected_is n rs (inr (inr q)) c = absurd (refusal_connects_not n q.0 rs q.1 c)
 
 abbrev rest_of : List NamedReply → List NamedReply
 rest_of [] = []
@@ -187,7 +206,7 @@ closing_first n m call rs c (inl q) = (Pending, [], waits_first call, behind_two
 closing_first n m call rs c (inr q) = end_first n m call q.0 rs c q.1 q.2
 
 call_first : (k : PeerKind) (cs : List (ℕ × peer_call.Call)) (name : ℕ) (call : peer_call.Call) (before replies : List NamedReply) → IsValidCall k cs before name call → AreReplies cs before → AreReplies ((name, call) ∷ cs) (before ++ replies) → RepliesAtOnce name (Call call) replies
-call_first k [] name call before replies v p q = opening_first name call replies (subst (λ (u : List NamedReply). AreOpening name (u ++ replies)) p q)
+call_first k [] name call before replies v p q = opening_first k name call replies v (subst (λ (u : List NamedReply). AreOpening name (u ++ replies)) p q)
 call_first k (c ∷ []) name call before replies v p q = closing_first c.0 name call replies v.0 (subst (λ (u : List NamedReply). AreClosing c.0 name (u ++ replies)) (connected_is c.0 before p v.1) q)
 call_first k (c ∷ d ∷ cs) name call before replies v p q = absurd v
 

@@ -1,5 +1,5 @@
 -- The end that made a step, in words of its history.
-use Rattle.std.proofs.Common.{◌≡◌, ◌+◌, ◌≤◌, List, ℕ, [], ◌∷◌, ◌++◌, true, false, length, take, drop, sym, ap, ◌∙◌, subst, append_assoc, append-nil}
+use Rattle.std.proofs.Common.{◌≡◌, ◌⊎◌, ◌+◌, ◌≤◌, inl, inr, List, ℕ, [], ◌∷◌, ◌++◌, true, false, length, take, drop, sym, ap, ◌∙◌, subst, arith, append_assoc, append-nil}
 use Rattle.std.proofs.Math.Seq.{take-add}
 use Rattle.std.proofs.lemmas.List.{take-append-drop}
 use Rattle.amqp_wire.specs.Events.{LinkEvent}
@@ -7,15 +7,19 @@ use Rattle.amqp_wire.specs.Piped.{Piped}
 use Rattle.amqp_words.specs.declared.call.Call as peer_call
 use Rattle.amqp_words.specs.declared.reply.NamedReply.{NamedReply}
 use Rattle.amqp_words.specs.declared.step.Act.{Act}
+use Rattle.amqp_words.specs.declared.step.Act.TheVariants.{Take, TakeAll, Call}
 use Rattle.amqp_words.specs.declared.step.End.{End}
+use Rattle.amqp_peer.specs.Gated.{IsGated}
 use Rattle.amqp_peer.specs.Held.{IsExchanged}
 use Rattle.amqp_peer.specs.History.{Local, made_in, link_in, replied_in, read_in, wrote_in}
 use Rattle.amqp_peer.specs.Layers.{layer_in}
 use Rattle.amqp_peer.specs.Peering.{Peering, Has}
-use Rattle.amqp_peer.proofs.Laws.{has_with_link, tied_law, said_law, causes_law, exchanged_with_link}
+use Rattle.amqp_peer.proofs.Laws.{has_with_link, gated_law, tied_law, said_law, causes_law, exchanged_with_link}
 use Rattle.amqp_ends.specs.Gates.{AllFair, Faces}
 use Rattle.amqp_ends.specs.Joined.{IsCalm, Meets}
 use Rattle.amqp_ends.specs.Quiet.{AreOpposite}
+use Rattle.amqp_ends.specs.Passes.{FacedWhenTold}
+use Rattle.amqp_ends.proofs.Faced.{faced_called, faced_polled, faced_other, faced_inside}
 use Rattle.amqp_ends.proofs.GateReplies.{replies_fair}
 use Rattle.amqp_world.specs.History.{Event, wrote, taken, moved, read, calls, called, begun, other, is_same}
 use Rattle.amqp_world.specs.Related.{Side}
@@ -102,15 +106,20 @@ near_faces e f x past p q p' q' o o' near far t k =
       far_layer = layer_law q far.h far.has;
     }
 
+-- one end is a client and the other a listener, also behind a step
+opposite_near : (e f : End) (x : Event) (past : List Event) (p q p' q' : Peering Piped) → is_same e x.step.end ≡ true → AreOpposite (calls e (x ∷ past)) (calls f past) → (near : Side e f p past) → (far : Side f e q past)
+    → (t : Turned p q (length past) x.step.at x.step.act p' q' x.entry) → AreOpposite (made_in (grown_of e f x past near t)) (made_in far.h)
+opposite_near e f x past p q p' q' n k near far t =
+    subst (λ (cs : List (ℕ × peer_call.Call)). AreOpposite cs (made_in far.h)) (sym (near_made e f x past p q p' q' n near t)) (subst (λ (cs : List (ℕ × peer_call.Call)). AreOpposite (calls e (x ∷ past)) cs) (sym far.made) k)
+
 -- the replies of a step that tell of a negotiation
 pub fair_turn : (e f : End) (x : Event) (past : List Event) (p q p' q' : Peering Piped) → is_same e x.step.end ≡ true → is_same f x.step.end ≡ false → other e ≡ f → other f ≡ e → AreOpposite (calls e (x ∷ past)) (calls f past)
     → (near : Side e f p past) → (far : Side f e q past) → (t : Turned p q (length past) x.step.at x.step.act p' q' x.entry) → AllFair (layer_in (calls e (x ∷ past))) (layer_in (calls f (x ∷ past))) x.entry.replies
 fair_turn e f x past p q p' q' n m o o' k near far t =
     let name = length past in
     let h' = grown_of e f x past near t in
-    let made = near_made e f x past p q p' q' n near t in
     let first : made_in (begun x.step.at name x.step.act ∷ near.h) ≡ calls e (x ∷ past) = made_grown [] near.h x.step.at name x.step.act tt ∙ ap (λ (cs : List (ℕ × peer_call.Call)). called x.step.act name cs) near.made ∙ sym (calls_near e x past n) in
-    let both : AreOpposite (made_in h') (made_in far.h) = subst (λ (cs : List (ℕ × peer_call.Call)). AreOpposite cs (made_in far.h)) (sym made) (subst (λ (cs : List (ℕ × peer_call.Call)). AreOpposite (calls e (x ∷ past)) cs) (sym far.made) k) in
+    let both : AreOpposite (made_in h') (made_in far.h) = opposite_near e f x past p q p' q' n k near far t in
     let r = far_read e f past p q o' near far in
     let fair : AllFair (layer_in (made_in (begun x.step.at name x.step.act ∷ near.h))) (layer_in (made_in far.h)) (replied_in t.stepped.events) =
     replies_fair t.stepped.events (begun x.step.at name x.step.act ∷ near.h) far.h t.stepped.inside (near_calm e f x past p q p' q' near t) (near_faces e f x past p q p' q' o o' near far t both)
@@ -118,3 +127,33 @@ fair_turn e f x past p q p' q' n m o o' k near far t =
     subst (λ (rs : List NamedReply). AllFair (layer_in (calls e (x ∷ past))) (layer_in (calls f (x ∷ past))) rs) (turned_replied p q p' q' name x.step.at x.step.act x.entry t near.empty)
     (subst (λ (cs : List (ℕ × peer_call.Call)). AllFair (layer_in (calls e (x ∷ past))) (layer_in cs) (replied_in t.stepped.events)) (far.made ∙ sym (calls_far f x past m))
     (subst (λ (cs : List (ℕ × peer_call.Call)). AllFair (layer_in cs) (layer_in (made_in far.h)) (replied_in t.stepped.events)) first fair))
+
+-- ---- that each faced the other when it told of a negotiation
+
+-- an end that was not called wrote nothing
+called_or_silent : (cs : List (ℕ × peer_call.Call)) (wrote read : List ℕ) → IsGated cs wrote read → (1 ≤ length cs) ⊎ (wrote ≡ [])
+called_or_silent [] wrote read g = inr g
+called_or_silent (c ∷ cs) wrote read g = inl (omega arith)
+
+faced_begun : (at name : ℕ) (act : Act) (h far : List Local) → FacedWhenTold h far → FacedWhenTold (begun at name act ∷ h) far
+faced_begun at name (Take n) h far k = faced_polled at h far k
+faced_begun at name TakeAll h far k = faced_polled at h far k
+faced_begun at name (Call call) h far k = faced_called at name call h far k
+
+-- the end that made the step
+pub faced_near : (e f : End) (x : Event) (past : List Event) (p q p' q' : Peering Piped) → is_same e x.step.end ≡ true → other e ≡ f → other f ≡ e → AreOpposite (calls e (x ∷ past)) (calls f past) → (near : Side e f p past) → (far : Side f e q past)
+    → (t : Turned p q (length past) x.step.at x.step.act p' q' x.entry) → FacedWhenTold near.h far.h → FacedWhenTold (grown_of e f x past near t) far.h
+faced_near e f x past p q p' q' n o o' k near far t faced =
+    let name = length past in
+    let r = far_read e f past p q o' near far in
+    faced_inside t.stepped.events (begun x.step.at name x.step.act ∷ near.h) far.h t.stepped.inside
+    (near_faces e f x past p q p' q' o o' near far t (opposite_near e f x past p q p' q' n k near far t))
+    r.0 (r.1 ∙ sym (wrote_begun x.step.at name x.step.act near.h)) (called_or_silent (made_in far.h) (wrote_in far.h) (read_in far.h) (gated_law q far.h far.has))
+    (faced_begun x.step.at name x.step.act near.h far.h faced)
+
+-- the other end
+pub faced_far : (e f : End) (x : Event) (past : List Event) (p q p' q' : Peering Piped) → (near : Side e f p past) → (far : Side f e q past) → (t : Turned p q (length past) x.step.at x.step.act p' q' x.entry)
+    → FacedWhenTold far.h near.h → FacedWhenTold far.h (grown_of e f x past near t)
+faced_far e f x past p q p' q' near far t faced =
+    let first = begun x.step.at (length past) x.step.act in
+    subst (FacedWhenTold far.h) (append_assoc t.stepped.events (first ∷ []) near.h) (faced_other far.h (t.stepped.events ++ first ∷ []) near.h faced)

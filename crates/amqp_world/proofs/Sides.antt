@@ -21,26 +21,29 @@ use Rattle.amqp_words.specs.declared.step.Act.{Act}
 use Rattle.amqp_words.specs.declared.step.Act.TheVariants.{Take, TakeAll, Call}
 use Rattle.amqp_world.specs.History.{Event, wrote, taken, moved, read, calls, begun, replied, other, is_same}
 use Rattle.amqp_world.specs.Valid.{IsValid, IsValidAct, kind_of}
-use Rattle.amqp_ends.specs.Gates.{AllFair}
+use Rattle.amqp_ends.specs.Gates.{Agree, AllFair}
 use Rattle.amqp_ends.specs.Honest.{AllHonest}
 use Rattle.amqp_ends.specs.Joined.{Meets, NoneCloses}
 use Rattle.amqp_ends.proofs.Closes.{says_no_close}
 use Rattle.amqp_ends.proofs.Honesty.{honest_replies}
 use Rattle.amqp_ends.specs.Quiet.{BeginsIn, AreOpposite}
 use Rattle.amqp_ends.specs.Standing.{Stands, uncalled}
+use Rattle.amqp_ends.specs.Passes.{AreAgreed, FacedWhenTold}
 use Rattle.amqp_ends.specs.Wants.{AreStill}
+use Rattle.amqp_ends.proofs.Faced.{faced_none}
+use Rattle.amqp_ends.proofs.Passes.{both_through}
 use Rattle.amqp_ends.proofs.QuietFew.{few_frames}
 use Rattle.amqp_ends.proofs.Sizes.{never_refused}
 use Rattle.amqp_ends.proofs.Wants.{wants}
-use Rattle.amqp_world.specs.Causes.{IsVast, Adds, NothingInFlight, IsHistoried, Histories}
+use Rattle.amqp_world.specs.Causes.{IsVast, Adds, NothingInFlight, AreAgreeing, IsHistoried, Histories}
 use Rattle.amqp_world.specs.Explains.{Explains}
 use Rattle.amqp_world.specs.Turn.{CanAct, Turned, piping, drained, given, marked, empty_pipe, pipe_of}
-use Rattle.amqp_world.specs.Related.{Side}
+use Rattle.amqp_world.specs.Related.{Side, Sides}
 use Rattle.amqp_world.proofs.Pipes.{calm_none, never_fills, pipe_emptied}
 use Rattle.amqp_world.proofs.Growth.{wrote_near, wrote_far, taken_near, taken_far, calls_near, calls_far, replied_near, replied_far, follows_near, follows_far, replied_grown, wrote_grown}
 use Rattle.amqp_world.proofs.Turns.{marked_link, stepped_mark, turned_wrote, turned_replied, turned_link}
 use Rattle.amqp_world.proofs.Form.{form_of}
-use Rattle.amqp_world.proofs.Nears.{moved_to, near_ran, near_rests, near_read, near_made, near_calm, near_meets, fair_turn}
+use Rattle.amqp_world.proofs.Nears.{grown_of, moved_to, near_ran, near_rests, near_read, near_made, near_calm, near_meets, fair_turn, faced_near, faced_far}
 use Rattle.amqp_world.proofs.Waiting.{stands_near, begins_near, layer_law, answered_law}
 use Rattle.amqp_world.proofs.Meeting.{meeting, nobody_before, honest_right}
 use Rattle.amqp_world.proofs.Gate.{gate_of}
@@ -66,8 +69,12 @@ kept_up near far count first ran h left e s has (inl active) = elim (s.settled a
 abbrev begun_first : Event → List Event → Local
 begun_first x past = begun x.step.at (length past) x.step.act
 
+-- a side with this history
+abbrev SideBy : (e f : End) → Peering Piped → List Event → List Local → Type 0
+SideBy e f p past h = (s : Side e f p past) × (s.h ≡ h)
+
 -- the end that made a step, whose history has the step's events
-pub side_near : (e f : End) (x : Event) (past : List Event) (p q p' q' : Peering Piped) → is_same e x.step.end ≡ true → is_same f x.step.end ≡ false → other e ≡ f → IsValidAct e past x.step.act → (near : Side e f p past) → Side f e q past → (t : Turned p q (length past) x.step.at x.step.act p' q' x.entry) → Side e f p' (x ∷ past)
+side_near : (e f : End) (x : Event) (past : List Event) (p q p' q' : Peering Piped) → is_same e x.step.end ≡ true → is_same f x.step.end ≡ false → other e ≡ f → IsValidAct e past x.step.act → (near : Side e f p past) → Side f e q past → (t : Turned p q (length past) x.step.at x.step.act p' q' x.entry) → SideBy e f p' (x ∷ past) (grown_of e f x past near t)
 side_near e f x past p q p' q' n m o v near far t =
     let name : ℕ = length past in
     let es : List Local = t.stepped.events in
@@ -97,30 +104,32 @@ side_near e f x past p q p' q' n m o v near far t =
       all = kept_up p k t.count (begun_first x past) t.ran h' (pipe_of p').input (ap (λ (z : Piped). z.input) same) t.stepped ran (spent_law t.ran h' ran rests);
     } in
     let made : made_in h' ≡ calls e (x ∷ past) = near_made e f x past p q p' q' n near t in
-    let meets : Meets h' far.h = near_meets e f x past p q p' q' o near far t in
-    record {
-      h = h';
-      has = subst (λ (z : Peering Piped). Has z h') (sym t.near_end) (has_taken t.ran h' ran);
-      made = made;
-      follows = follows_near e x past near.h h' n adds near.follows;
-      got = got;
-      sent = wrote_grown es near.h x.step.at name x.step.act ∙ ap (λ (u : List ℕ). wrote_in near.h ++ u) (turned_wrote p q p' q' name x.step.at x.step.act x.entry t) ∙ ap (λ (u : List ℕ). u ++ x.entry.wrote) near.sent ∙ sym (wrote_near e x past n);
-      answered = replied_grown es near.h x.step.at name x.step.act ∙ ap (λ (u : List NamedReply). replied_in near.h ++ u) (turned_replied p q p' q' name x.step.at x.step.act x.entry t near.empty) ∙ ap (λ (u : List NamedReply). u ++ x.entry.replies) near.answered ∙ sym (replied_near e x past n);
-      calm = near_calm e f x past p q p' q' near t;
-      unclosed = λ nobody. says_no_close h' far.h meets (said_law t.ran h' ran) (subst NoneCloses (sym made) (nobody e)) (far.unclosed (nobody_before x past nobody));
-      stands = subst (λ (u : List ℕ). Stands h' u) (sym (ap (λ (z : Piped). z.input) same)) (stands_near (given p k t.count) t.ran x.step.at name x.step.act near.h t.stepped rests ran);
-      begins = begins_near e x past (calls_near e x past n) near.begins v;
-      output = output ∙ ap (λ (u : List ℕ). u ++ x.entry.wrote) near.output ∙ sym (wrote_near e x past n);
-      mark = mark ∙ near.mark ∙ sym (taken_far f x past m);
-      bound = let more : length (pipe_of p').output ≡ length (pipe_of p).output + length x.entry.wrote = ap length output ∙ length-append (pipe_of p).output x.entry.wrote in omega (arith, near.bound);
-      empty = ap (λ (z : Peering Piped). z.replies) t.near_end;
-      begun = λ z. rests (subst (λ (y : Peering Piped). IsExchanged y.held) t.near_end z);
-      kind = ap (λ (z : Peering Piped). z.kind) t.near_end ∙ t.stepped.kind ∙ near.kind;
-      alive = t.alive ∙ near.alive;
-    }
+    let meets : Meets h' far.h = near_meets e f x past p q p' q' o near far t in (
+      record {
+        h = h';
+        has = subst (λ (z : Peering Piped). Has z h') (sym t.near_end) (has_taken t.ran h' ran);
+        made = made;
+        follows = follows_near e x past near.h h' n adds near.follows;
+        got = got;
+        sent = wrote_grown es near.h x.step.at name x.step.act ∙ ap (λ (u : List ℕ). wrote_in near.h ++ u) (turned_wrote p q p' q' name x.step.at x.step.act x.entry t) ∙ ap (λ (u : List ℕ). u ++ x.entry.wrote) near.sent ∙ sym (wrote_near e x past n);
+        answered = replied_grown es near.h x.step.at name x.step.act ∙ ap (λ (u : List NamedReply). replied_in near.h ++ u) (turned_replied p q p' q' name x.step.at x.step.act x.entry t near.empty) ∙ ap (λ (u : List NamedReply). u ++ x.entry.replies) near.answered ∙ sym (replied_near e x past n);
+        calm = near_calm e f x past p q p' q' near t;
+        unclosed = λ nobody. says_no_close h' far.h meets (said_law t.ran h' ran) (subst NoneCloses (sym made) (nobody e)) (far.unclosed (nobody_before x past nobody));
+        stands = subst (λ (u : List ℕ). Stands h' u) (sym (ap (λ (z : Piped). z.input) same)) (stands_near (given p k t.count) t.ran x.step.at name x.step.act near.h t.stepped rests ran);
+        begins = begins_near e x past (calls_near e x past n) near.begins v;
+        output = output ∙ ap (λ (u : List ℕ). u ++ x.entry.wrote) near.output ∙ sym (wrote_near e x past n);
+        mark = mark ∙ near.mark ∙ sym (taken_far f x past m);
+        bound = let more : length (pipe_of p').output ≡ length (pipe_of p).output + length x.entry.wrote = ap length output ∙ length-append (pipe_of p).output x.entry.wrote in omega (arith, near.bound);
+        empty = ap (λ (z : Peering Piped). z.replies) t.near_end;
+        begun = λ z. rests (subst (λ (y : Peering Piped). IsExchanged y.held) t.near_end z);
+        kind = ap (λ (z : Peering Piped). z.kind) t.near_end ∙ t.stepped.kind ∙ near.kind;
+        alive = t.alive ∙ near.alive;
+      },
+      refl,
+    )
 
 -- the other end
-pub side_far : (e f : End) (x : Event) (past : List Event) (p q p' q' : Peering Piped) → is_same e x.step.end ≡ true → is_same f x.step.end ≡ false → other e ≡ f → other f ≡ e → IsValidAct e past x.step.act → Side e f p past → Side f e q past → Turned p q (length past) x.step.at x.step.act p' q' x.entry → Side f e q' (x ∷ past)
+side_far : (e f : End) (x : Event) (past : List Event) (p q p' q' : Peering Piped) → is_same e x.step.end ≡ true → is_same f x.step.end ≡ false → other e ≡ f → other f ≡ e → IsValidAct e past x.step.act → Side e f p past → (far : Side f e q past) → Turned p q (length past) x.step.at x.step.act p' q' x.entry → SideBy f e q' (x ∷ past) far.h
 side_far e f x past p q p' q' n m o o' v near far t =
     let W : List ℕ = wrote f past in
     let k : Piped = pipe_of q in
@@ -133,29 +142,32 @@ side_far e f x past p q p' q' n m o o' v near far t =
     ∙ ap (λ (u : List ℕ). take (taken f past) u) (sym (wrote_near e x past n)) ∙ ap (λ (i : ℕ). take i (wrote e (x ∷ past))) (sym (taken_far f x past m))
     ∙ ap (λ (y : End). take (taken f (x ∷ past)) (wrote y (x ∷ past))) (sym o') in
     let link : pipe_of (marked q t.count) ≡ drained k t.count = marked_link q t.count in
-    subst (λ (z : Peering Piped). Side f e z (x ∷ past)) (sym t.far_end) (record {
-      h = far.h;
-      has = has_with_link q (drained k t.count) far.h far.has;
-      made = far.made ∙ sym (calls_far f x past m);
-      follows = follows_far f x past far.h m far.follows;
-      got = ap (λ (z : Piped). read_in far.h ++ z.input) link ∙ far.got ∙ same_read;
-      sent = far.sent ∙ sym (wrote_far f x past m);
-      answered = far.answered ∙ sym (replied_far f x past m);
-      calm = far.calm;
-      unclosed = λ nobody. far.unclosed (nobody_before x past nobody);
-      stands = subst (λ (z : Piped). Stands far.h z.input) (sym link) far.stands;
-      begins = subst (BeginsIn (kind_of f)) (sym (calls_far f x past m)) far.begins;
-      output = ap (λ (z : Piped). z.output) link ∙ far.output ∙ sym (wrote_far f x past m);
-      mark = ap (λ (z : Piped). z.mark) link ∙ to ∙ ap (λ (y : End). moved x.step.act (taken e past) (length (wrote y past))) (sym o) ∙ sym (taken_near e x past n);
-      bound = subst (λ (z : Piped). z.mark ≤ length z.output) (sym link) within;
-      empty = far.empty;
-      begun = exchanged_with_link q (drained k t.count) far.begun;
-      kind = far.kind;
-      alive = far.alive;
-    })
+    subst (λ (z : Peering Piped). SideBy f e z (x ∷ past) far.h) (sym t.far_end) (
+      record {
+        h = far.h;
+        has = has_with_link q (drained k t.count) far.h far.has;
+        made = far.made ∙ sym (calls_far f x past m);
+        follows = follows_far f x past far.h m far.follows;
+        got = ap (λ (z : Piped). read_in far.h ++ z.input) link ∙ far.got ∙ same_read;
+        sent = far.sent ∙ sym (wrote_far f x past m);
+        answered = far.answered ∙ sym (replied_far f x past m);
+        calm = far.calm;
+        unclosed = λ nobody. far.unclosed (nobody_before x past nobody);
+        stands = subst (λ (z : Piped). Stands far.h z.input) (sym link) far.stands;
+        begins = subst (BeginsIn (kind_of f)) (sym (calls_far f x past m)) far.begins;
+        output = ap (λ (z : Piped). z.output) link ∙ far.output ∙ sym (wrote_far f x past m);
+        mark = ap (λ (z : Piped). z.mark) link ∙ to ∙ ap (λ (y : End). moved x.step.act (taken e past) (length (wrote y past))) (sym o) ∙ sym (taken_near e x past n);
+        bound = subst (λ (z : Piped). z.mark ≤ length z.output) (sym link) within;
+        empty = far.empty;
+        begun = exchanged_with_link q (drained k t.count) far.begun;
+        kind = far.kind;
+        alive = far.alive;
+      },
+      refl,
+    )
 
 -- a side at the start
-pub side_start : (e f : End) → Side e f (fresh empty_pipe (kind_of e)) []
+side_start : (e f : End) → Side e f (fresh empty_pipe (kind_of e)) []
 side_start e f =
     let link : pipe_of (fresh empty_pipe (kind_of e)) ≡ empty_pipe = link_of-fresh empty_pipe empty_pipe (kind_of e) in
     record {
@@ -178,6 +190,11 @@ side_start e f =
       kind = refl;
       alive = refl;
     }
+
+-- both sides at the start
+pub sides_start : Sides (fresh empty_pipe (kind_of Client)) (fresh empty_pipe (kind_of Listener)) []
+unfolding side_start
+sides_start = record { client = side_start Client Listener; listener = side_start Listener Client; faced = faced_none []; far_faced = faced_none [] }
 
 -- what an end's own laws say of the past
 
@@ -234,17 +251,71 @@ side_still e f p q past o o' k n near far = record {
   far_answered = answered_law q far.h far.has;
 }
 
+-- both ends where their layers agree
+sides_agreed : (p q : Peering Piped) (past : List Event) (s : Sides p q past) → AreAgreeing past s.client.h s.listener.h → AreAgreed s.client.h s.listener.h (pipe_of p).input (pipe_of q).input
+sides_agreed p q past s a =
+    let near = s.client in
+    let far = s.listener in
+    let layers : Agree (layer_in (made_in near.h)) (layer_in (calls Listener past)) = subst (λ (cs : List (ℕ × peer_call.Call)). Agree (layer_in cs) (layer_in (calls Listener past))) (sym near.made) a.agreed in
+    record {
+      still = side_still Client Listener p q past refl refl (inl (near.begins, far.begins)) a.still near far;
+      called = subst (λ (cs : List (ℕ × peer_call.Call)). 1 ≤ length cs) (sym near.made) (a.called Client);
+      far_called = subst (λ (cs : List (ℕ × peer_call.Call)). 1 ≤ length cs) (sym far.made) (a.called Listener);
+      agreed = subst (λ (cs : List (ℕ × peer_call.Call)). Agree (layer_in (made_in near.h)) (layer_in cs)) (sym far.made) layers;
+      faced = s.faced;
+      far_faced = s.far_faced;
+      fit = a.fit;
+      far_fit = a.far_fit;
+      sound = a.sound;
+    }
+
 -- both ends have histories that explain their replies, and say what their calls wait for
-pub histories : (p q : Peering Piped) (past : List Event) → Side Client Listener p past → Side Listener Client q past → Histories past
+pub histories : (p q : Peering Piped) (past : List Event) → Sides p q past → Histories past
 unfolding side_history
-histories p q past client listener = record {
-  client = side_history Client Listener p q past refl refl client listener;
-  listener = side_history Listener Client q p past refl refl listener client;
+histories p q past s = record {
+  client = side_history Client Listener p q past refl refl s.client s.listener;
+  listener = side_history Listener Client q p past refl refl s.listener s.client;
   wants = λ n. (
-    wants client.h listener.h (pipe_of p).input (pipe_of q).input (side_still Client Listener p q past refl refl (inl (client.begins, listener.begins)) n client listener),
-    wants listener.h client.h (pipe_of q).input (pipe_of p).input (side_still Listener Client q p past refl refl (inr (listener.begins, client.begins)) n listener client),
+    wants s.client.h s.listener.h (pipe_of p).input (pipe_of q).input (side_still Client Listener p q past refl refl (inl (s.client.begins, s.listener.begins)) n s.client s.listener),
+    wants s.listener.h s.client.h (pipe_of q).input (pipe_of p).input (side_still Listener Client q p past refl refl (inr (s.listener.begins, s.client.begins)) n s.listener s.client),
   );
+  passes = λ a. both_through s.client.h s.listener.h (pipe_of p).input (pipe_of q).input (sides_agreed p q past s a);
 }
+
+-- ---- both ends behind a step
+
+facing : (h g h' g' : List Local) → h' ≡ h → g' ≡ g → FacedWhenTold h g → FacedWhenTold h' g'
+facing h g h' g' a b k = subst (λ (u : List Local). FacedWhenTold u g') (sym a) (subst (FacedWhenTold h) (sym b) k)
+
+-- the client made it
+pub sides_client : (x : Event) (past : List Event) (p q p' q' : Peering Piped) → x.step.end ≡ Client → IsValidAct Client past x.step.act → Sides p q past → Turned p q (length past) x.step.at x.step.act p' q' x.entry → Sides p' q' (x ∷ past)
+sides_client x past p q p' q' h v s t =
+    let n : is_same Client x.step.end ≡ true = ap (is_same Client) h in
+    let m : is_same Listener x.step.end ≡ false = ap (is_same Listener) h in
+    let near = side_near Client Listener x past p q p' q' n m refl v s.client s.listener t in
+    let far = side_far Client Listener x past p q p' q' n m refl refl v s.client s.listener t in
+    let grown = grown_of Client Listener x past s.client t in
+    record {
+      client = near.0;
+      listener = far.0;
+      faced = facing grown s.listener.h near.0.h far.0.h near.1 far.1 (faced_near Client Listener x past p q p' q' n refl refl (inl (near.0.begins, s.listener.begins)) s.client s.listener t s.faced);
+      far_faced = facing s.listener.h grown far.0.h near.0.h far.1 near.1 (faced_far Client Listener x past p q p' q' s.client s.listener t s.far_faced);
+    }
+
+-- the listener made it
+pub sides_listener : (x : Event) (past : List Event) (p q p' q' : Peering Piped) → x.step.end ≡ Listener → IsValidAct Listener past x.step.act → Sides p q past → Turned q p (length past) x.step.at x.step.act q' p' x.entry → Sides p' q' (x ∷ past)
+sides_listener x past p q p' q' h v s t =
+    let n : is_same Listener x.step.end ≡ true = ap (is_same Listener) h in
+    let m : is_same Client x.step.end ≡ false = ap (is_same Client) h in
+    let near = side_near Listener Client x past q p q' p' n m refl v s.listener s.client t in
+    let far = side_far Listener Client x past q p q' p' n m refl refl v s.listener s.client t in
+    let grown = grown_of Listener Client x past s.listener t in
+    record {
+      client = far.0;
+      listener = near.0;
+      faced = facing s.client.h grown far.0.h near.0.h far.1 near.1 (faced_far Listener Client x past q p q' p' s.listener s.client t s.faced);
+      far_faced = facing grown s.client.h near.0.h far.0.h near.1 far.1 (faced_near Listener Client x past q p q' p' n refl refl (inr (near.0.begins, s.client.begins)) s.listener s.client t s.far_faced);
+    }
 
 -- the replies of a step are honest
 honest_turn : (e f : End) (x : Event) (past : List Event) (p' q' : Peering Piped) → other e ≡ f → replied e (x ∷ past) ≡ replied e past ++ x.entry.replies → Side e f p' (x ∷ past) → Side f e q' (x ∷ past) → AllHonest x.entry.replies

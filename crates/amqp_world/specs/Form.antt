@@ -5,7 +5,7 @@ use Rattle.amqp_words.specs.declared.call.Call.TheVariants.{Open, Accept, Close}
 use Rattle.amqp_words.specs.declared.reply.Reply.{Reply}
 use Rattle.amqp_words.specs.declared.reply.Reply.TheVariants.{Pending, Connection, Closed, OpenError, ConnectionError}
 use Rattle.amqp_words.specs.declared.reply.NamedReply.{NamedReply}
-use Rattle.amqp_peer.specs.Replies.{answered, IsCloseEnd}
+use Rattle.amqp_peer.specs.Replies.{answered, texts_refused, IsCloseEnd}
 use Rattle.amqp_words.specs.declared.step.End.{End}
 use Rattle.amqp_words.specs.declared.step.Act.{Act}
 use Rattle.amqp_words.specs.declared.step.Act.TheVariants.{Take, TakeAll, Call}
@@ -21,10 +21,11 @@ abbrev pub AreNamed : List (ℕ × peer_call.Call) → List NamedReply → Type 
 AreNamed calls [] = ⊤
 AreNamed calls (r ∷ rs) = IsNamed calls r.name × AreNamed calls rs
 
--- what a call is replied first: an open or accept waits, and a close waits or has its answer at once
+-- what a call is replied first: an open or accept waits, or its user or password is refused at once, and a close waits or has its answer
+-- at once
 abbrev pub IsFirstReply : peer_call.Call → Reply → Type 0
-IsFirstReply (Open settings host sasl) r = r ≡ Pending
-IsFirstReply (Accept settings sasl) r = r ≡ Pending
+IsFirstReply (Open settings host sasl) r = (r ≡ Pending) ⊎ (r ≡ OpenError texts_refused)
+IsFirstReply (Accept settings sasl) r = (r ≡ Pending) ⊎ (r ≡ OpenError texts_refused)
 IsFirstReply (Close error) r = (r ≡ Pending) ⊎ IsCloseEnd r
 
 -- a call, whose name is its step's position, is replied to in its own step, before anything else is replied there

@@ -11,6 +11,7 @@ use Rattle.amqp_world.specs.History.{Event, wrote, taken, read, calls, replied, 
 use Rattle.amqp_world.specs.Valid.{kind_of}
 use Rattle.amqp_engine.specs.Heard.{AllUnclosed}
 use Rattle.amqp_ends.specs.Joined.{IsCalm}
+use Rattle.amqp_ends.specs.Passes.{FacedWhenTold}
 use Rattle.amqp_ends.specs.Quiet.{BeginsIn}
 use Rattle.amqp_ends.specs.Standing.{Stands}
 use Rattle.amqp_world.specs.Causes.{Follows, NobodyCloses}
@@ -40,14 +41,20 @@ pub record Side (e f : End) (p : Peering Piped) (past : List Event) : Type 0 whe
   pub kind : p.kind ≡ kind_of e
   pub alive : p.failed ≡ false
 
+-- Both ends are where the past leaves them. Each faced the other when it told of a negotiation that failed.
+pub record Sides (p q : Peering Piped) (past : List Event) : Type 0 where
+  pub client : Side Client Listener p past
+  pub listener : Side Listener Client q past
+  pub faced : FacedWhenTold client.h listener.h
+  pub far_faced : FacedWhenTold listener.h client.h
+
 abbrev pub past_in : Both → List Event
 past_in b = past_of b.steps b.trace.entries
 
 -- both ends are where the past leaves them, and the past is explained
 pub record Related (b : Both) : Type 0 where
   pub form : length b.steps ≡ length b.trace.entries
-  pub client : Side Client Listener b.client (past_in b)
-  pub listener : Side Listener Client b.listener (past_in b)
+  pub sides : Sides b.client b.listener (past_in b)
   pub explained : Explained (past_in b)
   pub moment : b.moment ≡ last_moment (past_in b)
 
