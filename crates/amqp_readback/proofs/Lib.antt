@@ -1,0 +1,5 @@
+pub mod Ranges
+pub mod Elements
+pub mod Spelled
+pub mod Values
+pub mod Bodies
