@@ -91,8 +91,8 @@ impl Described {
     pub fn try_clone(&self, alloc: Global) -> Result<Self, AllocError>
         ensures { IfOk result (λ d. d ≡ self.now) }
     {
-        let descriptor = self.descriptor.try_clone(alloc)?;
-        let value = self.value.try_clone(alloc)?;
+        let descriptor = self.parts.descriptor.try_clone(alloc)?;
+        let value = self.parts.value.try_clone(alloc)?;
         Described::new(alloc, descriptor, value)
     }
 }

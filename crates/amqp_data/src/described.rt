@@ -2,7 +2,7 @@
 ghost use Rattle.std.specs.Prelude.{◌≡◌, IfOk};
 ghost use Rattle.amqp_data.specs.View.{view};
 
-use crate::value::{Described, Value};
+use crate::value::{Described, DescribedParts, Value};
 use std::alloc::{AllocError, Global};
 
 impl Described {
@@ -10,23 +10,22 @@ impl Described {
     pub fn new(alloc: Global, descriptor: Value, value: Value) -> Result<Self, AllocError>
         ensures { IfOk result (λ d. d ≡ (view descriptor, view value)) }
     {
-        let descriptor = Box::new(alloc, descriptor)?;
-        let value = Box::new(alloc, value)?;
-        Ok(Described { descriptor, value })
+        let parts = Box::new(alloc, DescribedParts { descriptor, value })?;
+        Ok(Described { parts })
     }
 
     /// The descriptor, lent.
     pub fn descriptor(&self) -> &Value
         ensures { view result.now ≡ self.now.0 }
     {
-        &self.descriptor
+        &self.parts.descriptor
     }
 
     /// The value, lent.
     pub fn value(&self) -> &Value
         ensures { view result.now ≡ self.now.1 }
     {
-        &self.value
+        &self.parts.value
     }
 
     /// The descriptor and the value.
@@ -34,9 +33,7 @@ impl Described {
         ensures descriptor { view result.0 ≡ self.0 }
         ensures value { view result.1 ≡ self.1 }
     {
-        (
-            Box::into_inner(self.descriptor),
-            Box::into_inner(self.value),
-        )
+        let parts = Box::into_inner(self.parts);
+        (parts.descriptor, parts.value)
     }
 }

@@ -76,8 +76,8 @@ fn feed_map<H: Hasher>(map: &OrderedMap, state: &mut H)
 fn feed_described<H: Hasher>(described: &Described, state: &mut H)
     ensures { state.new ≡ fold H.write state.old (hashed described.now.0 ++ hashed described.now.1) }
 {
-    feed_value(&described.descriptor, state);
-    feed_value(&described.value, state)
+    feed_value(&described.parts.descriptor, state);
+    feed_value(&described.parts.value, state)
 }
 
 #[cycle(feed)]

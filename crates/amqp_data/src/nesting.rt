@@ -41,7 +41,8 @@ pub fn nests_within(value: &Value, levels: u8) -> bool
 fn described_within(described: &Described, levels: u8) -> bool
     ensures { IsTrue result ↔ max (depth described.now.0) (depth described.now.1) ≤ levels }
 {
-    nests_within(&described.descriptor, levels) && nests_within(&described.value, levels)
+    nests_within(&described.parts.descriptor, levels)
+        && nests_within(&described.parts.value, levels)
 }
 
 #[cycle(nests)]

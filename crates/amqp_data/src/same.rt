@@ -88,7 +88,8 @@ fn same_arrays(a: &ValueArray, b: &ValueArray) -> bool
 fn same_described(a: &Described, b: &Described) -> bool
     ensures { result ≡ (same a.now.0 b.now.0 && same a.now.1 b.now.1) }
 {
-    same_values(&a.descriptor, &b.descriptor) && same_values(&a.value, &b.value)
+    same_values(&a.parts.descriptor, &b.parts.descriptor)
+        && same_values(&a.parts.value, &b.parts.value)
 }
 
 #[cycle(same)]

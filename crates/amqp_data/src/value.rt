@@ -53,8 +53,15 @@ pub struct ValueArray {
 #[cycle(value)]
 #[derive(Debug, Drop)]
 pub struct Described {
-    pub(crate) descriptor: Box<Value>,
-    pub(crate) value: Box<Value>,
+    pub(crate) parts: Box<DescribedParts>,
+}
+
+/// A descriptor and the value behind it, in one place of memory.
+#[cycle(value)]
+#[derive(Debug, Drop)]
+pub(crate) struct DescribedParts {
+    pub(crate) descriptor: Value,
+    pub(crate) value: Value,
 }
 
 /// An AMQP value of any kind but float, double and the three decimals (sections 1.6.11 to 1.6.15), which are not supported.
@@ -165,7 +172,7 @@ impl Model for Described {
 
     ghost use Rattle.amqp_data.specs.View.{view as view_of};
 
-    ghost view = { λ a. (view_of a.descriptor.value, view_of a.value.value) };
+    ghost view = { λ a. (view_of a.parts.value.descriptor, view_of a.parts.value.value) };
 
     ghost size = { λ d. weight d.0 + weight d.1 };
 }

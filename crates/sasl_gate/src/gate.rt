@@ -8,13 +8,9 @@ pub mod error;
 pub mod exchange;
 pub mod init_client;
 pub mod init_server;
-#[cfg(test)]
-mod init_tests;
 pub mod init_texts;
 pub mod negotiation;
 pub mod profile;
 pub mod scram_client;
 pub mod scram_server;
 pub mod server;
-#[cfg(test)]
-mod tests;

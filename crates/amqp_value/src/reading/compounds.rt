@@ -11,6 +11,12 @@ use crate::reading::scalars::{read_scalar, read_string};
 use amqp_data::{Described, ElementKind, Entry, OrderedMap, Value, ValueArray, ValueList};
 use std::alloc::Global;
 
+/// The code of null (section 1.6.1).
+const NULL: u8 = 0x40;
+
+/// The code of a text whose length takes one octet (section 1.6.20).
+const SHORT_STRING: u8 = 0xa1;
+
 /// How many places are taken at once for what a count announces: the count alone is not trusted, since few bytes may follow it.
 fn first_places(count: u32) -> usize {
     if count < 64 { count as usize } else { 64 }
@@ -275,28 +281,31 @@ fn read_any(alloc: Global, bytes: &[u8], depth: u8) -> Result<(Value, &[u8]), Va
     read_body(alloc, code, rest, depth - 1)
 }
 
-/// The bytes after the constructor of a text whose length takes one octet, where they begin with that.
-fn after_short_string(bytes: &[u8]) -> Option<&[u8]>
-    ensures { IfSome result (λ rest. bytes.now ≡ 161 ∷ rest.now) }
+/// The bytes after a first octet with that code, where they begin with it.
+fn after_code(code: u8, bytes: &[u8]) -> Option<&[u8]>
+    ensures { IfSome result (λ rest. bytes.now ≡ code ∷ rest.now) }
 {
     match bytes {
-        [0xa1, rest @ ..] => Some(rest),
+        [first, rest @ ..] if *first == code => Some(rest),
         _ => None,
     }
 }
 
-/// The same, where a short text, as keys and their values often are, takes the shortest way: it is made in the caller's own
-/// place, and only what `read_any` reads is moved.
+/// What `read_any` reads. A short text, as keys and their values often are, and null take the shortest way: they are made in
+/// the caller's own place, and only what `read_any` reads is moved.
 #[cycle(read)]
 #[inline(always)]
 pub fn read_nested(alloc: Global, bytes: &[u8], depth: u8) -> Result<(Value, &[u8]), ValueError>
     ensures { Gives (λ x. (view x.0, x.1.now)) result (value_at depth bytes.now) }
 {
-    match after_short_string(bytes) {
-        Some(rest) if depth != 0 => read_string(alloc, SizeWidth::One, rest),
-        _ => {
-            let (found, rest) = read_any(alloc, bytes, depth)?;
-            Ok((found, rest))
+    if depth != 0 {
+        if let Some(rest) = after_code(SHORT_STRING, bytes) {
+            return read_string(alloc, SizeWidth::One, rest);
+        }
+        if let Some(rest) = after_code(NULL, bytes) {
+            return Ok((Value::Null, rest));
         }
     }
+    let (found, rest) = read_any(alloc, bytes, depth)?;
+    Ok((found, rest))
 }

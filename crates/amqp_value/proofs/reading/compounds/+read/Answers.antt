@@ -3,7 +3,7 @@ use Rattle.std.proofs.lemmas.Result.{err_from_is_err_and}
 use Rattle.amqp_value.specs.Reading.{items_at, pairs_at, value_at}
 use Rattle.amqp_value.proofs.Loops.{goes_on, ends, is_done, pairs_go_on, pairs_end, pairs_end_late, pairs_are_done}
 use Rattle.amqp_data.specs.declared.value.Entry.{Entry}
-use Rattle.amqp_value.proofs.Front.{short_text}
+use Rattle.amqp_value.proofs.Front.{short_text, null_first}
 use Rattle.amqp_value.proofs.reading.compounds.+read.Goals as goal
 
 pub read_items-returns-in_err-found : goal.read_items-returns-in_err-found
@@ -40,3 +40,6 @@ read_pairs-returns t c = pairs_are_done (value_at c.args.depth) c.pairs.entries.
 
 pub read_nested-returns-in-Some : goal.read_nested-returns-in-Some
 read_nested-returns-in-Some t c = rw (short_text c.args.depth c.args.bytes.now c.in-Some.rest.now c.if-depth-ne0.true c.in-Some.ensures) c.read_string.ensures
+
+pub read_nested-returns-in-Some-after_code : goal.read_nested-returns-in-Some-after_code
+read_nested-returns-in-Some-after_code t c = null_first c.args.depth c.args.bytes.now c.in-Some-after_code.rest.now c.if-depth-ne0.true c.in-Some-after_code.ensures

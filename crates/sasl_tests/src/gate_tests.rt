@@ -3,10 +3,10 @@ ghost use Rattle.sasl_gate.specs.AnyServer.{HasMechanism};
 ghost use Rattle.sasl_gate.specs.Credentials.{credentials_of, scram};
 ghost use Rattle.sasl_gate.specs.Profile.{IsNonce};
 
-use crate::scram::profile::is_nonce;
-use crate::{
-    ClientGate, GatePoll, NegotiationError, NoUsers, OneUser, SaslAcceptor, SaslProfile, ScramHash,
-    ServerGate, StoredPassword, poll_client, poll_server,
+use sasl_gate::scram::profile::is_nonce;
+use sasl_gate::{
+    ClientGate, GatePoll, NegotiationError, NoUsers, OneUser, SaslAcceptor, SaslProfile,
+    ScramErrorKind, ScramHash, ServerGate, StoredPassword, poll_client, poll_server,
 };
 use amqp_text::Text;
 use amqp_wire::codec::FramedCodec;
@@ -219,5 +219,79 @@ fn client_refuses_a_header(rt: HostRuntime) -> Result<(), Fail> {
     }
     let link = gate.abandon().into_link();
     assert!(rt; link.output() == b"AMQP\x03\x01\x00\x00".as_slice());
+    Ok(())
+}
+
+// The gate of a client that has sent its response and read these bytes behind the challenge.
+fn told(rt: &impl Abort, alloc: Global, bytes: &[u8]) -> Result<ClientGate<Pipe>, Fail> {
+    let talk = sha_1();
+    let mut gate = client_gate(rt, alloc, talk.hash, talk.client_nonce)?;
+    for (_, answers) in [talk.rows[0], talk.rows[1]] {
+        gate.link().give(answers)?;
+    }
+    assert_eq!(rt; poll_client(&mut gate, 0)?, GatePoll::Pending);
+    assert_eq!(rt; gate.link().output().len(), talk.client_writes);
+    gate.link().give(bytes)?;
+    Ok(gate)
+}
+
+// The server final of RFC 5802, section 5, as a challenge (part 5, section 5.3.3.3).
+const FINAL_IN_CHALLENGE: &[u8] =
+    b"\x00\x00\x00\x2e\x02\x01\x00\x00\x00\x53\x42\xc0\x21\x01\xa0\x1ev=rmF9pqV8S7suAoZWja4dJRkFsKQ=";
+
+// The same with another signature.
+const OTHER_IN_CHALLENGE: &[u8] =
+    b"\x00\x00\x00\x2e\x02\x01\x00\x00\x00\x53\x42\xc0\x21\x01\xa0\x1ev=smF9pqV8S7suAoZWja4dJRkFsKQ=";
+
+// Outcome `Ok` without data (part 5, section 5.3.3.5).
+const OK_ALONE: &[u8] = b"\x00\x00\x00\x10\x02\x01\x00\x00\x00\x53\x44\xc0\x03\x01\x50\x00";
+
+#[test]
+fn client_takes_a_final_in_a_challenge(rt: HostRuntime) -> Result<(), Fail> {
+    let mut gate = told(&rt, rt.alloc(), FINAL_IN_CHALLENGE)?;
+    assert_eq!(rt; poll_client(&mut gate, 0)?, GatePoll::Pending);
+    let empty: &[u8] = b"\x00\x00\x00\x10\x02\x01\x00\x00\x00\x53\x43\xc0\x03\x01\xa0\x00";
+    assert!(rt; gate.link().output().ends_with(empty));
+    gate.link().give(OK_ALONE)?;
+    assert_eq!(rt; poll_client(&mut gate, 0)?, GatePoll::Passed);
+    Ok(())
+}
+
+// Another signature in a challenge.
+#[test]
+fn client_refuses_another_final_in_a_challenge(rt: HostRuntime) -> Result<(), Fail> {
+    let mut gate = told(&rt, rt.alloc(), OTHER_IN_CHALLENGE)?;
+    assert!(rt;
+        matches!(
+            poll_client(&mut gate, 0),
+            Err(NegotiationError::ScramError(ScramErrorKind::Signature))
+        )
+    );
+    Ok(())
+}
+
+#[test]
+fn client_refuses_a_challenge_behind_the_final(rt: HostRuntime) -> Result<(), Fail> {
+    let mut gate = told(&rt, rt.alloc(), FINAL_IN_CHALLENGE)?;
+    gate.link().give(FINAL_IN_CHALLENGE)?;
+    assert!(rt;
+        matches!(
+            poll_client(&mut gate, 0),
+            Err(NegotiationError::IllegalState)
+        )
+    );
+    Ok(())
+}
+
+// Outcome `Ok` without a signature.
+#[test]
+fn client_refuses_ok_without_a_signature(rt: HostRuntime) -> Result<(), Fail> {
+    let mut gate = told(&rt, rt.alloc(), OK_ALONE)?;
+    assert!(rt;
+        matches!(
+            poll_client(&mut gate, 0),
+            Err(NegotiationError::ScramError(ScramErrorKind::Signature))
+        )
+    );
     Ok(())
 }
