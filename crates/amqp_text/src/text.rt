@@ -2,9 +2,10 @@
 ghost use Rattle.std.specs.Prelude.{◌≡◌, ◌↔◌, List, ℕ, [], length, IsUtf8, IsTrue, IfOk, IfErr, IfSome, IfNone, IsErrOf};
 ghost use Rattle.amqp_text.specs.declared.text.TextError.{TextError};
 ghost use Rattle.amqp_text.specs.declared.text.TextError.TheVariants.{Memory, NotUtf8};
-ghost use Rattle.std.specs.String.{string_bytes};
 
+use smallvec::SmallVec;
 use std::alloc::{AllocError, Global};
+use std::fmt::{self, Debug, Formatter};
 use std::marker::Model;
 use std::str;
 use thiserror::Error;
@@ -28,19 +29,30 @@ impl From<AllocError> for TextError {
     }
 }
 
+/// How many bytes a text holds in its own place, without memory of its own.
+const SHORT: usize = 16;
+
 /// A text, seen as the list of its bytes, which are UTF-8.
-#[derive(Debug, Drop)]
 pub struct Text {
-    text: String,
+    bytes: SmallVec<u8, SHORT>,
+}
+
+// A text is let go by a call, so that no caller sees where its bytes lie.
+impl Drop for Text {
+    fn drop(self) {
+        let Text { bytes } = self;
+        drop(bytes);
+    }
 }
 
 impl Model for Text {
-    ghost use Rattle.std.specs.Prelude.{List, ℕ};
-    ghost use Rattle.std.specs.String.{string_bytes};
+    ghost use Rattle.std.specs.Prelude.{List, ℕ, IsUtf8};
 
     ghost Value = { List ℕ };
 
-    ghost view = { λ t. string_bytes t.text };
+    ghost view = { λ t. t.bytes.items };
+
+    ghost invariant = { λ t. IsUtf8 t.bytes.items };
 }
 
 // The text that bytes spell, if they are UTF-8. ASCII is told by a shorter test.
@@ -64,7 +76,7 @@ impl Text {
         ensures { result ≡ [] }
     {
         Text {
-            text: String::new(alloc),
+            bytes: SmallVec::new(alloc),
         }
     }
 
@@ -72,8 +84,8 @@ impl Text {
     pub fn from_str(alloc: Global, text: &str) -> Result<Self, AllocError>
         ensures { IfOk result (λ t. t ≡ text.now) }
     {
-        let text = String::from_str(alloc, text)?;
-        Ok(Text { text })
+        let bytes = SmallVec::from_slice(alloc, text.as_bytes())?;
+        Ok(Text { bytes })
     }
 
     /// The text that `bytes` spell: `NotUtf8` exactly where they are no UTF-8.
@@ -95,21 +107,21 @@ impl Text {
     pub fn as_str(&self) -> &str
         ensures { result.now ≡ self.now }
     {
-        self.text.as_str()
+        unsafe { str::from_utf8_unchecked(self.bytes.as_slice()) }
     }
 
     /// The text's bytes, lent.
     pub fn as_bytes(&self) -> &[u8]
         ensures { result.now ≡ self.now }
     {
-        self.text.as_bytes()
+        self.bytes.as_slice()
     }
 
     /// The number of bytes.
     pub fn len(&self) -> usize
         ensures { result ≡ length self.now }
     {
-        self.text.as_bytes().len()
+        self.bytes.len()
     }
 
     /// A copy; the one error is want of memory.
@@ -117,5 +129,11 @@ impl Text {
         ensures { IfOk result (λ t. t ≡ self.now) }
     {
         Text::from_str(alloc, self.as_str())
+    }
+}
+
+impl Debug for Text {
+    fn fmt<W: fmt::Write>(&self, f: &mut Formatter<W>) -> fmt::Result {
+        self.as_str().fmt(f)
     }
 }
