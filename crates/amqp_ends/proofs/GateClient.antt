@@ -78,21 +78,25 @@ module _ (p : SaslProfile) (hostname : Option (List ℕ)) (a : AcceptSasl) (x : 
 
     collision : mechanism_of_call near ≡ mechanism_of_call far → (z : ServerEnd Account) (user password other : List ℕ) → y ≡ server.Scram z → server_turn z ≡ Pass
         → account_of_call near ≡ Some (user, password) → account_of_call far ≡ Some (user, other) → password ≢ other → IsCollision near far
-    collision same z user password other is passes u v q = record {
-      same_mechanism = same;
-      user = user;
-      password = password;
-      other = other;
-      account = u;
-      far_account = v;
-      other_password = q;
-      y = z;
-      made = subst (λ (k : Listening). IsListenerMade (admission_of a) k) is n;
-      given = gl;
-      sent = sl;
-      held = subst (λ (k : Listening). any_server_holds passwords_for stored_for k gl sl) is held';
-      passes = passes;
-    }
+    collision same z user password other is passes u v q =
+        let f = heard_first (read_of events) tc al gc sl i s in
+        let k = heard_first lr tl ac gl sc h t in
+        record {
+          same_mechanism = same;
+          user = user;
+          password = password;
+          other = other;
+          account = u;
+          far_account = v;
+          other_password = q;
+          y = z;
+          made = subst (λ (k : Listening). IsListenerMade (admission_of a) k) is n;
+          given = gl;
+          sent = sl;
+          held = subst (λ (k : Listening). any_server_holds passwords_for stored_for k gl sl) is held';
+          joined = record { y = Client x; made = m; far_given = gc; far_sent = sc; held = held; to_near = k.0; reads = sym k.1; to_far = f.0; far_reads = sym f.1 };
+          passes = passes;
+        }
 
     refused : mechanism_of_call near ≡ mechanism_of_call far → ClientRefusal (credentials_of p) (admission_of a) y e → Fair e
     refused same (told is other) = subst Fair (sym is) (refl, refl, (same, other))

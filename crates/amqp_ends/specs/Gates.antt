@@ -74,24 +74,7 @@ abbrev pub LacksMechanism : SaslCall → SaslCall → Type 0
 LacksMechanism (layer.Client p hostname) d = AreOtherMechanisms (layer.Client p hostname) d
 LacksMechanism (layer.Listener a) d = ⊥
 
--- A listener with SCRAM passes a client of the same mechanism and the same user with another password: it took a proof that another key
--- made (RFC 5802, section 3), as only a collision of the hash lets it.
-pub record IsCollision (client listener : SaslCall) : Type 0 where
-  pub same_mechanism : mechanism_of_call client ≡ mechanism_of_call listener
-  pub user : List ℕ
-  pub password : List ℕ
-  pub other : List ℕ
-  pub account : account_of_call client ≡ Some (user, password)
-  pub far_account : account_of_call listener ≡ Some (user, other)
-  pub other_password : password ≢ other
-  pub y : ServerEnd Account
-  pub made : MadeFor listener (ListenerExchange (server.Scram y))
-  pub given : List SaslBody
-  pub sent : List SaslBody
-  pub held : server_holds stored_for y given sent
-  pub passes : server_turn y ≡ Pass
-
--- ---- a body that has no frame
+-- ---- two exchanges that are joined
 
 -- An exchange of this layer that is joined to another: the bodies that the other was given are the first of those that this one sent, and
 -- of the bodies that the other sent, this one was given the first.
@@ -105,6 +88,26 @@ pub record IsJoinedTo (d : SaslCall) (given sent : List SaslBody) : Type 0 where
   pub reads : given ++ to_near ≡ far_sent
   pub to_far : List SaslBody
   pub far_reads : far_given ++ to_far ≡ sent
+
+-- A listener with SCRAM passes a client of the same mechanism and the same user with another password: the proof that it took is one that
+-- this client made with its own password (RFC 5802, section 3).
+pub record IsCollision (client listener : SaslCall) : Type 0 where
+  pub same_mechanism : mechanism_of_call client ≡ mechanism_of_call listener
+  pub user : List ℕ
+  pub password : List ℕ
+  pub other : List ℕ
+  pub account : account_of_call client ≡ Some (user, password)
+  pub far_account : account_of_call listener ≡ Some (user, other)
+  pub other_password : password ≢ other
+  pub y : ServerEnd Account
+  pub made : MadeFor listener (ListenerExchange (server.Scram y))
+  pub given : List SaslBody
+  pub sent : List SaslBody
+  pub held : server_holds stored_for y given sent
+  pub joined : IsJoinedTo client given sent
+  pub passes : server_turn y ≡ Pass
+
+-- ---- a body that has no frame
 
 -- the bodies that an exchange was given and sent, where its peer has this layer or none: it was given nothing, or what such a peer says
 abbrev pub MayHear : Option SaslCall → List SaslBody → List SaslBody → Type 0

@@ -12,6 +12,7 @@ use amqp_composites::flow::Flow;
 use amqp_composites::transfer::Transfer;
 use amqp_data::Binary;
 use bytes::Bytes;
+use std::alloc::AllocError;
 use thiserror::Error;
 
 /// A frame of a session: any body but an Open, a Close or none.
@@ -155,6 +156,9 @@ pub enum SessionStopReason {
 /// Why a session has no place for a link.
 #[derive(Debug, Drop, Error)]
 pub enum AllocLinkError {
+    /// There was not enough memory.
+    #[error("Memory")]
+    Memory(AllocError),
     /// The session has stopped.
     #[error("SessionStopped")]
     SessionStopped(SessionStopReason),
@@ -167,4 +171,14 @@ pub enum AllocLinkError {
     /// Each handle is taken.
     #[error("HandleMaxReached")]
     HandleMaxReached,
+}
+
+impl From<AllocError> for AllocLinkError {
+    ghost use Rattle.amqp_frames.specs.declared.shared.AllocLinkError.TheVariants.{Memory};
+
+    ghost from_gives = { λ a e. e ≡ Memory a };
+
+    fn from(error: AllocError) -> Self {
+        AllocLinkError::Memory(error)
+    }
 }

@@ -29,9 +29,9 @@ pub enum Body {
     Empty,
 }
 
-/// A message with a body of the type `T`.
+/// A message with a body of the type `T`: where none is named, any body.
 #[derive(Debug, Drop)]
-pub struct Message<T> {
+pub struct Message<T = Body> {
     /// How it is to be carried (section 3.2.1).
     pub header: Option<Header>,
     /// What is said to the next node alone (section 3.2.2).

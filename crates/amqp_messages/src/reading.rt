@@ -74,7 +74,7 @@ fn read_rest(alloc: Global, mut sections: Sections) -> Result<Rest, BaseError>
 }
 
 #[tactic(auto, unfolding(crate::specs::Reading::message_in))]
-fn read_sections(alloc: Global, mut sections: Sections) -> Result<Message<Body>, BaseError>
+fn read_sections(alloc: Global, mut sections: Sections) -> Result<Message, BaseError>
     ensures { GivesSeen result (message_in (left sections)) }
 {
     let head = read_head(alloc, &mut sections)?;
@@ -93,7 +93,7 @@ fn read_sections(alloc: Global, mut sections: Sections) -> Result<Message<Body>,
 
 /// The message that the whole input spells: `Decode` exactly where it spells none. Each section is in its place and comes at
 /// most once, but for data and sequences, and nothing follows the last.
-pub fn decode_message(alloc: Global, input: &[u8]) -> Result<Message<Body>, BaseError>
+pub fn decode_message(alloc: Global, input: &[u8]) -> Result<Message, BaseError>
     ensures { IsTheMessage result (SpellsMessage input.now) }
 {
     let values = read_whole(alloc, input, SECTION_LEVELS)?;

@@ -58,7 +58,7 @@ fn put_sections<T: Content>(
     put_each(alloc, out, kind, &sections.rest)
 }
 
-fn put_head(alloc: Global, out: &mut Binary, message: &Message<Body>) -> Result<(), BaseError>
+fn put_head(alloc: Global, out: &mut Binary, message: &Message) -> Result<(), BaseError>
     ensures adds { AddsAll result out.old out.new (head_items message.now) }
     ensures delivery { OnOk result (IsValid (HasKeys is_annotation) message.now.delivery_annotations) }
     ensures message { OnOk result (IsValid (HasKeys is_annotation) message.now.message_annotations) }
@@ -78,7 +78,7 @@ fn put_head(alloc: Global, out: &mut Binary, message: &Message<Body>) -> Result<
     )
 }
 
-fn put_about(alloc: Global, out: &mut Binary, message: &Message<Body>) -> Result<(), BaseError>
+fn put_about(alloc: Global, out: &mut Binary, message: &Message) -> Result<(), BaseError>
     ensures adds { AddsAll result out.old out.new (about_items message.now) }
     ensures application { OnOk result (IsValid (HasKeys is_string) message.now.application_properties) }
 {
@@ -102,7 +102,7 @@ fn put_body(alloc: Global, out: &mut Binary, body: &Body) -> Result<(), BaseErro
     }
 }
 
-fn put_rest(alloc: Global, out: &mut Binary, message: &Message<Body>) -> Result<(), BaseError>
+fn put_rest(alloc: Global, out: &mut Binary, message: &Message) -> Result<(), BaseError>
     ensures adds { AddsAll result out.old out.new (rest_items (seen message.now)) }
     ensures footer { OnOk result (IsValid (HasKeys is_annotation) message.now.footer) }
 {
@@ -110,7 +110,7 @@ fn put_rest(alloc: Global, out: &mut Binary, message: &Message<Body>) -> Result<
     put_optional(alloc, out, SectionKind::Footer, &message.footer)
 }
 
-fn put_message(alloc: Global, out: &mut Binary, message: &Message<Body>) -> Result<(), BaseError>
+fn put_message(alloc: Global, out: &mut Binary, message: &Message) -> Result<(), BaseError>
     ensures adds { AddsAll result out.old out.new (message_items (seen message.now)) }
     ensures valid { OnOk result (IsMessageValid (seen message.now)) }
 {
@@ -130,7 +130,7 @@ fn first_room(body: &Body) -> usize {
 
 /// The one spelling of the message that is written, each section that it has in its place: `Size` exactly where what a section
 /// holds is nested more than 32 deep or a length needs more than 32 bits.
-pub fn encode_message(alloc: Global, message: &Message<Body>) -> Result<Binary, BaseError>
+pub fn encode_message(alloc: Global, message: &Message) -> Result<Binary, BaseError>
     ensures bytes { Encodes result (message_items (seen message.now)) }
     ensures spelled { IfOk result (λ bytes. SpellsMessage bytes (seen message.now)) }
 {
