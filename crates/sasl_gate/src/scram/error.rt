@@ -6,7 +6,8 @@ ghost use Rattle.sasl_gate.specs.declared.scram.error.ScramErrorKind.TheVariants
 use std::alloc::AllocError;
 use thiserror::Error;
 
-/// Why an end of SCRAM (RFC 5802) refuses. The checks of one text come in the order of the variants.
+/// Why an end of SCRAM (RFC 5802) refuses. The checks of one text come in the order of the variants, but for `Malformed`, which comes
+/// before `TextNotAllowed`: a text without its form names no user.
 #[derive(Clone, Copy, Debug, PartialEq, Eq, Error)]
 pub enum ScramErrorKind {
     /// There was not enough memory; the call may be made again.
