@@ -3,14 +3,15 @@ ghost use Rattle.sasl_gate.specs.AnyServer.{HasMechanism};
 ghost use Rattle.sasl_gate.specs.Credentials.{credentials_of, scram};
 ghost use Rattle.sasl_gate.specs.Profile.{IsNonce};
 
+use amqp_composites::sasl_code::SaslCode;
+use amqp_text::Text;
+use amqp_wire::codec::FramedCodec;
+use amqp_wire::pipe::Pipe;
 use sasl_gate::scram::profile::is_nonce;
 use sasl_gate::{
     ClientGate, GatePoll, NegotiationError, NoUsers, OneUser, SaslAcceptor, SaslProfile,
     ScramErrorKind, ScramHash, ServerGate, StoredPassword, poll_client, poll_server,
 };
-use amqp_text::Text;
-use amqp_wire::codec::FramedCodec;
-use amqp_wire::pipe::Pipe;
 use std::alloc::Global;
 use std::process::Abort;
 use std::test::Fail;
@@ -293,5 +294,151 @@ fn client_refuses_ok_without_a_signature(rt: HostRuntime) -> Result<(), Fail> {
             Err(NegotiationError::ScramError(ScramErrorKind::Signature))
         )
     );
+    Ok(())
+}
+
+// Outcomes `Auth` and `Sys` without data (part 5, section 5.3.3.6).
+const AUTH_ALONE: &[u8] = b"\x00\x00\x00\x10\x02\x01\x00\x00\x00\x53\x44\xc0\x03\x01\x50\x01";
+
+const SYS_ALONE: &[u8] = b"\x00\x00\x00\x10\x02\x01\x00\x00\x00\x53\x44\xc0\x03\x01\x50\x02";
+
+// A listener with SCRAM-SHA-1 that has read the header and this frame, or none.
+fn heard(
+    rt: &impl Abort,
+    alloc: Global,
+    frame: &[u8],
+) -> Result<ServerGate<Pipe, NoUsers, OneUser>, Fail> {
+    let mut gate = server_gate(rt, alloc, &sha_1())?;
+    gate.link().give(b"AMQP\x03\x01\x00\x00")?;
+    gate.link().give(frame)?;
+    assert_eq!(rt; poll_server(&mut gate, 0)?, GatePoll::Pending);
+    Ok(gate)
+}
+
+// A listener answers that it has told this code.
+fn tells(rt: &impl Abort, answer: Result<GatePoll, NegotiationError>, wanted: SaslCode) {
+    match answer {
+        Err(
+            NegotiationError::SaslError {
+                code,
+                additional_data: None,
+            },
+        ) => assert_eq!(rt; code, wanted),
+        _ => assert!(rt; false),
+    }
+}
+
+// Such a listener refuses a body in the place of an init with this code, and tells it in this outcome.
+fn refuses_first(
+    rt: &impl Abort,
+    alloc: Global,
+    body: &[u8],
+    code: SaslCode,
+    outcome: &[u8],
+) -> Result<(), Fail> {
+    let mut gate = heard(rt, alloc, b"")?;
+    gate.link().give(body)?;
+    tells(rt, poll_server(&mut gate, 0), code);
+    assert!(rt; gate.link().output().ends_with(outcome));
+    assert_eq!(rt; gate.link().output().len(), 8 + 30 + 16);
+    Ok(())
+}
+
+// The same in the place of a response.
+fn refuses_then(
+    rt: &impl Abort,
+    alloc: Global,
+    body: &[u8],
+    code: SaslCode,
+    outcome: &[u8],
+) -> Result<(), Fail> {
+    let [_, (init, _), _] = sha_1().rows;
+    let mut gate = heard(rt, alloc, init)?;
+    gate.link().give(body)?;
+    tells(rt, poll_server(&mut gate, 0), code);
+    assert!(rt; gate.link().output().ends_with(outcome));
+    assert_eq!(rt; gate.link().output().len(), 8 + 30 + 86 + 16);
+    Ok(())
+}
+
+// In turn: an init of SCRAM-SHA-256, one of PLAIN with the right password, one of ANONYMOUS, one of SCRAM-SHA-1 without
+// a client first, and one with a user that the listener does not have.
+const OTHER_INITS: [&[u8]; 5] = [
+    b"\x00\x00\x00\x43\x02\x01\x00\x00\x00\x53\x41\xc0\x36\x02\xa3\x0dSCRAM-SHA-256\xa0\x24n,,n=user,r=fyko+d2lbbFgONRv9qkxdawL",
+    b"\x00\x00\x00\x23\x02\x01\x00\x00\x00\x53\x41\xc0\x16\x02\xa3\x05PLAIN\xa0\x0c\x00user\x00pencil",
+    b"\x00\x00\x00\x19\x02\x01\x00\x00\x00\x53\x41\xc0\x0c\x01\xa3\x09ANONYMOUS",
+    b"\x00\x00\x00\x1b\x02\x01\x00\x00\x00\x53\x41\xc0\x0e\x01\xa3\x0bSCRAM-SHA-1",
+    b"\x00\x00\x00\x41\x02\x01\x00\x00\x00\x53\x41\xc0\x34\x02\xa3\x0bSCRAM-SHA-1\xa0\x24n,,n=usex,r=fyko+d2lbbFgONRv9qkxdawL",
+];
+
+// In turn: a response with another nonce, one with another proof, and an empty one.
+const OTHER_RESPONSES: [&[u8]; 3] = [
+    b"\x00\x00\x00\x62\x02\x01\x00\x00\x00\x53\x43\xc0\x55\x01\xa0\x52c=biws,r=fyko+d2lbbFgONRv9qkxdawL3rfcNHYJY1ZVvWVs7k,p=v0X8v3Bz2T0CJGbJQyF0X+HI4Ts=",
+    b"\x00\x00\x00\x62\x02\x01\x00\x00\x00\x53\x43\xc0\x55\x01\xa0\x52c=biws,r=fyko+d2lbbFgONRv9qkxdawL3rfcNHYJY1ZVvWVs7j,p=w0X8v3Bz2T0CJGbJQyF0X+HI4Ts=",
+    b"\x00\x00\x00\x10\x02\x01\x00\x00\x00\x53\x43\xc0\x03\x01\xa0\x00",
+];
+
+// The bodies that no client sends: a list of mechanisms, a challenge, and an outcome.
+const OF_A_LISTENER: [&[u8]; 3] = [
+    b"\x00\x00\x00\x1e\x02\x01\x00\x00\x00\x53\x40\xc0\x11\x01\xe0\x0e\x01\xa3\x0bSCRAM-SHA-1",
+    b"\x00\x00\x00\x56\x02\x01\x00\x00\x00\x53\x42\xc0\x49\x01\xa0\x46r=fyko+d2lbbFgONRv9qkxdawL3rfcNHYJY1ZVvWVs7j,s=QSXCR+Q6sek8bf92,i=4096",
+    OK_ALONE,
+];
+
+#[test]
+fn scram_refuses(rt: HostRuntime) -> Result<(), Fail> {
+    let [_, (init, _), (response, _)] = sha_1().rows;
+    for body in OTHER_INITS {
+        refuses_first(&rt, rt.alloc(), body, SaslCode::Auth, AUTH_ALONE)?;
+    }
+    for body in OTHER_RESPONSES {
+        refuses_then(&rt, rt.alloc(), body, SaslCode::Auth, AUTH_ALONE)?;
+    }
+    for body in OF_A_LISTENER {
+        refuses_first(&rt, rt.alloc(), body, SaslCode::Sys, SYS_ALONE)?;
+        refuses_then(&rt, rt.alloc(), body, SaslCode::Sys, SYS_ALONE)?;
+    }
+    // A response before the init, and a second init.
+    refuses_first(&rt, rt.alloc(), response, SaslCode::Auth, AUTH_ALONE)?;
+    refuses_then(&rt, rt.alloc(), init, SaslCode::Auth, AUTH_ALONE)
+}
+
+// A listener that has refused answers the same where the right bodies follow, and writes nothing more.
+#[test]
+fn listener_stays_failed(rt: HostRuntime) -> Result<(), Fail> {
+    let [_, (init, _), (response, _)] = sha_1().rows;
+    let mut gate = heard(&rt, rt.alloc(), b"")?;
+    gate.link().give(response)?;
+    for body in [b"".as_slice(), init, response] {
+        tells(&rt, poll_server(&mut gate, 0), SaslCode::Auth);
+        assert_eq!(rt; gate.link().output().len(), 8 + 30 + 16);
+        gate.link().give(body)?;
+    }
+    tells(&rt, poll_server(&mut gate, 1), SaslCode::Auth);
+    assert_eq!(rt; gate.link().output().len(), 8 + 30 + 16);
+    Ok(())
+}
+
+// A client that has refused a signature answers the same where the right one follows, and writes nothing more.
+#[test]
+fn client_stays_failed(rt: HostRuntime) -> Result<(), Fail> {
+    let mut gate = told(&rt, rt.alloc(), OTHER_IN_CHALLENGE)?;
+    for body in [b"".as_slice(), FINAL_IN_CHALLENGE, OK_ALONE] {
+        assert!(rt;
+            matches!(
+                poll_client(&mut gate, 0),
+                Err(NegotiationError::ScramError(ScramErrorKind::Signature))
+            )
+        );
+        assert_eq!(rt; gate.link().output().len(), sha_1().client_writes);
+        gate.link().give(body)?;
+    }
+    assert!(rt;
+        matches!(
+            poll_client(&mut gate, 1),
+            Err(NegotiationError::ScramError(ScramErrorKind::Signature))
+        )
+    );
+    assert_eq!(rt; gate.link().output().len(), sha_1().client_writes);
     Ok(())
 }

@@ -3,14 +3,14 @@ ghost use Rattle.std.specs.Str.{bytes_eq};
 ghost use Rattle.sasl_gate.specs.AnyServer.{HasMechanism};
 ghost use Rattle.sasl_gate.specs.Credentials.{credentials_of, HasNonce};
 
-use sasl_gate::{
-    ClientGate, GatePoll, NegotiationError, NoUsers, OneUser, PlainCredentialProvider,
-    SaslAcceptor, SaslProfile, ServerGate, poll_client, poll_server,
-};
 use amqp_composites::sasl_code::SaslCode;
 use amqp_text::Text;
 use amqp_wire::codec::FramedCodec;
 use amqp_wire::pipe::Pipe;
+use sasl_gate::{
+    ClientGate, GatePoll, NegotiationError, NoUsers, OneUser, PlainCredentialProvider,
+    SaslAcceptor, SaslProfile, ServerGate, poll_client, poll_server,
+};
 use std::alloc::Global;
 use std::process::Abort;
 use std::test::Fail;
