@@ -12,7 +12,7 @@ use Rattle.amqp_composites.specs.declared.modes.ReceiverSettleMode.TheVariants a
 use Rattle.amqp_composites.specs.Modes.{of_receiver_mode, of_role, of_sender_mode, receiver_mode_field, receiver_mode_in, receiver_modes_are, role_field, role_in, same_receiver_mode, same_sender_mode, sender_mode_field, sender_mode_in, sender_modes_are}
 use Rattle.amqp_composites.specs.Source.{IsSourceValid, of_source, source_field, source_in}
 use Rattle.amqp_composites.specs.TargetArchetype.{IsArchetypeValid, archetype_field, archetype_in, of_archetype}
-use Rattle.amqp_composites.specs.Unsettled.{IsUnsettled, unsettled_field, unsettled_in}
+use Rattle.amqp_composites.specs.Unsettled.{AreStatesValid, of_unsettled, unsettled_field, unsettled_in}
 use Rattle.amqp_composites.specs.Modes.{nonzero}
 
 -- what the first five fields say of the link
@@ -74,10 +74,10 @@ attach_of fields = do
 -- its fields, as they are written
 abbrev pub attach_fields : Attach → List Amqp
 attach_fields x =
-    of_string x.name ∷ of_uint x.handle ∷ of_role x.role ∷ unless same_sender_mode modes.Mixed of_sender_mode x.snd_settle_mode ∷ unless same_receiver_mode rmodes.First of_receiver_mode x.rcv_settle_mode ∷ maybe of_source x.source ∷ maybe of_archetype x.target ∷ maybe of_map x.unsettled ∷ unless same_bool false of_bool x.incomplete_unsettled ∷ maybe of_uint x.initial_delivery_count ∷ maybe of_ulong (nonzero x.max_message_size) ∷ maybe of_symbols x.offered_capabilities ∷ maybe of_symbols x.desired_capabilities ∷ maybe of_map x.properties ∷ []
+    of_string x.name ∷ of_uint x.handle ∷ of_role x.role ∷ unless same_sender_mode modes.Mixed of_sender_mode x.snd_settle_mode ∷ unless same_receiver_mode rmodes.First of_receiver_mode x.rcv_settle_mode ∷ maybe of_source x.source ∷ maybe of_archetype x.target ∷ maybe of_unsettled x.unsettled ∷ unless same_bool false of_bool x.incomplete_unsettled ∷ maybe of_uint x.initial_delivery_count ∷ maybe of_ulong (nonzero x.max_message_size) ∷ maybe of_symbols x.offered_capabilities ∷ maybe of_symbols x.desired_capabilities ∷ maybe of_map x.properties ∷ []
 
 abbrev pub IsAttachValid : Attach → Type 0
-IsAttachValid x = IsValid IsSourceValid x.source × IsValid IsArchetypeValid x.target × IsValid IsUnsettled x.unsettled × IsValid (HasKeys is_symbol) x.properties
+IsAttachValid x = IsValid IsSourceValid x.source × IsValid IsArchetypeValid x.target × IsValid AreStatesValid x.unsettled × IsValid (HasKeys is_symbol) x.properties
 
 -- an attach as it is read again: a max-message-size of 0 is none
 abbrev pub written : Attach → Attach

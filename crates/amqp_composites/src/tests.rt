@@ -7,7 +7,8 @@ use crate::sasl_code::SaslCode;
 use crate::state::DeliveryState;
 use crate::states::{Accepted, Received, Rejected, Released};
 use crate::terminal_state::TerminalDeliveryState;
-use amqp_data::{Described, Symbol, Text, Value, ValueList};
+use crate::unsettled::{UnsettledDelivery, UnsettledMap};
+use amqp_data::{Binary, Described, MapError, OrderedMap, Symbol, Text, Value, ValueList};
 use amqp_fields::{BaseError, Field, Fields};
 use std::alloc::{AllocError, Global};
 use std::test::Fail;
@@ -210,4 +211,62 @@ fn states_that_end_deliveries(rt: HostRuntime) {
         section_offset: 0,
     };
     assert!(rt; !ends_delivery(DeliveryState::Received(received)));
+}
+
+/// An accepted delivery, and behind it one without a state.
+fn two_deliveries(
+    alloc: Global,
+    first: &[u8],
+    second: &[u8],
+) -> Result<Vec<UnsettledDelivery>, AllocError> {
+    let mut deliveries = Vec::new(alloc);
+    deliveries.push(UnsettledDelivery {
+        delivery_tag: Binary::from_slice(alloc, first)?,
+        state: Some(DeliveryState::Accepted(Accepted {})),
+    })?;
+    deliveries.push(UnsettledDelivery {
+        delivery_tag: Binary::from_slice(alloc, second)?,
+        state: None,
+    })?;
+    Ok(deliveries)
+}
+
+#[test]
+fn unsettled_deliveries(rt: HostRuntime) -> Result<(), Fail> {
+    let a = rt.alloc();
+    let map = UnsettledMap::from_deliveries(a, two_deliveries(a, b"1", b"2")?)?;
+    assert_eq!(rt; map.len(), 2);
+    assert!(rt; matches!(map.get(b"1"), Some(Some(DeliveryState::Accepted(_)))));
+    assert!(rt; matches!(map.get(b"2"), Some(None)));
+    assert!(rt; map.get(b"").is_none());
+    assert_eq!(rt; map.deliveries().len(), 2);
+    assert_eq!(rt; map.into_deliveries().len(), 2);
+    assert!(rt; UnsettledMap::new(a).is_empty());
+    let twice = UnsettledMap::from_deliveries(a, two_deliveries(a, b"1", b"1")?);
+    assert!(rt; matches!(twice, Err(MapError::DuplicateKey)));
+    Ok(())
+}
+
+/// A map from one tag to that value.
+fn unsettled(alloc: Global, value: Value) -> Result<Value, AllocError> {
+    let mut map = OrderedMap::new(alloc);
+    map.insert(Value::Binary(Binary::from_slice(alloc, b"tag")?), value)?;
+    Ok(Value::Map(map))
+}
+
+// A state is written by its number and without nulls, whichever way it was read.
+#[test]
+fn unsettled_states_are_written_anew(rt: HostRuntime) -> Result<(), Fail> {
+    let a = rt.alloc();
+    let name = Value::Symbol(Symbol::from_slice(a, b"amqp:rejected:list")?);
+    let named = Described::new(a, name, Value::List(one(a, Value::Null)?))?;
+    let read = UnsettledMap::from_value(a, unsettled(a, Value::Described(named))?)?;
+    let rejected = described(a, 0x25, ValueList::new(a))?;
+    assert!(rt; read.to_value(a)? == unsettled(a, rejected)?);
+    let read = UnsettledMap::from_value(a, unsettled(a, Value::Null)?)?;
+    assert!(rt; read.to_value(a)? == unsettled(a, Value::Null)?);
+    let source = described(a, 0x28, ValueList::new(a))?;
+    let refused = UnsettledMap::from_value(a, unsettled(a, source)?);
+    assert!(rt; matches!(refused, Err(BaseError::Decode)));
+    Ok(())
 }

@@ -112,7 +112,7 @@ const OTHER_BODIES: [&[u8]; 22] = [
 /// Other spellings of bodies: the longer number of the descriptor, its name, a null at the end, the longer list, each default of
 /// an Open, a max-message-size of 0, one symbol in place of an array, and each default of a source, an Attach with its target,
 /// a Begin, a Flow, a Transfer, a Disposition and a Detach.
-const OTHER_SPELLINGS: [(&[u8], &[u8]); 14] = [
+const OTHER_SPELLINGS: [(&[u8], &[u8]); 15] = [
     (
         b"\x00\x80\x00\x00\x00\x00\x00\x00\x00\x18\x45",
         b"\x00\x53\x18\x45",
@@ -166,16 +166,26 @@ const OTHER_SPELLINGS: [(&[u8], &[u8]); 14] = [
         b"\x00\x53\x16\xc0\x04\x03\x43\x42\x40",
         b"\x00\x53\x16\xc0\x02\x01\x43",
     ),
+    // An Attach with an unsettled map: a state by its name, one by a long number and with a null, and no state.
+    (
+        b"\x00\x53\x12\xc0\x3e\x08\xa1\x01u\x43\x41\x40\x40\x40\x40\xc1\x32\x06\xa0\x02t1\x00\xa3\x12amqp:accepted:list\x45\
+            \xa0\x02t2\x00\x80\x00\x00\x00\x00\x00\x00\x00\x25\xc0\x02\x01\x40\xa0\x02t3\x40",
+        b"\x00\x53\x12\xc0\x22\x08\xa1\x01u\x43\x41\x40\x40\x40\x40\xc1\x16\x06\xa0\x02t1\x00\x53\x24\x45\
+            \xa0\x02t2\x00\x53\x25\x45\xa0\x02t3\x40",
+    ),
 ];
 
-/// Bytes behind a Detach, a field too many, a body of SASL, no descriptor, a part of a body, an unknown descriptor.
-const REFUSED: [&[u8]; 6] = [
+/// Bytes behind a Detach, a field too many, a body of SASL, no descriptor, a part of a body, an unknown descriptor, unsettled maps
+/// with a tag that is no binary and with a value that is no state.
+const REFUSED: [&[u8]; 8] = [
     b"\x00\x53\x16\xc0\x03\x02\x43\x41\x00",
     b"\x00\x53\x18\xc0\x03\x02\x40\x40",
     b"\x00\x53\x44\xc0\x03\x01\x50\x00",
     b"\x45",
     b"\x00\x53",
     b"\x00\x53\x19\x45",
+    b"\x00\x53\x12\xc0\x11\x08\xa1\x01u\x43\x41\x40\x40\x40\x40\xc1\x05\x02\xa3\x01t\x40",
+    b"\x00\x53\x12\xc0\x14\x08\xa1\x01u\x43\x41\x40\x40\x40\x40\xc1\x08\x02\xa0\x01t\x00\x53\x28\x45",
 ];
 
 /// A performative, a byte behind the body, nothing, an unknown code.
