@@ -123,7 +123,7 @@ fault_honest later h far m fault.NotImplemented c =
 fault_honest later h far m fault.FramingError c = tt
 
 -- it had its cause when the transport failed
-once_fault : (later h far : List Local) → Meets (later ++ h) far → (e : TransportFault) → IsBrokenBy e h → IsHonestFault e
+pub once_fault : (later h far : List Local) → Meets (later ++ h) far → (e : TransportFault) → IsBrokenBy e h → IsHonestFault e
 once_fault later h far m e o =
     fault_honest (later ++ o.later) o.earlier far (subst (λ (g : List Local). Meets g far) (ap (λ (g : List Local). later ++ g) o.split ∙ sym (append_assoc later o.later o.earlier)) m) e o.cause
 

@@ -21,5 +21,6 @@ pub mod GateListener
 pub mod GateFair
 pub mod GateReplies
 pub mod Agreed
+pub mod Headers
 pub mod Passes
 pub mod Faced

@@ -1,10 +1,8 @@
 -- Two ends whose layers agree pass both.
-use Rattle.std.proofs.Common.{◌≡◌, ◌⊎◌, ◌≤◌, inl, inr, ℕ, List, [], ◌∷◌, ◌++◌, length, Bool, true, Option, Some, None, refl, sym, ap, ◌∙◌, subst, arith, append_assoc, All, flat_map}
+use Rattle.std.proofs.Common.{◌≡◌, ◌⊎◌, ◌≤◌, inl, inr, ℕ, List, [], ◌∷◌, ◌++◌, length, Bool, true, Option, Some, None, refl, sym, ap, ◌∙◌, subst, arith, append_assoc, append-nil, All, flat_map}
 use Rattle.amqp_composites.specs.declared.sasl_body.SaslBody.{SaslBody}
 use Rattle.amqp_wire.specs.Events.{LinkEvent}
 use Rattle.amqp_transport.specs.declared.transport.Error.{Error as TransportFault}
-use Rattle.amqp_transport.specs.declared.transport.Error.TheVariants as fault
-use Rattle.amqp_transport.specs.declared.frames.Frame.{Frame}
 use Rattle.sasl_gate.specs.declared.gate.error.NegotiationError.{NegotiationError}
 use Rattle.sasl_gate.specs.declared.gate.exchange.Turn.TheVariants.{Pass}
 use Rattle.sasl_gate.specs.Frames.{HasSaslFrame, said, sasl_frame}
@@ -18,23 +16,24 @@ use Rattle.amqp_words.specs.declared.open_error.OpenError.{OpenError}
 use Rattle.amqp_words.specs.declared.open_error.OpenError.TheVariants as failed
 use Rattle.amqp_words.specs.declared.reply.Reply.TheVariants as reply
 use Rattle.amqp_words.specs.declared.reply.NamedReply.{NamedReply}
-use Rattle.amqp_peer.specs.Causes.{AllCaused, BeginsWithOpen, HasCause, IsBrokenBy, IsLayerWritten, OpenCauseIn, is_layer}
-use Rattle.amqp_peer.specs.History.{Local, Made, Polled, AtLink, Exchanged, Got, Put, Replied, made_in, link_in, sent_in, replied_in}
-use Rattle.amqp_peer.specs.Layers.{layer_in, HasExchange, HasLayer}
+use Rattle.amqp_peer.specs.Causes.{AllCaused, HasCause, HasHeader, IsBrokenBy, IsLayerWritten, OpenCauseIn, is_layer}
+use Rattle.amqp_peer.specs.History.{Local, Made, Polled, AtLink, Exchanged, Got, Put, Replied, made_in, link_in, replied_in, read_in, wrote_in}
+use Rattle.amqp_peer.specs.Layers.{layer_in, HasExchange, HasLayer, IsResting}
 use Rattle.amqp_peer.specs.Replies.{pending, open_failed}
-use Rattle.amqp_peer.proofs.Histories.{made_in-append, sent_in-append}
+use Rattle.amqp_peer.proofs.Histories.{made_in-append}
 use Rattle.amqp_ends.specs.Gates.{Agree}
 use Rattle.amqp_ends.specs.Honest.{AllHonest, IsHonest, IsHonestFault}
 use Rattle.amqp_ends.specs.Joined.{IsCalm}
-use Rattle.amqp_ends.specs.Passes.{AreAgreed, FacedOnce, FacedWhenTold, AllFit, HasPassed, IsThrough}
-use Rattle.amqp_ends.specs.Wants.{AreStill, HasFailed, HasHeader, own, other, many}
+use Rattle.amqp_ends.specs.Passes.{AreAgreed, FacedOnce, FacedWhenTold, HasPassed, IsThrough}
+use Rattle.amqp_ends.specs.Standing.{IsVast, Stands, uncalled, in_headers, behind, parted, refused, broken, vast}
+use Rattle.amqp_ends.specs.Wants.{AreStill}
 use Rattle.amqp_ends.proofs.Agreed.{agreed_not, agreed_turned}
 use Rattle.amqp_ends.proofs.GateFair.{negotiation_fair, silence_fair}
+use Rattle.amqp_ends.proofs.Headers.{broken_header, fault_header, header_unread}
 use Rattle.amqp_ends.proofs.Honesty.{calm_before, honest_replies}
-use Rattle.amqp_ends.proofs.Quiet.{other_way}
+use Rattle.amqp_ends.proofs.Quiet.{headers_do_not_wait, other_way}
 use Rattle.amqp_ends.proofs.QuietLayers.{asked_layer, heard_said, none_behind}
-use Rattle.amqp_ends.proofs.Sizes.{never_refused}
-use Rattle.amqp_ends.proofs.Wants.{IsTurnedDown, header_in, meets, meets_back}
+use Rattle.amqp_ends.proofs.Wants.{IsTurnedDown, header_out, meets, meets_back, quiet, refused_called, was_called}
 
 -- ---- the layer is that of the first call
 
@@ -90,13 +89,9 @@ first_honest r (a, b) = a
 second_honest : (r q : NamedReply) → AllHonest (r ∷ q ∷ []) → IsHonest q.reply
 second_honest r q (a, (b, c)) = b
 
--- ---- an end is not refused
+-- ---- an end that is refused has written its AMQP header
 
-nothing_opens : (first more : List Frame) → first ++ more ≡ [] → BeginsWithOpen first → ⊥
-nothing_opens [] more e o = absurd (cc o.is)
-nothing_opens (x ∷ first) more e o = absurd (cc e)
-
-module _ (h far : List Local) (left far_left : List ℕ) (a : AreStill h far left far_left) (agreed : Agree (layer_in (made_in h)) (layer_in (made_in far))) (faced : FacedWhenTold h far) (fit : AllFit h) where
+module _ (h far : List Local) (left far_left : List ℕ) (a : AreStill h far left far_left) (agreed : Agree (layer_in (made_in h)) (layer_in (made_in far))) (faced : FacedWhenTold h far) where
   -- its negotiation does not fail
   negotiates : (later g : List Local) (name : ℕ) (e : NegotiationError) → h ≡ later ++ Replied (open_failed name (failed.Negotiation e)) ∷ g → OpenCauseIn (made_in g) e (link_in g) → ⊥
   negotiates later g name e split c =
@@ -112,39 +107,25 @@ module _ (h far : List Local) (left far_left : List ℕ) (a : AreStill h far lef
         | inr none ↦ agreed_not (layer_in (made_in g)) (layer_in (made_in far)) agrees e (silence_fair g k.before calm k.faces e none (layer_in (made_in far)) c)
       ]
 
-  -- its transport does not fail before it begins
-  carries : (later g : List Local) (r : NamedReply) (e : TransportFault) → h ≡ later ++ Replied r ∷ g → sent_in h ≡ [] → IsHonestFault e → IsBrokenBy e g → ⊥
-  carries later g r (fault.Memory m) split none k b = k
-  carries later g r (fault.Io kind) split none k b = k
-  carries later g r fault.IdleTimeoutElapsed split none k b =
-      let whole : h ≡ (later ++ Replied r ∷ b.later) ++ b.earlier =
-      split ∙ ap (λ (u : List Local). later ++ Replied r ∷ u) b.split ∙ sym (append_assoc later (Replied r ∷ b.later) b.earlier) in
-      nothing_opens (sent_in b.earlier) (sent_in (later ++ Replied r ∷ b.later)) (sym (sent_in-append (later ++ Replied r ∷ b.later) b.earlier) ∙ ap sent_in (sym whole) ∙ none) b.cause.opens
-  carries later g r fault.DecodeError split none k b = k
-  carries later g r fault.NotImplemented split none k b = k
-  carries later g r fault.FramingError split none k b =
-      let whole : h ≡ (later ++ Replied r ∷ b.later) ++ b.earlier =
-      split ∙ ap (λ (u : List Local). later ++ Replied r ∷ u) b.split ∙ sym (append_assoc later (Replied r ∷ b.later) b.earlier) in
-      elim b.cause as (λ _. ⊥) [
-        | inl refused ↦ never_refused h far (meets h far left far_left a) (meets_back h far left far_left a)
-            (record { later = later ++ Replied r ∷ b.later; earlier = b.earlier; split = whole; held = refused })
-        | inr large ↦ fit (record { later = later ++ Replied r ∷ b.later; earlier = b.earlier; split = whole; held = large })
-      ]
+  -- its transport failed behind the headers
+  carries : (later g : List Local) (r : NamedReply) (e : TransportFault) → h ≡ later ++ Replied r ∷ g → IsHonestFault e → IsBrokenBy e g → HasHeader h
+  carries later g r e split k b =
+      fault_header h far (later ++ Replied r ∷ []) g (meets h far left far_left a) (meets_back h far left far_left a) (split ∙ sym (append_assoc later (Replied r ∷ []) g)) e k b
 
-  opens : (name : ℕ) (e : OpenError) → LastReply h (open_failed name e) → sent_in h ≡ [] → IsHonest (reply.OpenError e) → ⊥
-  opens name (failed.Negotiation e) l none k = negotiates l.later l.before name e l.split l.caused
-  opens name (failed.TransportError e) l none k = carries l.later l.before (open_failed name (failed.TransportError e)) e l.split none k l.caused
-  opens name failed.RemoteClosed l none k = k
-  opens name (failed.RemoteClosedWithError e) l none k = k
-  opens name failed.IllegalState l none k = k
+  opens : (name : ℕ) (e : OpenError) → LastReply h (open_failed name e) → IsHonest (reply.OpenError e) → HasHeader h
+  opens name (failed.Negotiation e) l k = absurd (negotiates l.later l.before name e l.split l.caused)
+  opens name (failed.TransportError e) l k = carries l.later l.before (open_failed name (failed.TransportError e)) e l.split k l.caused
+  opens name failed.RemoteClosed l k = absurd k
+  opens name (failed.RemoteClosedWithError e) l k = absurd k
+  opens name failed.IllegalState l k = absurd k
 
-  accepted : IsTurnedDown h → ⊥
-  accepted (none, (name, e, inl all)) =
+  turned_down : IsTurnedDown h → HasHeader h
+  turned_down (none, (name, e, inl all)) =
       let honest : AllHonest (pending name ∷ open_failed name e ∷ []) = subst AllHonest all.0 (honest_replies h far (meets h far left far_left a) a.answered.caused) in
-      opens name e (last_reply h (pending name ∷ []) (open_failed name e) a.answered.caused all.0) none (second_honest (pending name) (open_failed name e) honest)
-  accepted (none, (name, e, inr all)) =
+      opens name e (last_reply h (pending name ∷ []) (open_failed name e) a.answered.caused all.0) (second_honest (pending name) (open_failed name e) honest)
+  turned_down (none, (name, e, inr all)) =
       let honest : AllHonest (open_failed name e ∷ []) = subst AllHonest all.0 (honest_replies h far (meets h far left far_left a) a.answered.caused) in
-      opens name e (last_reply h [] (open_failed name e) a.answered.caused all.0) none (first_honest (open_failed name e) honest)
+      opens name e (last_reply h [] (open_failed name e) a.answered.caused all.0) (first_honest (open_failed name e) honest)
 
 -- ---- an AMQP header stands behind an exchange that has passed
 
@@ -199,11 +180,9 @@ still_turned h far left far_left a = record {
   far_answered = a.answered;
 }
 
-failed_turned : (h far : List Local) → HasFailed far h → HasFailed h far
-failed_turned h far (own b) = other b
-failed_turned h far (other b) = own b
-failed_turned h far (many (inl v)) = many (inr v)
-failed_turned h far (many (inr v)) = many (inl v)
+vast_turned : (h far : List Local) → IsVast far ⊎ IsVast h → IsVast h ⊎ IsVast far
+vast_turned h far (inl v) = inr v
+vast_turned h far (inr v) = inl v
 
 agreed_still : (h far : List Local) (left far_left : List ℕ) → AreAgreed h far left far_left → AreAgreed far h far_left left
 agreed_still h far left far_left a = record {
@@ -213,22 +192,32 @@ agreed_still h far left far_left a = record {
   agreed = agreed_turned (layer_in (made_in h)) (layer_in (made_in far)) a.agreed;
   faced = a.far_faced;
   far_faced = a.faced;
-  fit = a.far_fit;
-  far_fit = a.fit;
-  sound = λ f. a.sound (failed_turned h far f);
+  few = λ v. a.few (vast_turned h far v);
 }
 
-header_of : (h far : List Local) (left far_left : List ℕ) → AreAgreed h far left far_left → HasHeader h ⊎ ((IsTurnedDown h ⊎ IsTurnedDown far) ⊎ HasFailed h far) → HasHeader h
-header_of h far left far_left a (inl t) = t
-header_of h far left far_left a (inr (inl (inl r))) = absurd (accepted h far left far_left a.still a.agreed a.faced a.fit r)
-header_of h far left far_left a (inr (inl (inr r))) =
-    let b = agreed_still h far left far_left a in
-    absurd (accepted far h far_left left b.still b.agreed b.faced b.fit r)
-header_of h far left far_left a (inr (inr f)) = absurd (a.sound f)
+-- it has written its AMQP header, or waits in the exchange of headers
+stands_so : (h far : List Local) (left far_left : List ℕ) → AreAgreed h far left far_left → Stands h left → HasHeader h ⊎ (IsResting (layer_in (made_in h)) h × (left ≡ []))
+stands_so h far left far_left a (uncalled m w) = absurd (was_called (made_in h) a.called m)
+stands_so h far left far_left a (in_headers v r l) = inr (r, l)
+stands_so h far left far_left a (behind r c l) = inl (header_out h r.out)
+stands_so h far left far_left a (parted c o w) = inl (header_out h o)
+stands_so h far left far_left a (refused s w) = inl (turned_down h far left far_left a.still a.agreed a.faced (refused_called h a.still.answered a.called s w))
+stands_so h far left far_left a (broken b) = inl (broken_header h far (meets h far left far_left a.still) (meets_back h far left far_left a.still) b)
+stands_so h far left far_left a (vast v) = absurd (a.few (inl v))
+
+read_all : (h far : List Local) (left far_left : List ℕ) → AreStill h far left far_left → left ≡ [] → read_in h ≡ wrote_in far
+read_all h far left far_left a l = sym (append-nil (read_in h)) ∙ ap (λ (u : List ℕ). read_in h ++ u) (sym l) ∙ a.reads
+
+-- two ends do not both wait there, nor one for another that has written its header
+header_of : (h far : List Local) (left far_left : List ℕ) → AreStill h far left far_left → HasHeader h ⊎ (IsResting (layer_in (made_in h)) h × (left ≡ [])) → HasHeader far ⊎ (IsResting (layer_in (made_in far)) far × (far_left ≡ [])) → HasHeader h
+header_of h far left far_left a (inl t) s = t
+header_of h far left far_left a (inr (r, l)) (inl t) = absurd (header_unread h far (read_all h far left far_left a l) r t)
+header_of h far left far_left a (inr (r, l)) (inr (s, f)) = absurd (headers_do_not_wait h far (quiet h far left far_left a l f) r (inl s))
 
 through : (h far : List Local) (left far_left : List ℕ) → AreAgreed h far left far_left → IsThrough h
 through h far left far_left a =
-    let t = header_of h far left far_left a (header_in h far left far_left a.still a.called a.far_called a.still.stands) in
+    let b = agreed_still h far left far_left a in
+    let t = header_of h far left far_left a.still (stands_so h far left far_left a a.still.stands) (stands_so far h far_left left b b.still.stands) in
     record { header = t; passed = passed_in (layer_in (made_in h)) h refl a.still.layer t }
 
 pub both_through : (h far : List Local) (left far_left : List ℕ) → AreAgreed h far left far_left → IsThrough h × IsThrough far

@@ -16,7 +16,7 @@ use Rattle.amqp_words.specs.declared.reply.NamedReply.{NamedReply}
 use Rattle.amqp_peer.specs.declared.peer.PeerKind.{PeerKind}
 use Rattle.amqp_peer.specs.declared.peer.PeerKind.TheVariants.{Client, Listener}
 use Rattle.amqp_peer.specs.declared.prepared.Prepared.{Prepared}
-use Rattle.amqp_peer.specs.Causes.{prepared_in, BeginsWithOpen, EndsWithClose, IsReadTo, HasCause, AllCaused}
+use Rattle.amqp_peer.specs.Causes.{prepared_in, BeginsWithOpen, EndsWithClose, HasHeader, IsReadTo, HasCause, AllCaused}
 use Rattle.amqp_peer.specs.History.{Local, Made, Polled, AtLink, Exchanged, Got, Put, Replied, made_in, given_in, sent_in, replied_in, read_in}
 use Rattle.amqp_peer.specs.Layers.{layer_in, IsResting}
 use Rattle.amqp_peer.specs.Replies.{IsConnected, IsOpenRefusal, pending, AreReplies}
@@ -25,7 +25,7 @@ use Rattle.amqp_peer.specs.Said.{IsPlain, HasSaid, HasClose, CloseCause, called,
 use Rattle.amqp_ends.specs.Joined.{Meets}
 use Rattle.amqp_ends.specs.Quiet.{Begins, BeginsIn, AreOpposite, IsQuiet}
 use Rattle.amqp_ends.specs.Standing.{Stands, uncalled, in_headers, behind, parted, refused, broken, vast}
-use Rattle.amqp_ends.specs.Wants.{IsAnswered, AreStill, LastCloses, HasRefused, HasHeader, HasFailed, own, other, many, IsEnded, failed, closed, Wants}
+use Rattle.amqp_ends.specs.Wants.{IsAnswered, AreStill, LastCloses, HasRefused, HasFailed, own, other, many, IsEnded, failed, closed, Wants}
 use Rattle.amqp_ends.specs.Wants.{refused as was_refused}
 use Rattle.amqp_ends.proofs.Closes.{closed_not, plain_unclosed, unclosed_given}
 use Rattle.amqp_ends.proofs.Hearing.{hears}
@@ -93,7 +93,7 @@ no_close_first p calls first name condition (x ∷ earlier) sent e c q s = absur
 
 -- ---- two ends
 
-quiet : (h far : List Local) (left far_left : List ℕ) → AreStill h far left far_left → left ≡ [] → far_left ≡ [] → IsQuiet h far
+pub quiet : (h far : List Local) (left far_left : List ℕ) → AreStill h far left far_left → left ≡ [] → far_left ≡ [] → IsQuiet h far
 quiet h far left far_left a l f = record {
   reads = sym (append-nil (read_in h)) ∙ ap (λ (u : List ℕ). read_in h ++ u) (sym l) ∙ a.reads;
   far_reads = sym (append-nil (read_in far)) ∙ ap (λ (u : List ℕ). read_in far ++ u) (sym f) ∙ a.far_reads;
@@ -222,7 +222,7 @@ closing_in h far left far_left a w (vast v) = many (inl v)
 
 -- ---- the AMQP header
 
-header_out : (h : List Local) → IsAllOut h → HasHeader h
+pub header_out : (h : List Local) → IsAllOut h → HasHeader h
 header_out h o = record { head = o.queued.head; behind = bytes_of_all (sent_in h); layer = o.queued.layer; wrote = wrote_behind h o }
 
 -- an end that made its connection has read the Open of the other
@@ -270,14 +270,14 @@ parted_not h far left far_left a u c =
     unheard_connects far a.far_answered.caused (none_of k.first k.others (given_in far) (sym k.split ∙ u) k.items)
     (far_connects h far a.kinds a.far_answered (parted_called h far m (subst AllUnclosed (sym u) tt) c a.far_said))
 
-was_called : (calls : List (ℕ × Call)) → 1 ≤ length calls → calls ≡ [] → ⊥
+pub was_called : (calls : List (ℕ × Call)) → 1 ≤ length calls → calls ≡ [] → ⊥
 was_called calls l e = omega (arith, l, ap length e)
 
 -- it was refused before a frame of it was queued
 abbrev pub IsTurnedDown : List Local → Type 0
 IsTurnedDown h = (sent_in h ≡ []) × HasRefused h
 
-refused_called : (h : List Local) → IsAnswered h → 1 ≤ length (made_in h) → sent_in h ≡ [] → (HasWaiting h → ⊥) → IsTurnedDown h
+pub refused_called : (h : List Local) → IsAnswered h → 1 ≤ length (made_in h) → sent_in h ≡ [] → (HasWaiting h → ⊥) → IsTurnedDown h
 refused_called h a l s w = elim (refused_by (made_in h) (replied_in h) a.replies (unsent_connects h a.caused s) (λ n e. w (inl (n, e)))) [
   | inl n ↦ absurd (was_called (made_in h) l n)
   | inr r ↦ (s, r)
@@ -292,7 +292,7 @@ header_resting h far left far_left a r l u n (refused s w) = inl (refused_called
 header_resting h far left far_left a r l u n (broken b) = inr (other b)
 header_resting h far left far_left a r l u n (vast v) = inr (many (inr v))
 
-pub header_in : (h far : List Local) (left far_left : List ℕ) → AreStill h far left far_left → 1 ≤ length (made_in h) → 1 ≤ length (made_in far) → Stands h left → HasHeader h ⊎ ((IsTurnedDown h ⊎ IsTurnedDown far) ⊎ HasFailed h far)
+header_in : (h far : List Local) (left far_left : List ℕ) → AreStill h far left far_left → 1 ≤ length (made_in h) → 1 ≤ length (made_in far) → Stands h left → HasHeader h ⊎ ((IsTurnedDown h ⊎ IsTurnedDown far) ⊎ HasFailed h far)
 header_in h far left far_left a m n (uncalled e w) = absurd (was_called (made_in h) m e)
 header_in h far left far_left a m n (in_headers v r l) = elim (header_resting h far left far_left a r l (resting_unsent (layer_in (made_in h)) h r) n a.far_stands) [
   | inl e ↦ inr (inl (inr e))

@@ -5,12 +5,13 @@ use Rattle.sasl_gate.specs.declared.gate.exchange.Turn.TheVariants.{Pass}
 use Rattle.amqp_opening.specs.declared.authentication.SaslCall.{SaslCall}
 use Rattle.amqp_opening.specs.Authentication.{turn_by}
 use Rattle.amqp_words.specs.declared.open_error.OpenError.TheVariants as failed
-use Rattle.amqp_peer.specs.Causes.{IsOverlarge}
-use Rattle.amqp_peer.specs.History.{Local, Replied, made_in, wrote_in, Once}
+use Rattle.amqp_peer.specs.Causes.{HasHeader}
+use Rattle.amqp_peer.specs.History.{Local, Replied, made_in, wrote_in}
 use Rattle.amqp_peer.specs.Layers.{layer_in, HasExchange}
 use Rattle.amqp_peer.specs.Replies.{open_failed}
 use Rattle.amqp_ends.specs.Gates.{Agree, Faces}
-use Rattle.amqp_ends.specs.Wants.{AreStill, HasFailed, HasHeader}
+use Rattle.amqp_ends.specs.Standing.{IsVast}
+use Rattle.amqp_ends.specs.Wants.{AreStill}
 
 -- an end faced the other as that was at one time: it was called by then, or had written nothing
 pub record FacedOnce (g far : List Local) : Type 0 where
@@ -24,11 +25,11 @@ pub record FacedOnce (g far : List Local) : Type 0 where
 abbrev pub FacedWhenTold : List Local → List Local → Type 0
 FacedWhenTold h far = (later g : List Local) (name : ℕ) (e : NegotiationError) → h ≡ later ++ Replied (open_failed name (failed.Negotiation e)) ∷ g → FacedOnce g far
 
--- no frame of a call of an end was too large for the other
-abbrev pub AllFit : List Local → Type 0
-AllFit h = Once IsOverlarge h → ⊥
+-- at neither end a great many reads were made, or frames read and queued
+abbrev pub NeitherIsVast : List Local → List Local → Type 0
+NeitherIsVast h far = IsVast h ⊎ IsVast far → ⊥
 
--- Two ends with layers that agree, both of which were called, and each of which has done what it can. No transport failed.
+-- two ends with layers that agree, both of which were called, and each of which has done what it can
 pub record AreAgreed (h far : List Local) (left far_left : List ℕ) : Type 0 where
   pub still : AreStill h far left far_left
   pub called : 1 ≤ length (made_in h)
@@ -36,9 +37,7 @@ pub record AreAgreed (h far : List Local) (left far_left : List ℕ) : Type 0 wh
   pub agreed : Agree (layer_in (made_in h)) (layer_in (made_in far))
   pub faced : FacedWhenTold h far
   pub far_faced : FacedWhenTold far h
-  pub fit : AllFit h
-  pub far_fit : AllFit far
-  pub sound : HasFailed h far → ⊥
+  pub few : NeitherIsVast h far
 
 -- the exchange of this layer has passed; without a layer nothing is said
 abbrev pub HasPassed : Option SaslCall → List Local → Type 0

@@ -1,10 +1,9 @@
 -- What a call waits for where nothing is in flight (OASIS AMQP 1.0, part 2, section 2.4).
 use Rattle.std.specs.Prelude.{◌≡◌, ◌⊎◌, ◌≤◌, ℕ, List, [], ◌∷◌, ◌++◌, length, Option}
-use Rattle.amqp_opening.specs.Opening.{amqp_header}
 use Rattle.amqp_words.specs.declared.call.Call.{Call}
 use Rattle.amqp_words.specs.declared.call.Call.TheVariants.{Close}
 use Rattle.amqp_words.specs.declared.open_error.OpenError.{OpenError}
-use Rattle.amqp_peer.specs.Causes.{has_layer, AllCaused, IsBroken, IsLayerWritten, IsTied}
+use Rattle.amqp_peer.specs.Causes.{AllCaused, IsBroken, HasHeader, IsTied}
 use Rattle.amqp_peer.specs.History.{Local, made_in, link_in, replied_in, read_in, wrote_in}
 use Rattle.amqp_peer.specs.Layers.{layer_in, HasLayer}
 use Rattle.amqp_peer.specs.Replies.{AreReplies, IsOpenRefusal}
@@ -60,13 +59,6 @@ pub data IsEnded (h far : List Local) : Type 0 where
   failed : HasFailed h far → IsEnded h far
   closed : LastCloses (made_in far) → IsEnded h far
   refused : HasRefused far → IsEnded h far
-
--- an end has written its AMQP header, behind the SASL layer if it has one (section 2.2; part 5, section 5.3.2)
-pub record HasHeader (h : List Local) : Type 0 where
-  pub head : List ℕ
-  pub behind : List ℕ
-  pub layer : IsLayerWritten (has_layer (made_in h)) head
-  pub wrote : wrote_in h ≡ head ++ (amqp_header ++ behind)
 
 -- An open or accept waits for the call of the other end, and a close for nothing but a failure. Where both ends were called, this one has
 -- written its AMQP header, unless one of them was refused or failed.

@@ -68,7 +68,7 @@ guarded_at : {L X : Type 0} (m : Mechanism X) (s : Bool) (stage : Stage) (n : Ne
 guarded_at m s Idle n events h = absurd h
 guarded_at m s NegotiatingStage n events h = sasl_guarded m s n events h.0 h.1
 guarded_at m s Header n events h = intro_guarded m s n.exchange n.codec.input n.codec.output events h
-guarded_at m s Exchanged n events h = intro_guarded m s n.exchange (amqp_header ++ n.codec.input) n.codec.output events h
+guarded_at m s Exchanged n events h = intro_guarded m s n.exchange (amqp_header ++ n.codec.input) n.codec.output events h.0
 guarded_at m s Ended n events h = absurd h
 
 -- an opening that has begun is guarded
@@ -77,7 +77,7 @@ has_guarded m o events h = guarded_at m o.has_sasl o.stage o.negotiation events 
 
 -- both AMQP headers are there
 pub has_exchanged : {L X : Type 0} (m : Mechanism X) (o : Opened L X) (events : List LinkEvent) → o.stage ≡ Exchanged → HasOpening m o events
-    → HasIntro o.has_sasl m o.negotiation.exchange (amqp_header ++ o.negotiation.codec.input) o.negotiation.codec.output events
+    → HasIntro o.has_sasl m o.negotiation.exchange (amqp_header ++ o.negotiation.codec.input) o.negotiation.codec.output events × (o.negotiation.codec.output ≡ [])
 has_exchanged m o events stage h = subst (λ (s : Stage). HasAt m o.has_sasl s o.negotiation events) stage h
 
 -- the link that it holds is no part of what it says
@@ -307,16 +307,16 @@ ran_failed link m o c left stage s f =
     }
 
 -- the AMQP header was read
-pub ran_exchanged : {L X : Type 0} (link : Ghosts L) (m : Mechanism X) (o : Opened L X) (left : ℕ) → o.stage ≡ Header → m.same o.negotiation.exchange o.negotiation.exchange → take 8 o.negotiation.codec.input ≡ amqp_header
+pub ran_exchanged : {L X : Type 0} (link : Ghosts L) (m : Mechanism X) (o : Opened L X) (left : ℕ) → o.stage ≡ Header → m.same o.negotiation.exchange o.negotiation.exchange → o.negotiation.codec.output ≡ [] → take 8 o.negotiation.codec.input ≡ amqp_header
     → Ran {E = AllocError} link m o left (Ok poll.Exchanged) (record o { negotiation = record o.negotiation { codec = record o.negotiation.codec { input = drop 8 o.negotiation.codec.input } }; stage = Exchanged }) left
-ran_exchanged link m o left stage s t =
+ran_exchanged link m o left stage s out t =
     let cut : o.negotiation.codec.input ≡ amqp_header ++ drop 8 o.negotiation.codec.input = sym (take-append-drop 8 o.negotiation.codec.input) ∙ ap (λ (u : List ℕ). u ++ drop 8 o.negotiation.codec.input) t in
     record {
       events = [];
       moves = record { went = refl; counted = omega arith; kept = s; layer = refl };
       comes = (
         refl,
-        λ before h. subst (λ (u : List ℕ). HasIntro o.has_sasl m o.negotiation.exchange u o.negotiation.codec.output before) cut (to_awaits m o before stage h),
+        λ before h. (subst (λ (u : List ℕ). HasIntro o.has_sasl m o.negotiation.exchange u o.negotiation.codec.output before) cut (to_awaits m o before stage h), out),
       );
     }
 

@@ -78,12 +78,12 @@ abbrev pub HasIntro : {X : Type 0} → Bool → Mechanism X → X → List ℕ �
 HasIntro true m x rest unwritten events = HasPassed m x rest unwritten events
 HasIntro false m x rest unwritten events = IsPlain rest unwritten events
 
--- a stage after what passed at the link
+-- a stage after what passed at the link; once both AMQP headers are there, nothing of the own one is still to go out
 abbrev pub HasAt : {L X : Type 0} → Mechanism X → Bool → Stage → Negotiating L X → List LinkEvent → Type 0
 HasAt m s Idle n events = ⊥
 HasAt m s NegotiatingStage n events = (s ≡ true) × Has m n events
 HasAt m s Header n events = HasIntro s m n.exchange n.codec.input n.codec.output events
-HasAt m s Exchanged n events = HasIntro s m n.exchange (amqp_header ++ n.codec.input) n.codec.output events
+HasAt m s Exchanged n events = HasIntro s m n.exchange (amqp_header ++ n.codec.input) n.codec.output events × (n.codec.output ≡ [])
 HasAt m s Ended n events = ⊥
 
 -- an opening that has begun, after what passed at its link

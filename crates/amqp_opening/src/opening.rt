@@ -189,6 +189,7 @@ impl<L: Link, X: Exchange> Opening<L, X> {
     // Compares the header that was read, and takes it.
     fn on_header(&mut self) -> Result<OpeningPoll, AllocError>
         requires stage { self.old.stage ≡ Stage.Header }
+        requires flushed { self.old.negotiation.codec.output ≡ [] }
         requires whole { 8 ≤ length self.old.negotiation.codec.input }
         ensures { (left : ℕ) → Ran L.Link X.Exchange self.old left result self.new left }
     {

@@ -74,7 +74,7 @@ limit_after call s s' h r k prep none =
     k.runs.bounded.reads ∙ sym (ap (λ (n : ℕ). read_limit n (given_in (moved r ++ h))) own ∙ ap (λ (u : List Frame). read_limit s.settings.largest_read u) (given_none h r none))
 
 -- a call was made before it
-called_by : (cs : List (ℕ × Call)) (p : Prepared) → prepared_in cs ≡ Some p → 1 ≤ length cs
+pub called_by : (cs : List (ℕ × Call)) (p : Prepared) → prepared_in cs ≡ Some p → 1 ≤ length cs
 called_by [] p e = absurd (cc e)
 called_by (c ∷ cs) p e = omega arith
 

@@ -99,7 +99,7 @@ exchange_at c b stage.Negotiating n h e m s k = negotiates c n.phase n h m s k.1
 exchange_at c b stage.Header n h e m s k =
     passes c n.exchange n.codec.input n.codec.output h m s (subst (λ (z : Bool). HasIntro z peer_mechanism n.exchange n.codec.input n.codec.output (link_in h)) e k)
 exchange_at c b stage.Exchanged n h e m s k =
-    passes c n.exchange (amqp_header ++ n.codec.input) n.codec.output h m s (subst (λ (z : Bool). HasIntro z peer_mechanism n.exchange (amqp_header ++ n.codec.input) n.codec.output (link_in h)) e k)
+    passes c n.exchange (amqp_header ++ n.codec.input) n.codec.output h m s (subst (λ (z : Bool). HasIntro z peer_mechanism n.exchange (amqp_header ++ n.codec.input) n.codec.output (link_in h)) e k.0)
 exchange_at c b stage.Ended n h e m s k = absurd k
 
 layer_opening : {L : Type 0} (c : Option SaslCall) (o : Opened L Authentication) (h : List Local) → MadeIn c o.has_sasl o.negotiation.exchange → sent_in h ≡ [] → HasOpening peer_mechanism o (link_in h) → HasLayer c h

@@ -28,8 +28,9 @@ use Rattle.amqp_opening.specs.declared.opening.OpeningPoll.TheVariants as poll
 use Rattle.amqp_opening.specs.declared.opening.Stage.{Stage}
 use Rattle.amqp_opening.specs.declared.opening.Stage.TheVariants as stage
 use Rattle.amqp_opening.specs.Authentication.{peer_mechanism, same_by}
-use Rattle.amqp_opening.specs.Opening.{amqp_header, Opened, IsUnderWay, IsAtRestOrFull, HasAt, HasOpening, IsGuarded, HasEnding, Moves as OpeningMoves, Keeps, Ran as OpeningRan}
+use Rattle.amqp_opening.specs.Opening.{amqp_header, Opened, IsUnderWay, IsAtRestOrFull, HasOpening, IsGuarded, HasEnding, Moves as OpeningMoves, Keeps, Ran as OpeningRan}
 use Rattle.amqp_opening.proofs.Exchanges.{same_made}
+use Rattle.amqp_opening.proofs.Openings.{has_exchanged}
 use Rattle.amqp_words.specs.declared.call.Call.{Call}
 use Rattle.amqp_words.specs.declared.open_error.OpenError.TheVariants as failed
 use Rattle.amqp_words.specs.declared.reply.Reply.TheVariants as reply
@@ -39,7 +40,7 @@ use Rattle.amqp_peer.specs.declared.held.Held.TheVariants.{Early, Late, Unopened
 use Rattle.amqp_peer.specs.declared.peer.Progress.{Progress}
 use Rattle.amqp_peer.specs.declared.peer.Progress.TheVariants as progress
 use Rattle.amqp_peer.specs.declared.prepared.Prepared.{Prepared}
-use Rattle.amqp_peer.specs.Causes.{MadeIn, has_layer, IsQueued, IsOpenCause, in_opening, OpenCauseIn, BeginsWithOpen, StartsWithin, opening as own_opening, prepared_in}
+use Rattle.amqp_peer.specs.Causes.{MadeIn, has_layer, IsLayerWritten, IsQueued, HasHeaders, EndsExchange, IsOpenCause, in_opening, OpenCauseIn, BeginsWithOpen, StartsWithin, opening as own_opening, prepared_in}
 use Rattle.amqp_peer.specs.Held.{IsReadyWith, IsMidway, IsBusyWith, IsBusy, IsExchangedWith, bound, link_at}
 use Rattle.amqp_peer.specs.History.{Local, Put, Exchanged, Replied, made_in, link_in, given_in, sent_in, moment_in, at_link}
 use Rattle.amqp_peer.specs.Layers.{HasLayer}
@@ -48,13 +49,12 @@ use Rattle.amqp_peer.specs.Prepared.{prepared_of, sasl_of}
 use Rattle.amqp_peer.specs.Said.{IsSaidFor}
 use Rattle.amqp_peer.specs.Replies.{open_failed}
 use Rattle.amqp_peer.specs.Runs.{IsSettled, Advanced, Rested, told, open_error_of}
-use Rattle.amqp_peer.proofs.Faulty.{broken_large}
-use Rattle.amqp_peer.proofs.Histories.{given_in-at, sent_in-at, replied_in-at, link_in-at, inside-at, caused-at}
+use Rattle.amqp_peer.proofs.Faulty.{broken_large, called_by}
+use Rattle.amqp_peer.proofs.Histories.{given_in-at, sent_in-at, replied_in-at, link_in-at, inside-at, caused-at, once_now}
 use Rattle.amqp_peer.proofs.Layers.{layer_exchanging, layer_ended, layer_same}
 use Rattle.amqp_peer.proofs.Moved.{Passed, made_after, link_after, given_after, sent_after, replied_after}
-use Rattle.amqp_peer.proofs.Quiet.{quiet_replied, queued_quiet}
 use Rattle.amqp_peer.proofs.Refusals.{ending_not, negotiation_not}
-use Rattle.amqp_peer.proofs.Written.{intro_read, written_guarded, written_exchanging, queued_guarded, queued_exchanging}
+use Rattle.amqp_peer.proofs.Written.{intro_read, intro_wrote, written_guarded, written_exchanging, queued_guarded, queued_exchanging}
 
 -- ---- what passed at the link alone
 
@@ -306,12 +306,30 @@ held_exchanged {L} call held o p h e r c =
     let k : IsHeldAt o.stage call o p h = subst (λ (x : Held L). IsHeld call x h) e c.holds in
     subst (λ (s : Stage). IsHeldAt s call o p h) r k
 
+-- both ends' headers went through
+both_headers : {L : Type 0} (call : Call) (o : Opened L Authentication) (p : Prepared) (h : List Local) → o.stage ≡ stage.Exchanged → prepared_in (made_in h) ≡ prepared_of call → IsExchanging call o (Some p) h → HasHeaders h
+both_headers {L} call o p h r own k =
+    let opening = has_exchanged peer_mechanism o (link_in h) r k.opening in
+    let i = intro_read o.has_sasl o.negotiation.exchange (amqp_header ++ o.negotiation.codec.input) o.negotiation.codec.output (link_in h) opening.0 in
+    let w = intro_wrote o.has_sasl o.negotiation.exchange (amqp_header ++ o.negotiation.codec.input) o.negotiation.codec.output (link_in h) opening.0 in
+    record {
+      called = called_by (made_in h) p (own ∙ k.prepared);
+      own = record {
+        head = w.head;
+        behind = [];
+        layer = subst (λ (b : Bool). IsLayerWritten b w.head) (sym k.asked) w.layered;
+        wrote = w.is ∙ ap (λ (u : List ℕ). w.head ++ u) (sym (append-nil w.part) ∙ ap (λ (u : List ℕ). w.part ++ u) (sym opening.1) ∙ w.header ∙ sym (append-nil amqp_header));
+      };
+      head = i.head;
+      rest = o.negotiation.codec.input;
+      read = i.is;
+    }
+
 -- both ends' headers went through, and then Open is queued
 begins_running : {L : Type 0} (at : ℕ) (call : Call) (o : Opened L Authentication) (p : Prepared) (s : State L) (h : List Local) → o.stage ≡ stage.Exchanged → OpensTo (bound o.negotiation.codec p.idle at) p.end (Ok s) → moment_in h ≡ at → prepared_in (made_in h) ≡ prepared_of call → IsExchanging call o (Some p) h
     → IsRunning call s (Put (open_frame p.end) ∷ Exchanged ∷ h)
 begins_running {L} at call o p s h r c t own k =
     let w : Wire L = bound o.negotiation.codec p.idle at in
-    let opening : HasAt peer_mechanism o.has_sasl stage.Exchanged o.negotiation (link_in h) = subst (λ (z : Stage). HasAt peer_mechanism o.has_sasl z o.negotiation (link_in h)) r k.opening in
     record {
       layer = o.has_sasl;
       x = o.negotiation.exchange;
@@ -324,11 +342,11 @@ begins_running {L} at call o p s h r c t own k =
       passed = refl;
       arrived = o.negotiation.codec.input;
       unwritten = o.negotiation.codec.output;
-      intro = opening;
+      intro = (has_exchanged peer_mechanism o (link_in h) r k.opening).0;
       runs = subst (λ (xs : List Frame). EngineHas o.negotiation.codec.output o.negotiation.codec.input s (record { events = []; given = xs; sent = sent_in h ++ open_frame p.end ∷ [] })) (sym k.given)
           (subst (λ (xs : List Frame). EngineHas o.negotiation.codec.output o.negotiation.codec.input s (record { events = []; given = []; sent = xs ++ open_frame p.end ∷ [] })) (sym k.sent)
           (starts o.negotiation.codec.output o.negotiation.codec.input w p.end s c refl refl));
-      began = record { later = Put (open_frame p.end) ∷ []; earlier = Exchanged ∷ h; split = refl; held = let i = intro_read o.has_sasl o.negotiation.exchange (amqp_header ++ o.negotiation.codec.input) o.negotiation.codec.output (link_in h) opening in (i.head, o.negotiation.codec.input, i.is) };
+      began = record { later = Put (open_frame p.end) ∷ []; earlier = Exchanged ∷ h; split = refl; held = both_headers call o p h r own k };
       opens = subst (λ (xs : List Frame). BeginsWithOpen (xs ++ open_frame p.end ∷ [])) (sym k.sent) (record { channel = 0; first = open_of p.end; more = []; is = refl });
       starts = subst (λ (xs : List Frame). StartsWithin 512 (xs ++ open_frame p.end ∷ [])) (sym k.sent) (within 512 (open_frame p.end) c.0);
       says = subst (λ (xs : List Frame). IsSaidFor (prepared_in (made_in h)) (made_in h) (given_in h) (xs ++ open_frame p.end ∷ [])) (sym k.sent) (inr (inl (record { own = p; is_own = own ∙ k.prepared; more = []; each = tt; is = refl })));
@@ -369,6 +387,10 @@ connected {L} link at old o p s e r c =
           });
     }
 
+-- what was queued stays where the headers went through and this is replied
+queued_refused : (answer : NamedReply) (h : List Local) → IsQueued h → IsQueued (Replied answer ∷ Exchanged ∷ h)
+queued_refused answer h u = record { head = u.head; tail = u.tail; out = u.out; wrote = u.wrote; layer = u.layer; talk = u.talk }
+
 -- Open is too large
 pub connect_fails : {L : Type 0} (link : Ghosts L) (at : ℕ) (old : Peering L) (o : Opened L Authentication) (p : Prepared) (e : ConnectionFault) (back : Wire L) → old.held ≡ Early o (Some p) → o.stage ≡ stage.Exchanged → OpensTo (bound o.negotiation.codec p.idle at) p.end (Err (e, back)) → ((x : _) → e ≡ connection.Memory x → ⊥)
     → Rested link at 0 old (told (record old { held = Unopened back.codec }) (reply.OpenError (open_error_of e)))
@@ -377,7 +399,7 @@ connect_fails {L} link at old o p (connection.TransportError transport.FramingEr
     let answer = open_failed old.name (failed.TransportError transport.FramingError) in
     record {
       run = record {
-        events = Replied answer ∷ [];
+        events = Replied answer ∷ Exchanged ∷ [];
         inside = tt;
         went = λ d. ap (λ (z : Wire L). z.codec.link) c.1 ∙ sym (ap (link_at d) l);
         answers = refl;
@@ -386,6 +408,7 @@ connect_fails {L} link at old o p (connection.TransportError transport.FramingEr
         grows = λ h t x.
             let w = waiting_exchanged old.progress old o p h l r x in
             let k = held_exchanged w.1.call old.held o (Some p) h l r w.1.called in
+            let headers = both_headers w.1.call o p h r (ap prepared_in w.1.made) k in
             inl (record {
               call = w.1.call;
               name = old.name;
@@ -394,8 +417,8 @@ connect_fails {L} link at old o p (connection.TransportError transport.FramingEr
               replied = inl (ap (λ (u : List NamedReply). u ++ answer ∷ []) w.1.replied, λ t. absurd (cc t));
               silent = λ t. absurd (cc t);
               called = record {
-                holds = record { written = written_exchanging w.1.call o (Some p) h k; exchange = layer_same (sasl_of w.1.call) h (Replied answer ∷ h) refl refl (layer_exchanging w.1.call o (Some p) h k); queued = queued_quiet h (Replied answer ∷ h) (quiet_replied answer h) (queued_exchanging w.1.call o (Some p) h k); given = k.given; sent = k.sent };
-                caused = (broken_large [] h (inr (record { limit = 512; x = open_frame p.end; is_limit = sym (ap write_limit k.given); own = own_opening p (ap prepared_in w.1.made ∙ k.prepared); large = c.0 })) refl refl, w.1.called.caused);
+                holds = record { written = written_exchanging w.1.call o (Some p) h k; exchange = layer_same (sasl_of w.1.call) h (Replied answer ∷ Exchanged ∷ h) refl refl (layer_exchanging w.1.call o (Some p) h k); queued = queued_refused answer h (queued_exchanging w.1.call o (Some p) h k); given = k.given; sent = k.sent };
+                caused = (broken_large [] (Exchanged ∷ h) (inr (record { began = once_now EndsExchange (Exchanged ∷ h) headers; limit = 512; x = open_frame p.end; is_limit = sym (ap write_limit k.given); own = own_opening p (ap prepared_in w.1.made ∙ k.prepared); large = c.0 })) refl refl, w.1.called.caused);
               };
               done = λ z. z;
               broken = tt;

@@ -347,7 +347,7 @@ close_kept {L} link at old s s' condition p e c = close_moves link at old s s' o
 
 -- it is too large
 large_cause : {L : Type 0} (condition : Option (List ℕ)) (s : State L) (old : Peering L) (h : List Local) (call : Call) → IsToClose condition old h → IsRunning call s h → IsTooLarge s.wire.codec.encoder (close_frame (error_for condition)) → TransportCause transport.FramingError h
-large_cause condition s old h call a k l = inr (record { limit = s.wire.codec.encoder; x = close_frame (error_for condition); is_limit = k.runs.bounded.writes; own = own_closing old.name condition ((a.name, a.call) ∷ []) a.made; large = l })
+large_cause condition s old h call a k l = inr (record { began = k.began; limit = s.wire.codec.encoder; x = close_frame (error_for condition); is_limit = k.runs.bounded.writes; own = own_closing old.name condition ((a.name, a.call) ∷ []) a.made; large = l })
 
 large_breaks : {L : Type 0} {link : Ghosts L} (s s' : State L) (h : List Local) (r : Ran link s s') → r.given ≡ [] → r.queued ≡ [] → TransportCause transport.FramingError h → IsBrokenIn s' (moved r ++ h)
 large_breaks s s' h r g q c z = record { fault = transport.FramingError; how = broken_large (moved r) h c ((passed r).heard ∙ g) ((passed r).said ∙ q) }

@@ -145,6 +145,13 @@ abbrev pub IsLayerWritten : Bool → List ℕ → Type 0
 IsLayerWritten false head = head ≡ []
 IsLayerWritten true head = (bodies : List SaslBody) × All HasSaslFrame bodies × (head ≡ said bodies)
 
+-- an end has written its AMQP header, behind the SASL layer if it has one (part 2, section 2.2; part 5, section 5.3.2)
+pub record HasHeader (h : List Local) : Type 0 where
+  pub head : List ℕ
+  pub behind : List ℕ
+  pub layer : IsLayerWritten (has_layer (made_in h)) head
+  pub wrote : wrote_of (link_in h) ≡ head ++ (amqp_header ++ behind)
+
 -- what was queued behind the SASL layer: nothing, the AMQP header alone, or that and the frames (part 2, section 2.2)
 abbrev pub IsTail : List Frame → List ℕ → Type 0
 IsTail sent tail = ((sent ≡ []) × ((tail ≡ []) ⊎ (tail ≡ amqp_header))) ⊎ (tail ≡ amqp_header ++ bytes_of_all sent)
@@ -205,13 +212,21 @@ pub record IsParted (h : List Local) : Type 0 where
   pub said : EndsWithClose (sent_in h)
   pub out : IsOut h
 
--- the exchange of headers ends here, at which the peer's was read
+-- after a call both AMQP headers are there: the own one was written, and the peer's was read (part 2, section 2.2)
+pub record HasHeaders (h : List Local) : Type 0 where
+  pub called : 1 ≤ length (made_in h)
+  pub own : HasHeader h
+  pub head : List ℕ
+  pub rest : List ℕ
+  pub read : read_of (link_in h) ≡ head ++ (amqp_header ++ rest)
+
+-- the exchange of headers ends here
 abbrev pub EndsExchange : List Local → Type 0
 EndsExchange [] = ⊥
 EndsExchange (Made at name call ∷ h) = ⊥
 EndsExchange (Polled at ∷ h) = ⊥
 EndsExchange (AtLink x ∷ h) = ⊥
-EndsExchange (Exchanged ∷ h) = (head : List ℕ) × (rest : List ℕ) × (read_of (link_in h) ≡ head ++ (amqp_header ++ rest))
+EndsExchange (Exchanged ∷ h) = HasHeaders h
 EndsExchange (Got x ∷ h) = ⊥
 EndsExchange (Put x ∷ h) = ⊥
 EndsExchange (Replied r ∷ h) = ⊥
@@ -228,8 +243,10 @@ pub data IsOwn (calls : List (ℕ × Call)) : Frame → Type 0 where
   opening : (p : Prepared) → prepared_in calls ≡ Some p → IsOwn calls (open_frame p.end)
   closing : (name : ℕ) (condition : Option (List ℕ)) (earlier : List (ℕ × Call)) → calls ≡ (name, CloseCall condition) ∷ earlier → IsOwn calls (close_frame (error_for condition))
 
--- a frame of a call is above the limit that the peer's Open tells, or above 512 where none was read (part 2, section 2.4.1)
+-- behind the headers a frame of a call is above the limit that the peer's Open tells, or above 512 where none was read (part 2, section
+-- 2.4.1)
 pub record IsOverlarge (h : List Local) : Type 0 where
+  pub began : Once EndsExchange h
   pub limit : ℕ
   pub x : Frame
   pub is_limit : limit ≡ write_limit (given_in h)

@@ -264,9 +264,7 @@ sides_agreed p q past s a =
       agreed = subst (λ (cs : List (ℕ × peer_call.Call)). Agree (layer_in (made_in near.h)) (layer_in cs)) (sym far.made) layers;
       faced = s.faced;
       far_faced = s.far_faced;
-      fit = a.fit;
-      far_fit = a.far_fit;
-      sound = a.sound;
+      few = a.few;
     }
 
 -- both ends have histories that explain their replies, and say what their calls wait for

@@ -10,9 +10,9 @@ use Rattle.amqp_peer.specs.Said.{HasSaid}
 use Rattle.amqp_peer.specs.Layers.{layer_in, HasLayer}
 use Rattle.amqp_ends.specs.Joined.{IsCalm, NoneCloses}
 use Rattle.amqp_ends.specs.Quiet.{IsFew}
-use Rattle.amqp_ends.specs.Wants.{Wants, HasFailed}
+use Rattle.amqp_ends.specs.Wants.{Wants}
 use Rattle.amqp_ends.specs.Gates.{Agree}
-use Rattle.amqp_ends.specs.Passes.{AllFit, IsThrough}
+use Rattle.amqp_ends.specs.Passes.{NeitherIsVast, IsThrough}
 use Rattle.amqp_world.specs.History.{Event, is_same, other, calls, wrote, read, begun}
 
 -- a step of 2^62 reads, or of so many frames
@@ -65,14 +65,12 @@ pub record IsHistoried (e : End) (past : List Event) : Type 0 where
   pub unclosed : NobodyCloses past → AllUnclosed (sent_in h)
   pub unrefused : Once IsRefusedAt h → ⊥
 
--- Both ends were called, with layers that agree, and nothing is in flight. No frame of a call was too large, and no transport failed.
+-- both ends were called, with layers that agree, and nothing is in flight
 pub record AreAgreeing (past : List Event) (h far : List Local) : Type 0 where
   pub still : NothingInFlight past
   pub called : (e : End) → 1 ≤ length (calls e past)
   pub agreed : Agree (layer_in (calls Client past)) (layer_in (calls Listener past))
-  pub fit : AllFit h
-  pub far_fit : AllFit far
-  pub sound : HasFailed h far → ⊥
+  pub few : NeitherIsVast h far
 
 -- Both ends have such histories. Where nothing is in flight, an open or accept that waits does so for the call of the other end, and a close
 -- for nothing, unless the connection has failed or is at its end (part 2, sections 2.4.1 and 2.4.3). Where their layers agree besides, the

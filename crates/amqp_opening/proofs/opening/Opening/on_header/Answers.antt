@@ -13,6 +13,7 @@ returns-then-not-is_amqp_header g c left =
 pub returns-in-Ok : goal.returns-in-Ok
 returns-in-Ok g c left =
     let stage = rw (← c.self.view_is) at c.requires.stage in
+    let out = rw (← c.self.view_is) at c.requires.flushed in
     let front : take 8 c.self.inside.negotiation.codec.input ≡ amqp_header =
     ap (λ (u : List ℕ). take 8 u) (sym (ap (λ k. k.input) c.codec.ensures)) ∙ sym c.header-header.ensures ∙ sym c.as_slice.ensures ∙ c.if-not-is_amqp_header.ensures.0 refl in
-    rw (← c.self.view_is, c.in-Ok.ensures.ok, c.codec_mut.ensures.value) (ran_exchanged g.L.Link g.X.Exchange _ left stage (g.met.X.Exchange.same_self c.self.inside.negotiation.exchange) front)
+    rw (← c.self.view_is, c.in-Ok.ensures.ok, c.codec_mut.ensures.value) (ran_exchanged g.L.Link g.X.Exchange _ left stage (g.met.X.Exchange.same_self c.self.inside.negotiation.exchange) out front)
