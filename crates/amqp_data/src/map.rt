@@ -1,5 +1,5 @@
 //! Maps with distinct keys, in the order of insertion (OASIS AMQP 1.0, part 1, section 1.6.23). A look-up and an insertion
-//! scan the entries; a whole map is made by `OrderedMap::from_entries` in linear time.
+//! scan the entries; a whole map is made by `OrderedMap::from_entries`, in linear time where the hashes of the keys differ.
 ghost use Rattle.std.specs.Prelude.{◌≡◌, ◌≢◌, ◌↔◌, Some, IsTrue, IsNone, IfOk, OnOk, OnErr, IsErrOf, is_some, option_map, position};
 ghost use Rattle.std.specs.List.{list_any};
 ghost use Rattle.std.specs.Slice.Iter.{iter_rest};
@@ -35,7 +35,7 @@ impl From<AllocError> for MapError {
     }
 }
 
-/// How many entries have their keys compared one with another: beyond that a set is quicker, and keeps the work linear.
+/// How many entries have their keys compared one with another: beyond that a set is quicker.
 const FEW_ENTRIES: usize = 16;
 
 /// Whether one of the entries has the key.
@@ -114,7 +114,7 @@ impl OrderedMap {
     }
 
     /// Those entries: `DuplicateKey` exactly where a key comes twice, unless memory runs out.
-    /// The work is linear in the size of the keys.
+    /// The work is linear in the size of the keys where their hashes differ.
     pub fn from_entries(alloc: Global, entries: Vec<Entry>) -> Result<Self, MapError>
         ensures ok { IfOk result (λ m. m ≡ pairs_view entries.items) }
         ensures distinct { OnOk result (HasDistinctKeys (pairs_view entries.items)) }

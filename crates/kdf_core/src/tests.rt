@@ -236,12 +236,16 @@ fn assert_hmac<D: HashFn>(rt: &impl Abort, rows: &[(&[u8], &[u8], &[u8])]) -> Re
     Ok(())
 }
 
-// RFC 2202, section 3, and RFC 4231, sections 4.2, 4.3 and 4.7: a short key, a key shorter than a block, a longer one.
+/// The key of the second rows, and its text.
+const JEFE: &[u8] = b"Jefe";
+
+const QUESTION: &[u8] = b"what do ya want for nothing?";
+/// The text of the rows whose key is larger than a block.
+const LARGER: &[u8] = b"Test Using Larger Than Block-Size Key - Hash Key First";
+
+// RFC 2202, section 3: a short key, a key shorter than a block, a longer one.
 #[test]
-fn hmac_vectors(rt: HostRuntime) -> Result<(), Fail> {
-    let jefe: &[u8] = b"Jefe";
-    let question: &[u8] = b"what do ya want for nothing?";
-    let larger: &[u8] = b"Test Using Larger Than Block-Size Key - Hash Key First";
+fn hmac_sha1(rt: HostRuntime) -> Result<(), Fail> {
     assert_hmac::<Sha1Fn>(
         &rt,
         &[
@@ -251,17 +255,22 @@ fn hmac_vectors(rt: HostRuntime) -> Result<(), Fail> {
                 b"\xb6\x17\x31\x86\x55\x05\x72\x64\xe2\x8b\xc0\xb6\xfb\x37\x8c\x8e\xf1\x46\xbe\x00",
             ),
             (
-                jefe,
-                question,
+                JEFE,
+                QUESTION,
                 b"\xef\xfc\xdf\x6a\xe5\xeb\x2f\xa2\xd2\x74\x16\xd5\xf1\x84\xdf\x9c\x25\x9a\x7c\x79",
             ),
             (
                 &[0xaa; 80],
-                larger,
+                LARGER,
                 b"\xaa\x4a\xe5\xe1\x52\x72\xd0\x0e\x95\x70\x56\x37\xce\x8a\x3b\x55\xed\x40\x21\x12",
             ),
         ],
-    )?;
+    )
+}
+
+// RFC 4231, sections 4.2, 4.3 and 4.7: the same three.
+#[test]
+fn hmac_sha256(rt: HostRuntime) -> Result<(), Fail> {
     assert_hmac::<Sha256Fn>(
         &rt,
         &[
@@ -271,17 +280,22 @@ fn hmac_vectors(rt: HostRuntime) -> Result<(), Fail> {
                 b"\xb0\x34\x4c\x61\xd8\xdb\x38\x53\x5c\xa8\xaf\xce\xaf\x0b\xf1\x2b\x88\x1d\xc2\x00\xc9\x83\x3d\xa7\x26\xe9\x37\x6c\x2e\x32\xcf\xf7",
             ),
             (
-                jefe,
-                question,
+                JEFE,
+                QUESTION,
                 b"\x5b\xdc\xc1\x46\xbf\x60\x75\x4e\x6a\x04\x24\x26\x08\x95\x75\xc7\x5a\x00\x3f\x08\x9d\x27\x39\x83\x9d\xec\x58\xb9\x64\xec\x38\x43",
             ),
             (
                 &[0xaa; 131],
-                larger,
+                LARGER,
                 b"\x60\xe4\x31\x59\x1e\xe0\xb6\x7f\x0d\x8a\x26\xaa\xcb\xf5\xb7\x7f\x8e\x0b\xc6\x21\x37\x28\xc5\x14\x05\x46\x04\x0f\x0e\xe3\x7f\x54",
             ),
         ],
-    )?;
+    )
+}
+
+// The rows of HMAC-SHA-256 over a hash function of the caller's.
+#[test]
+fn hmac_of_three_calls(rt: HostRuntime) -> Result<(), Fail> {
     assert_hmac::<ThreeCalls>(
         &rt,
         &[
@@ -291,17 +305,22 @@ fn hmac_vectors(rt: HostRuntime) -> Result<(), Fail> {
                 b"\xb0\x34\x4c\x61\xd8\xdb\x38\x53\x5c\xa8\xaf\xce\xaf\x0b\xf1\x2b\x88\x1d\xc2\x00\xc9\x83\x3d\xa7\x26\xe9\x37\x6c\x2e\x32\xcf\xf7",
             ),
             (
-                jefe,
-                question,
+                JEFE,
+                QUESTION,
                 b"\x5b\xdc\xc1\x46\xbf\x60\x75\x4e\x6a\x04\x24\x26\x08\x95\x75\xc7\x5a\x00\x3f\x08\x9d\x27\x39\x83\x9d\xec\x58\xb9\x64\xec\x38\x43",
             ),
             (
                 &[0xaa; 131],
-                larger,
+                LARGER,
                 b"\x60\xe4\x31\x59\x1e\xe0\xb6\x7f\x0d\x8a\x26\xaa\xcb\xf5\xb7\x7f\x8e\x0b\xc6\x21\x37\x28\xc5\x14\x05\x46\x04\x0f\x0e\xe3\x7f\x54",
             ),
         ],
-    )?;
+    )
+}
+
+// RFC 4231, sections 4.2, 4.3 and 4.7.
+#[test]
+fn hmac_sha512(rt: HostRuntime) -> Result<(), Fail> {
     assert_hmac::<Sha512Fn>(
         &rt,
         &[
@@ -311,13 +330,13 @@ fn hmac_vectors(rt: HostRuntime) -> Result<(), Fail> {
                 b"\x87\xaa\x7c\xde\xa5\xef\x61\x9d\x4f\xf0\xb4\x24\x1a\x1d\x6c\xb0\x23\x79\xf4\xe2\xce\x4e\xc2\x78\x7a\xd0\xb3\x05\x45\xe1\x7c\xde\xda\xa8\x33\xb7\xd6\xb8\xa7\x02\x03\x8b\x27\x4e\xae\xa3\xf4\xe4\xbe\x9d\x91\x4e\xeb\x61\xf1\x70\x2e\x69\x6c\x20\x3a\x12\x68\x54",
             ),
             (
-                jefe,
-                question,
+                JEFE,
+                QUESTION,
                 b"\x16\x4b\x7a\x7b\xfc\xf8\x19\xe2\xe3\x95\xfb\xe7\x3b\x56\xe0\xa3\x87\xbd\x64\x22\x2e\x83\x1f\xd6\x10\x27\x0c\xd7\xea\x25\x05\x54\x97\x58\xbf\x75\xc0\x5a\x99\x4a\x6d\x03\x4f\x65\xf8\xf0\xe6\xfd\xca\xea\xb1\xa3\x4d\x4a\x6b\x4b\x63\x6e\x07\x0a\x38\xbc\xe7\x37",
             ),
             (
                 &[0xaa; 131],
-                larger,
+                LARGER,
                 b"\x80\xb2\x42\x63\xc7\xc1\xa3\xeb\xb7\x14\x93\xc1\xdd\x7b\xe8\xb4\x9b\x46\xd1\xf4\x1b\x4a\xee\xc1\x12\x1b\x01\x37\x83\xf8\xf3\x52\x6b\x56\xd0\x37\xe0\x5f\x25\x98\xbd\x0f\xd2\x21\x5d\x6a\x1e\x52\x95\xe6\x4f\x73\xf6\x3f\x0a\xec\x8b\x91\x5a\x98\x5d\x78\x65\x98",
             ),
         ],

@@ -67,6 +67,12 @@ fn fixed_widths(rt: HostRuntime) -> Result<(), Fail> {
     );
     assert!(rt; reads(a, b"\x53\xff", Value::Ulong(255))?);
     assert!(rt; reads(a, b"\x44", Value::Ulong(0))?);
+    Ok(())
+}
+
+#[test]
+fn signed_widths(rt: HostRuntime) -> Result<(), Fail> {
+    let a = rt.alloc();
     assert!(rt; reads(a, b"\x51\x80", Value::Byte(-128))?);
     assert!(rt; reads(a, b"\x61\xff\xfe", Value::Short(-2))?);
     assert!(rt; reads(a, b"\x71\x80\x00\x00\x00", Value::Int(-2147483648))?);

@@ -1,4 +1,4 @@
-//! Large inputs: the work is linear, so none of these takes a second.
+//! Large inputs, each in work that is linear in their size.
 use crate::error::ValueError;
 use crate::reading::read_value;
 use amqp_data::Value;
