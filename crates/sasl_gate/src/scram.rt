@@ -16,6 +16,4 @@ pub mod keys;
 pub mod profile;
 pub mod server;
 pub mod stored;
-#[cfg(test)]
-mod tests;
 pub mod texts;
