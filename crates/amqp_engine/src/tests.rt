@@ -2,7 +2,7 @@ use crate::connection::{Connection, EndKind, ListenerConnection};
 use crate::engine::{ConnectionEngine, EngineStep};
 use crate::error::{AllocSessionError, Error};
 use amqp_composites::error::Error as AmqpError;
-use amqp_composites::open::Open;
+use amqp_performatives::open::Open;
 use amqp_frames::{ConnectionState, ConnectionStopReason, FrameBody, SessionFrame};
 use amqp_text::{Symbol, Text};
 use amqp_transport::{AmqpFrames, Transport, transport};

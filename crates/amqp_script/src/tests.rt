@@ -2,7 +2,7 @@
 use crate::script::{ScriptError, parse};
 use crate::trace_text::text;
 use amqp_composites::error::Error as AmqpError;
-use amqp_composites::sasl_code::SaslCode;
+use amqp_sasl_bodies::sasl_code::SaslCode;
 use amqp_data::{OrderedMap, Value, ValueList};
 use amqp_engine::error::Error as ConnectionError;
 use amqp_fields::FieldMap;

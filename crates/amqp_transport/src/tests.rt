@@ -6,8 +6,8 @@ use crate::negotiating::{
     Negotiated, Negotiating, negotiate, negotiate_amqp_header, negotiate_sasl_header,
 };
 use crate::transport::{Error, Flush, Next, Transport};
-use amqp_composites::sasl::SaslResponse;
-use amqp_composites::sasl_body::SaslBody;
+use amqp_sasl_bodies::sasl::SaslResponse;
+use amqp_sasl_bodies::sasl_body::SaslBody;
 use amqp_data::Binary;
 use amqp_frames::ConnectionState;
 use amqp_wire::codec::FramedCodec;

@@ -3,7 +3,7 @@ ghost use Rattle.std.specs.Str.{bytes_eq};
 ghost use Rattle.sasl_gate.specs.AnyServer.{HasMechanism};
 ghost use Rattle.sasl_gate.specs.Credentials.{credentials_of, HasNonce};
 
-use amqp_composites::sasl_code::SaslCode;
+use amqp_sasl_bodies::sasl_code::SaslCode;
 use amqp_text::Text;
 use amqp_wire::codec::FramedCodec;
 use amqp_wire::pipe::Pipe;
