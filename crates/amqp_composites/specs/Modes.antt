@@ -78,8 +78,3 @@ pub receiver_modes_are : (x y : ReceiverSettleMode) → IsTrue (same_receiver_mo
 receiver_modes_are receiver.First receiver.First e = refl
 receiver_modes_are receiver.Second receiver.Second e = refl
 receiver_modes_are x y e = absurd cc
-
--- a largest message size: 0 says that there is none (section 2.7.3)
-abbrev pub nonzero : Option ℕ → Option ℕ
-nonzero None = None
-nonzero (Some n) = if n == 0 then None else Some n

@@ -1,38 +1,11 @@
-//! The composite types of AMQP (OASIS AMQP 1.0, parts 2 to 5): the described lists, read from values and written as values.
+//! Described lists as values: their descriptors, errors and modes (OASIS AMQP 1.0, part 1, section 1.4, and part 2, section 2.8).
 #![tactic(auto)]
 
+pub use error::Error;
 pub use kind::CompositeKind;
+pub use modes::{ReceiverSettleMode, Role, SenderSettleMode};
 
-pub mod attach;
-pub mod begin;
-pub mod close;
 pub mod described;
-pub mod detach;
-pub mod disposition;
-pub mod end;
 pub mod error;
-pub mod flow;
-pub mod header;
 pub mod kind;
-pub mod laws;
-pub mod message_id;
 pub mod modes;
-pub mod open;
-pub mod outcome;
-pub mod performative;
-pub mod properties;
-pub mod sasl;
-pub mod sasl_body;
-pub mod sasl_code;
-mod session_end;
-pub mod source;
-pub mod state;
-pub mod states;
-pub mod target;
-pub mod target_archetype;
-pub mod terminal_state;
-#[cfg(test)]
-mod tests;
-pub mod transactional;
-pub mod transfer;
-pub mod unsettled;

@@ -1,7 +1,7 @@
 //! Roles and settle modes (OASIS AMQP 1.0, part 2, sections 2.8.1 to 2.8.3).
 ghost use Rattle.std.specs.Prelude.{◌≡◌};
 ghost use Rattle.amqp_composites.specs.declared.modes.Role.TheVariants.{Sender, Receiver};
-ghost use Rattle.amqp_composites.specs.Modes.{role_in, of_role, sender_mode_in, of_sender_mode, receiver_mode_in, of_receiver_mode, same_sender_mode, same_receiver_mode, role_again, sender_mode_again, receiver_mode_again, sender_modes_are, receiver_modes_are, sender_mode_number, receiver_mode_number, nonzero};
+ghost use Rattle.amqp_composites.specs.Modes.{role_in, of_role, sender_mode_in, of_sender_mode, receiver_mode_in, of_receiver_mode, same_sender_mode, same_receiver_mode, role_again, sender_mode_again, receiver_mode_again, sender_modes_are, receiver_modes_are, sender_mode_number, receiver_mode_number};
 
 use amqp_data::Value;
 use amqp_fields::{BaseError, Defaulted, Field};
@@ -160,14 +160,4 @@ impl Defaulted for ReceiverSettleMode {
     }
 
     ghost decides = { receiver_modes_are };
-}
-
-/// A largest message size: 0 says that there is none (section 2.7.3).
-pub(crate) fn nonzero(size: Option<u64>) -> Option<u64>
-    ensures { result ≡ nonzero size }
-{
-    match size {
-        Some(0) => None,
-        other => other,
-    }
 }

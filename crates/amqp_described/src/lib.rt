@@ -1,6 +1,7 @@
 //! Described values in bytes (OASIS AMQP 1.0, part 1, section 1.2), read and written with the errors of bodies.
 #![tactic(auto)]
 
+pub use bodies::{LEVELS, put_alone, put_fields};
 pub use error::body_error;
 pub use reading::{read_front, read_whole};
 pub use writing::{
@@ -8,6 +9,7 @@ pub use writing::{
     write_described_value,
 };
 
+pub mod bodies;
 pub mod error;
 pub mod reading;
 #[cfg(test)]

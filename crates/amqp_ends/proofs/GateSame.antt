@@ -2,9 +2,9 @@
 use Rattle.std.proofs.Common.{◌≡◌, ◌≢◌, inl, inr, ℕ, List, Option, Some, None, refl, sym, ap, ◌∙◌}
 use Rattle.std.proofs.Math.Path.{ap₂}
 use Rattle.std.proofs.lemmas.Option.{same_Some}
-use Rattle.amqp_composites.specs.declared.sasl_body.SaslBody.{SaslBody}
-use Rattle.amqp_composites.specs.declared.sasl_code.SaslCode.{SaslCode}
-use Rattle.amqp_composites.specs.declared.sasl_code.SaslCode.TheVariants as sasl
+use Rattle.amqp_sasl_bodies.specs.declared.sasl_body.SaslBody.{SaslBody}
+use Rattle.amqp_sasl_bodies.specs.declared.sasl_code.SaslCode.{SaslCode}
+use Rattle.amqp_sasl_bodies.specs.declared.sasl_code.SaslCode.TheVariants as sasl
 use Rattle.amqp_wire.specs.Events.{LinkEvent, read_of}
 use Rattle.sasl_gate.specs.declared.gate.client.ClientExchange.{ClientExchange}
 use Rattle.sasl_gate.specs.declared.gate.client.ClientExchange.TheVariants as client

@@ -1,6 +1,6 @@
 -- An end whose transport failed behind the headers has written its own, and one that waits before it has not read that of the other.
 use Rattle.std.proofs.Common.{◌≡◌, ◌<◌, ◌≤◌, inl, inr, ℕ, List, [], ◌∷◌, ◌++◌, length, Bool, true, false, Option, Some, None, refl, sym, ap, ◌∙◌, subst, arith, append_assoc, append-nil, length-append, flat_map}
-use Rattle.amqp_composites.specs.declared.sasl_body.SaslBody.{SaslBody}
+use Rattle.amqp_sasl_bodies.specs.declared.sasl_body.SaslBody.{SaslBody}
 use Rattle.amqp_transport.specs.declared.transport.Error.{Error as TransportFault}
 use Rattle.amqp_transport.specs.declared.transport.Error.TheVariants as fault
 use Rattle.amqp_wire.specs.declared.frame.Front.TheVariants.{Partial}

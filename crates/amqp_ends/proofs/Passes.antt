@@ -1,6 +1,6 @@
 -- Two ends whose layers agree pass both.
 use Rattle.std.proofs.Common.{◌≡◌, ◌⊎◌, ◌≤◌, inl, inr, ℕ, List, [], ◌∷◌, ◌++◌, length, Bool, true, Option, Some, None, refl, sym, ap, ◌∙◌, subst, arith, append_assoc, append-nil, All, flat_map}
-use Rattle.amqp_composites.specs.declared.sasl_body.SaslBody.{SaslBody}
+use Rattle.amqp_sasl_bodies.specs.declared.sasl_body.SaslBody.{SaslBody}
 use Rattle.amqp_wire.specs.Events.{LinkEvent}
 use Rattle.amqp_transport.specs.declared.transport.Error.{Error as TransportFault}
 use Rattle.sasl_gate.specs.declared.gate.error.NegotiationError.{NegotiationError}

@@ -1,7 +1,7 @@
 -- The exchanges of two ends, one of which is a client's and the other a listener's.
 use Rattle.std.proofs.Common.{◌≡◌, ◌≢◌, ℕ, List, [], ◌++◌}
 use Rattle.std.specs.Prelude.{⊤}
-use Rattle.amqp_composites.specs.declared.sasl_body.SaslBody.{SaslBody}
+use Rattle.amqp_sasl_bodies.specs.declared.sasl_body.SaslBody.{SaslBody}
 use Rattle.sasl_gate.specs.declared.gate.exchange.Turn.TheVariants.{Send, Pass}
 use Rattle.sasl_gate.specs.Frames.{Heard}
 use Rattle.sasl_gate.specs.Negotiation.{IsHeard}

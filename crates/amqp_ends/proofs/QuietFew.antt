@@ -1,7 +1,7 @@
 -- An end writes at most three frames of a SASL layer.
 use Rattle.std.proofs.Common.{◌≡◌, ◌≤◌, inl, inr, ℕ, List, [], ◌++◌, length, Option, Some, None, refl, ap, arith}
 use Rattle.std.proofs.lemmas.List.Elements.{All-nil}
-use Rattle.amqp_composites.specs.declared.sasl_body.SaslBody.{SaslBody}
+use Rattle.amqp_sasl_bodies.specs.declared.sasl_body.SaslBody.{SaslBody}
 use Rattle.amqp_opening.specs.declared.authentication.Authentication.{Authentication}
 use Rattle.amqp_opening.specs.declared.authentication.Authentication.TheVariants.{Idle, Client, Listener}
 use Rattle.amqp_opening.specs.declared.authentication.SaslCall.{SaslCall}

@@ -1,7 +1,7 @@
 -- Two ends with a SASL layer that have written all that they queued, where nothing is in flight.
 use Rattle.std.proofs.Common.{◌≡◌, ◌≢◌, inl, inr, ℕ, List, [], ◌∷◌, ◌++◌, length, Bool, true, Some, refl, sym, ap, ◌∙◌, subst, arith, append_assoc, append-nil, length-append, All, flat_map}
 use Rattle.std.proofs.lemmas.List.Elements.{All-head, All-tail}
-use Rattle.amqp_composites.specs.declared.sasl_body.SaslBody.{SaslBody}
+use Rattle.amqp_sasl_bodies.specs.declared.sasl_body.SaslBody.{SaslBody}
 use Rattle.amqp_wire.specs.declared.frame.Front.TheVariants.{Partial}
 use Rattle.amqp_wire.specs.Frame.{IsFront}
 use Rattle.amqp_engine.specs.Sentence.{bytes_of_all}

@@ -1,6 +1,6 @@
 -- Two ends between which nothing is in flight (OASIS AMQP 1.0, part 2, section 2.4).
 use Rattle.std.specs.Prelude.{◌≡◌, ◌≤◌, ◌⊎◌, ℕ, List, [], ◌∷◌, ◌++◌, length, All, Option, Some, None, ⊤}
-use Rattle.amqp_composites.specs.declared.sasl_body.SaslBody.{SaslBody}
+use Rattle.amqp_sasl_bodies.specs.declared.sasl_body.SaslBody.{SaslBody}
 use Rattle.amqp_opening.specs.declared.authentication.SaslCall.{SaslCall}
 use Rattle.amqp_opening.specs.Opening.{amqp_header}
 use Rattle.amqp_engine.specs.Sentence.{bytes_of_all}

@@ -1,6 +1,6 @@
 -- What the reason of a stop says of the frames that were read.
 use Rattle.std.proofs.Common.{◌≡◌, ◌⊎◌, inl, inr, ℕ, List, [], ◌∷◌, ◌++◌, Option, Some, None, refl, sym, ap, ◌∙◌, subst}
-use Rattle.amqp_composites.specs.declared.close.Close.{Close}
+use Rattle.amqp_performatives.specs.declared.close.Close.{Close}
 use Rattle.amqp_composites.specs.declared.error.Error.{Error as AmqpError}
 use Rattle.amqp_frames.specs.declared.shared.ConnectionStopReason.{ConnectionStopReason}
 use Rattle.amqp_frames.specs.declared.shared.ConnectionStopReason.TheVariants as why

@@ -15,7 +15,7 @@ use Rattle.amqp_transport.specs.Causes.{kept_after}
 use Rattle.amqp_transport.specs.Kinds.{no_frame, amqp_spells}
 use Rattle.amqp_transport.specs.Stream.{Grew, frames_of}
 use Rattle.amqp_transport.specs.Wire.{Wire}
-use Rattle.amqp_composites.specs.declared.open.Open.{Open}
+use Rattle.amqp_performatives.specs.declared.open.Open.{Open}
 use Rattle.amqp_frames.specs.declared.shared.ConnectionStopReason.{ConnectionStopReason}
 use Rattle.amqp_engine.specs.declared.phase.Rejection.{Rejection}
 use Rattle.amqp_engine.specs.declared.phase.Rejection.TheVariants as rejection

@@ -3,7 +3,7 @@
 use Rattle.std.specs.Prelude.{◌≡◌, ◌≤◌, ◌+◌, ℕ, List, [], ◌∷◌, ◌++◌, length, max, true, false, None, ◌⊎◌, All}
 use Rattle.amqp_wire.specs.declared.link.Link.{Ghosts}
 use Rattle.amqp_wire.specs.Events.{LinkEvent, Went, read_of, wrote_of}
-use Rattle.amqp_composites.specs.declared.open.Open.{Open}
+use Rattle.amqp_performatives.specs.declared.open.Open.{Open}
 use Rattle.amqp_frames.specs.declared.body.FrameBody.{FrameBody}
 use Rattle.amqp_frames.specs.declared.body.FrameBody.TheVariants as b
 use Rattle.amqp_transport.specs.declared.frames.Frame.{Frame}

@@ -1,7 +1,7 @@
 -- What an engine is, and what a frame that it reads or writes makes of it.
 use Rattle.std.specs.Prelude.{ℕ, List, ◌++◌, codes, max, Option, Some, None, if◌then◌else◌}
 use Rattle.amqp_composites.specs.declared.error.Error.{Error as AmqpError}
-use Rattle.amqp_composites.specs.declared.open.Open.{Open}
+use Rattle.amqp_performatives.specs.declared.open.Open.{Open}
 use Rattle.amqp_frames.specs.declared.body.FrameBody.{FrameBody}
 use Rattle.amqp_frames.specs.declared.body.FrameBody.TheVariants as b
 use Rattle.amqp_frames.specs.declared.shared.ConnectionStopReason.{ConnectionStopReason}

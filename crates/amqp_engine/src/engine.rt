@@ -19,9 +19,9 @@ use crate::drops::discard;
 use crate::error::{AllocSessionError, Error};
 use crate::phase::{Phase, Rejection};
 use crate::sessions::{Plan, Sessions};
-use amqp_composites::close::Close;
+use amqp_performatives::close::Close;
 use amqp_composites::error::Error as AmqpError;
-use amqp_composites::open::Open;
+use amqp_performatives::open::Open;
 use amqp_frames::{
     ConnectionState, ConnectionStopReason, FrameBody, IncomingSession, SessionFrame,
 };

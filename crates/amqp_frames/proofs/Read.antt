@@ -11,8 +11,8 @@ use Rattle.amqp_fields.specs.declared.error.BaseError.{BaseError}
 use Rattle.amqp_fields.specs.declared.error.BaseError.TheVariants as errors
 use Rattle.amqp_fields.specs.Fields.{Gives}
 use Rattle.amqp_described.specs.Reading.{IsTheOne, Begins, ReadsFront}
-use Rattle.amqp_composites.specs.declared.performative.Performative.{Performative}
-use Rattle.amqp_composites.specs.Performative.{performative_in}
+use Rattle.amqp_performatives.specs.declared.performative.Performative.{Performative}
+use Rattle.amqp_performatives.specs.Performative.{performative_in}
 use Rattle.amqp_frames.specs.declared.body.FrameBody.{FrameBody}
 use Rattle.amqp_frames.specs.declared.body.FrameBody.TheVariants as b
 use Rattle.amqp_frames.specs.Body.{framed, SpellsBody, empty', performative'}

@@ -3,19 +3,19 @@ use Rattle.std.specs.Prelude.{◌≡◌, ℕ, ◌≤◌, List, [], ◌∷◌, �
 use Rattle.amqp_data.specs.Data.{Amqp, Items, no_items, item, depth}
 use Rattle.amqp_value.specs.Grammar.{Spells}
 use Rattle.amqp_composites.specs.declared.kind.CompositeKind.TheVariants as kind
-use Rattle.amqp_composites.specs.declared.performative.Performative.{Performative}
-use Rattle.amqp_composites.specs.declared.performative.Performative.TheVariants as p
+use Rattle.amqp_performatives.specs.declared.performative.Performative.{Performative}
+use Rattle.amqp_performatives.specs.declared.performative.Performative.TheVariants as p
 use Rattle.amqp_composites.specs.Described.{composite}
-use Rattle.amqp_composites.specs.Attach.{attach_fields, written}
-use Rattle.amqp_composites.specs.Begin.{begin_fields}
-use Rattle.amqp_composites.specs.Close.{close_fields}
-use Rattle.amqp_composites.specs.Detach.{detach_fields}
-use Rattle.amqp_composites.specs.Disposition.{disposition_fields}
-use Rattle.amqp_composites.specs.End.{end_fields}
-use Rattle.amqp_composites.specs.Flow.{flow_fields}
-use Rattle.amqp_composites.specs.Open.{open_fields}
-use Rattle.amqp_composites.specs.Transfer.{transfer_fields}
-use Rattle.amqp_composites.specs.Performative.{performative_in}
+use Rattle.amqp_performatives.specs.Attach.{attach_fields, written}
+use Rattle.amqp_performatives.specs.Begin.{begin_fields}
+use Rattle.amqp_performatives.specs.Close.{close_fields}
+use Rattle.amqp_performatives.specs.Detach.{detach_fields}
+use Rattle.amqp_performatives.specs.Disposition.{disposition_fields}
+use Rattle.amqp_performatives.specs.End.{end_fields}
+use Rattle.amqp_performatives.specs.Flow.{flow_fields}
+use Rattle.amqp_performatives.specs.Open.{open_fields}
+use Rattle.amqp_performatives.specs.Transfer.{transfer_fields}
+use Rattle.amqp_performatives.specs.Performative.{performative_in}
 use Rattle.amqp_frames.specs.declared.body.FrameBody.{FrameBody}
 use Rattle.amqp_frames.specs.declared.body.FrameBody.TheVariants as b
 

@@ -4,10 +4,10 @@ ghost use Rattle.amqp_described.specs.Reading.{IsTheOne};
 ghost use Rattle.amqp_fields.specs.Fields.{Gives};
 ghost use Rattle.amqp_frames.specs.Body.{framed, alone as alone_body, SpellsBody};
 
-use crate::body::{FrameBody, LEVELS};
-use amqp_composites::performative::Performative;
-use amqp_described::read_front;
+use crate::body::FrameBody;
+use amqp_described::{LEVELS, read_front};
 use amqp_fields::BaseError;
+use amqp_performatives::performative::Performative;
 use bytes::Bytes;
 use std::alloc::Global;
 

@@ -1,22 +1,22 @@
 //! The bytes of a frame's body (OASIS AMQP 1.0, part 2, section 2.3.2).
 ghost use Rattle.std.specs.Prelude.{IfOk};
 ghost use Rattle.amqp_frames.specs.Body.{SpellsBody, body_values, body_payload, read_again_body};
-ghost use Rattle.amqp_frames.specs.Writing.{Encodes};
+ghost use Rattle.amqp_described.specs.Bodies.{Encodes};
 
 use crate::body::FrameBody;
-use crate::fields::{put_alone, put_fields};
 use amqp_composites::CompositeKind;
-use amqp_composites::attach::attach_list;
-use amqp_composites::begin::begin_list;
-use amqp_composites::close::close_list;
-use amqp_composites::detach::detach_list;
-use amqp_composites::disposition::disposition_list;
-use amqp_composites::end::end_list;
-use amqp_composites::flow::flow_list;
-use amqp_composites::open::open_list;
-use amqp_composites::transfer::transfer_list;
 use amqp_data::Binary;
+use amqp_described::{put_alone, put_fields};
 use amqp_fields::BaseError;
+use amqp_performatives::attach::attach_list;
+use amqp_performatives::begin::begin_list;
+use amqp_performatives::close::close_list;
+use amqp_performatives::detach::detach_list;
+use amqp_performatives::disposition::disposition_list;
+use amqp_performatives::end::end_list;
+use amqp_performatives::flow::flow_list;
+use amqp_performatives::open::open_list;
+use amqp_performatives::transfer::transfer_list;
 use std::alloc::Global;
 
 /// The bytes of the body: `Size` exactly where a field is nested more than 32 deep or a length needs more than 32 bits.

@@ -6,10 +6,10 @@ use Rattle.amqp_data.specs.Data.{Amqp, Items, Pairs, scalar, ulong, described, n
 use Rattle.amqp_fields.specs.Fields.{◌>>=◌, ends, map_with, of_map, is_annotation, is_string, binary_in, of_binary, IsValid}
 use Rattle.amqp_fields.specs.Maps.{map_again}
 use Rattle.amqp_fields.specs.Again.{HasKeys}
-use Rattle.amqp_composites.specs.declared.header.Header.{Header}
-use Rattle.amqp_composites.specs.declared.properties.Properties.{Properties}
-use Rattle.amqp_composites.specs.Header.{header_again}
-use Rattle.amqp_composites.specs.Properties.{properties_again}
+use Rattle.amqp_sections.specs.declared.header.Header.{Header}
+use Rattle.amqp_sections.specs.declared.properties.Properties.{Properties}
+use Rattle.amqp_sections.specs.Header.{header_again}
+use Rattle.amqp_sections.specs.Properties.{properties_again}
 use Rattle.amqp_described.specs.Writing.{numbered}
 use Rattle.amqp_messages.specs.declared.kind.SectionKind.{SectionKind}
 use Rattle.amqp_messages.specs.declared.kind.SectionKind.TheVariants as kind

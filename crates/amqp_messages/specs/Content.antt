@@ -2,10 +2,10 @@
 use Rattle.std.specs.Prelude.{Option, Some, None}
 use Rattle.amqp_data.specs.Data.{Amqp, Items, list}
 use Rattle.amqp_fields.specs.Fields.{trimmed}
-use Rattle.amqp_composites.specs.declared.header.Header.{Header}
-use Rattle.amqp_composites.specs.declared.properties.Properties.{Properties}
-use Rattle.amqp_composites.specs.Header.{header_of, header_fields}
-use Rattle.amqp_composites.specs.Properties.{properties_of, properties_fields}
+use Rattle.amqp_sections.specs.declared.header.Header.{Header}
+use Rattle.amqp_sections.specs.declared.properties.Properties.{Properties}
+use Rattle.amqp_sections.specs.Header.{header_of, header_fields}
+use Rattle.amqp_sections.specs.Properties.{properties_of, properties_fields}
 
 abbrev pub header_in : Amqp → Option Header
 header_in (list fields) = header_of fields

@@ -5,15 +5,15 @@ ghost use Rattle.amqp_data.specs.View.{view};
 ghost use Rattle.amqp_fields.specs.Fields.{Gives, all_keys, is_annotation, is_string, map_with, of_map, binary_in, of_binary};
 ghost use Rattle.amqp_fields.specs.Maps.{map_again};
 ghost use Rattle.amqp_described.specs.Writing.{numbered, Adds};
-ghost use Rattle.amqp_composites.specs.Header.{header_again};
-ghost use Rattle.amqp_composites.specs.Properties.{properties_again};
+ghost use Rattle.amqp_sections.specs.Header.{header_again};
+ghost use Rattle.amqp_sections.specs.Properties.{properties_again};
 ghost use Rattle.amqp_messages.specs.Content.{header_in, of_header, properties_in, of_properties, list_in, of_list};
 
-use amqp_composites::header::Header;
-use amqp_composites::properties::Properties;
 use amqp_data::{Binary, Value, ValueList};
 use amqp_described::{write_described_binary, write_described_list, write_described_map};
 use amqp_fields::{AnnotationMap, BaseError, Field, Fields, TextMap};
+use amqp_sections::header::Header;
+use amqp_sections::properties::Properties;
 use std::alloc::Global;
 
 /// A type that a section may hold. What is written of it is read as the same again.

@@ -2,10 +2,10 @@
 ghost use Rattle.std.specs.Prelude.{◌≡◌};
 ghost use Rattle.amqp_messages.specs.Message.{only_body};
 
-use amqp_composites::header::Header;
-use amqp_composites::properties::Properties;
 use amqp_data::{Binary, Value, ValueList};
 use amqp_fields::{AnnotationMap, TextMap};
+use amqp_sections::header::Header;
+use amqp_sections::properties::Properties;
 
 /// One thing or more, in order.
 #[derive(Debug, Drop)]

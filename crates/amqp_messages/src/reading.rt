@@ -6,10 +6,10 @@ ghost use Rattle.amqp_messages.specs.Reading.{head_in, about_in, rest_in, messag
 use crate::kind::SectionKind;
 use crate::message::{Body, Message};
 use crate::sections::Sections;
-use amqp_composites::header::Header;
-use amqp_composites::properties::Properties;
 use amqp_described::read_whole;
 use amqp_fields::{AnnotationMap, BaseError, TextMap};
+use amqp_sections::header::Header;
+use amqp_sections::properties::Properties;
 use std::alloc::Global;
 
 /// How deep a section may be nested: its value by itself 32 levels.

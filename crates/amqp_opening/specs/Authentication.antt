@@ -1,8 +1,8 @@
 -- The SASL exchange of an end: a client's, or a listener's with one user.
 use Rattle.std.specs.Prelude.{◌≡◌, ℕ, List, Option, Some, None, if◌then◌else◌, ⊤}
 use Rattle.std.specs.Str.{bytes_eq}
-use Rattle.amqp_composites.specs.declared.sasl_body.SaslBody.{SaslBody}
-use Rattle.amqp_composites.specs.declared.sasl_code.SaslCode.{SaslCode}
+use Rattle.amqp_sasl_bodies.specs.declared.sasl_body.SaslBody.{SaslBody}
+use Rattle.amqp_sasl_bodies.specs.declared.sasl_code.SaslCode.{SaslCode}
 use Rattle.base64.specs.GeneralPurpose.{IsBytes}
 use Rattle.sasl_gate.specs.declared.gate.client.ClientExchange.{ClientExchange}
 use Rattle.sasl_gate.specs.declared.gate.client.ClientExchange.TheVariants as client

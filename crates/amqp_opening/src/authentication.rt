@@ -11,7 +11,7 @@ ghost use Rattle.amqp_opening.specs.Authentication.{passwords_for, stored_for, h
 ghost use Rattle.amqp_opening.specs.Permission.{IsAllowedAccept, IsAllowedProfile, IsAllowedSasl, IsAllowedSaslCall};
 
 use crate::acceptor::{AcceptSasl, Accepting};
-use amqp_composites::sasl_body::SaslBody;
+use amqp_sasl_bodies::sasl_body::SaslBody;
 use amqp_text::{Binary, Text};
 use sasl_gate::gate::exchange::{Exchange, Turn, Verdict};
 use sasl_gate::{

@@ -1,8 +1,8 @@
 -- What a listener had sent when it was given a response, and what an outcome of it says.
 use Rattle.std.proofs.Common.{◌≡◌, ℕ, List, [], ◌∷◌, ◌++◌, Option, Some, None, ap, sym, ◌∙◌, subst}
-use Rattle.amqp_composites.specs.declared.sasl_body.SaslBody.{SaslBody}
-use Rattle.amqp_composites.specs.declared.sasl_code.SaslCode.{SaslCode}
-use Rattle.amqp_composites.specs.declared.sasl_code.SaslCode.TheVariants as sasl
+use Rattle.amqp_sasl_bodies.specs.declared.sasl_body.SaslBody.{SaslBody}
+use Rattle.amqp_sasl_bodies.specs.declared.sasl_code.SaslCode.{SaslCode}
+use Rattle.amqp_sasl_bodies.specs.declared.sasl_code.SaslCode.TheVariants as sasl
 use Rattle.sasl_gate.specs.declared.gate.exchange.Turn.TheVariants.{Pass}
 use Rattle.sasl_gate.specs.declared.gate.scram_server.ServerStage.{ServerStage}
 use Rattle.sasl_gate.specs.declared.scram.stored.StoredPassword.{StoredPassword}

@@ -1,6 +1,6 @@
 -- Two ends that read one another's bytes.
 use Rattle.std.proofs.Common.{◌≡◌, ◌≢◌, ℕ, List, [], ◌++◌, sym}
-use Rattle.amqp_composites.specs.declared.sasl_body.SaslBody.{SaslBody}
+use Rattle.amqp_sasl_bodies.specs.declared.sasl_body.SaslBody.{SaslBody}
 use Rattle.amqp_opening.specs.Authentication.{passwords_for, stored_for}
 use Rattle.sasl_gate.specs.declared.gate.client.ClientExchange.{ClientExchange}
 use Rattle.sasl_gate.specs.declared.gate.exchange.Turn.TheVariants.{Send, Pass}

@@ -1,8 +1,8 @@
 -- A listener with SCRAM sends one challenge at most.
 use Rattle.std.proofs.Common.{◌≡◌, ℕ, List, [], ◌∷◌, ◌++◌, Option, Some, None, ap, sym, ◌∙◌}
-use Rattle.amqp_composites.specs.declared.sasl_body.SaslBody.{SaslBody}
-use Rattle.amqp_composites.specs.declared.sasl_code.SaslCode.{SaslCode}
-use Rattle.amqp_composites.specs.declared.sasl_code.SaslCode.TheVariants as sasl
+use Rattle.amqp_sasl_bodies.specs.declared.sasl_body.SaslBody.{SaslBody}
+use Rattle.amqp_sasl_bodies.specs.declared.sasl_code.SaslCode.{SaslCode}
+use Rattle.amqp_sasl_bodies.specs.declared.sasl_code.SaslCode.TheVariants as sasl
 use Rattle.sasl_gate.specs.declared.gate.scram_server.ServerStage.{ServerStage}
 use Rattle.sasl_gate.specs.declared.scram.hash.ScramHash.{ScramHash}
 use Rattle.sasl_gate.specs.declared.scram.stored.StoredPassword.{StoredPassword}

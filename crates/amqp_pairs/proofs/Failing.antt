@@ -1,6 +1,6 @@
 -- One of two ends that read one another's bytes, whose mechanism failed by a body, whatever the two mechanisms are.
 use Rattle.std.proofs.Common.{◌≡◌, ◌⊎◌, inl, inr, ℕ, List, [], ◌∷◌, ◌++◌, ap, sym, ◌∙◌, subst, append_assoc}
-use Rattle.amqp_composites.specs.declared.sasl_body.SaslBody.{SaslBody}
+use Rattle.amqp_sasl_bodies.specs.declared.sasl_body.SaslBody.{SaslBody}
 use Rattle.amqp_wire.specs.Events.{LinkEvent, read_of}
 use Rattle.sasl_gate.specs.declared.gate.error.NegotiationError.{NegotiationError}
 use Rattle.sasl_gate.specs.declared.gate.exchange.Turn.{Turn}

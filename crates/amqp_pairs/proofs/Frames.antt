@@ -3,8 +3,8 @@ use Rattle.std.proofs.Common.{◌≡◌, ◌<◌, ◌≤◌, inl, inr, ℕ, List
 use Rattle.std.specs.Prelude.{slice_index}
 use Rattle.std.proofs.lemmas.List.{take_at, take-append-le, take-append-drop, get_or_append_left}
 use Rattle.std.proofs.lemmas.List.Elements.{All-head}
-use Rattle.amqp_composites.specs.declared.sasl_body.SaslBody.{SaslBody}
-use Rattle.amqp_frames.specs.Sasl.{SpellsSasl}
+use Rattle.amqp_sasl_bodies.specs.declared.sasl_body.SaslBody.{SaslBody}
+use Rattle.amqp_sasl_bodies.specs.SaslBytes.{SpellsSasl}
 use Rattle.amqp_wire.specs.Frame.{IsBadOffset, IsRefusedSize, IsWhole}
 use Rattle.amqp_wire.specs.Size.{size_of, start_of}
 use Rattle.amqp_wire.proofs.Cuts.{size_of-append}

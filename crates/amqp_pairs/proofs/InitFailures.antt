@@ -1,7 +1,7 @@
 -- Two ends with ANONYMOUS or PLAIN that read one another's bytes, of which one failed.
 use Rattle.std.proofs.Common.{◌≡◌, ℕ, List, ◌∷◌, ◌++◌, [], refl, ap, ◌∙◌}
-use Rattle.amqp_composites.specs.declared.sasl_body.SaslBody.{SaslBody}
-use Rattle.amqp_composites.specs.declared.sasl_code.SaslCode.TheVariants as sasl
+use Rattle.amqp_sasl_bodies.specs.declared.sasl_body.SaslBody.{SaslBody}
+use Rattle.amqp_sasl_bodies.specs.declared.sasl_code.SaslCode.TheVariants as sasl
 use Rattle.amqp_opening.specs.Authentication.{passwords_for}
 use Rattle.amqp_wire.specs.Events.{LinkEvent, read_of}
 use Rattle.sasl_gate.specs.declared.gate.client.ClientExchange.TheVariants as client

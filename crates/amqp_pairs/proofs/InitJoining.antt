@@ -1,6 +1,6 @@
 -- Two ends with ANONYMOUS or PLAIN are joined, and stay so.
 use Rattle.std.proofs.Common.{ℕ, List, [], ◌∷◌, ◌++◌, Option, Some, None, refl, ap, sym, ◌∙◌}
-use Rattle.amqp_composites.specs.declared.sasl_body.SaslBody.{SaslBody}
+use Rattle.amqp_sasl_bodies.specs.declared.sasl_body.SaslBody.{SaslBody}
 use Rattle.amqp_opening.specs.Authentication.{passwords_for}
 use Rattle.sasl_gate.specs.declared.gate.init_server.InitCheck.{InitCheck}
 use Rattle.sasl_gate.specs.declared.gate.init_server.InitCheck.TheVariants as init_check

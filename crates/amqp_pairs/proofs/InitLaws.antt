@@ -1,9 +1,9 @@
 -- The laws of two joined ends with ANONYMOUS or PLAIN.
 use Rattle.std.proofs.Common.{◌≡◌, ◌≢◌, inl, inr, ℕ, true, false, List, [], ◌∷◌, ◌++◌, Option, None, refl, ap, sym, ◌∙◌, subst, Contains}
 use Rattle.std.proofs.lemmas.List.Elements.{Contains-push}
-use Rattle.amqp_composites.specs.declared.sasl_body.SaslBody.{SaslBody}
-use Rattle.amqp_composites.specs.declared.sasl_code.SaslCode.{SaslCode}
-use Rattle.amqp_composites.specs.declared.sasl_code.SaslCode.TheVariants as sasl
+use Rattle.amqp_sasl_bodies.specs.declared.sasl_body.SaslBody.{SaslBody}
+use Rattle.amqp_sasl_bodies.specs.declared.sasl_code.SaslCode.{SaslCode}
+use Rattle.amqp_sasl_bodies.specs.declared.sasl_code.SaslCode.TheVariants as sasl
 use Rattle.amqp_opening.specs.Authentication.{passwords_for}
 use Rattle.sasl_gate.specs.declared.gate.client.ClientExchange.TheVariants as client
 use Rattle.sasl_gate.specs.declared.gate.error.NegotiationError.{NegotiationError}

@@ -1,6 +1,6 @@
 -- Two ends with SCRAM are joined, and stay so.
 use Rattle.std.proofs.Common.{◌≡◌, ℕ, List, [], ◌∷◌, ◌++◌, Option, Some, refl, ap, sym, ◌∙◌, subst, append_assoc}
-use Rattle.amqp_composites.specs.declared.sasl_body.SaslBody.{SaslBody}
+use Rattle.amqp_sasl_bodies.specs.declared.sasl_body.SaslBody.{SaslBody}
 use Rattle.amqp_opening.specs.Authentication.{stored_for}
 use Rattle.base64.specs.GeneralPurpose.{IsBytes}
 use Rattle.sasl_gate.specs.Check.{stored_of}

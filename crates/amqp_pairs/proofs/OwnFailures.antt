@@ -1,6 +1,6 @@
 -- Two ends with SCRAM of the same account that read one another's bytes fail only by their links, or for a body of their own.
 use Rattle.std.proofs.Common.{ℕ, List}
-use Rattle.amqp_composites.specs.declared.sasl_body.SaslBody.{SaslBody}
+use Rattle.amqp_sasl_bodies.specs.declared.sasl_body.SaslBody.{SaslBody}
 use Rattle.amqp_opening.specs.Authentication.{stored_for}
 use Rattle.amqp_wire.specs.Events.{LinkEvent, read_of}
 use Rattle.sasl_gate.specs.declared.gate.client.ClientExchange.TheVariants as client

@@ -1,6 +1,6 @@
 -- Two ends of any mechanisms that read one another's bytes: an end that passes heard all that the other said, and no frame is refused behind that.
 use Rattle.std.proofs.Common.{◌≡◌, inl, inr, ℕ, List, [], ◌∷◌, ◌++◌, refl, ap, sym, ◌∙◌, append-nil, flat_map}
-use Rattle.amqp_composites.specs.declared.sasl_body.SaslBody.{SaslBody}
+use Rattle.amqp_sasl_bodies.specs.declared.sasl_body.SaslBody.{SaslBody}
 use Rattle.amqp_opening.specs.Authentication.{passwords_for, stored_for}
 use Rattle.amqp_wire.specs.Events.{LinkEvent, read_of}
 use Rattle.sasl_gate.specs.declared.gate.client.ClientExchange.{ClientExchange}

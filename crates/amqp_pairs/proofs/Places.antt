@@ -1,8 +1,8 @@
 -- Where a body stands among those that a listener sent.
 use Rattle.std.proofs.Common.{◌≡◌, ℕ, List, [], ◌∷◌, ◌++◌, Option, Some, None, inl, inr, ap, sym, ◌∙◌, subst}
-use Rattle.amqp_composites.specs.declared.sasl_body.SaslBody.{SaslBody}
-use Rattle.amqp_composites.specs.declared.sasl_code.SaslCode.{SaslCode}
-use Rattle.amqp_composites.specs.declared.sasl_code.SaslCode.TheVariants as sasl
+use Rattle.amqp_sasl_bodies.specs.declared.sasl_body.SaslBody.{SaslBody}
+use Rattle.amqp_sasl_bodies.specs.declared.sasl_code.SaslCode.{SaslCode}
+use Rattle.amqp_sasl_bodies.specs.declared.sasl_code.SaslCode.TheVariants as sasl
 use Rattle.sasl_gate.specs.declared.gate.exchange.Turn.TheVariants.{Refuse}
 use Rattle.sasl_gate.specs.declared.gate.scram_server.ServerStage.{ServerStage}
 use Rattle.sasl_gate.specs.declared.scram.stored.StoredPassword.{StoredPassword}

@@ -1,8 +1,8 @@
 -- Two joined ends of which neither has anything to send.
 use Rattle.std.proofs.Common.{◌≡◌, ◌≢◌, inl, inr, ℕ, List, [], ◌∷◌, ◌++◌, Option, Some, None, sym, ◌∙◌}
-use Rattle.amqp_composites.specs.declared.sasl_body.SaslBody.{SaslBody}
-use Rattle.amqp_composites.specs.declared.sasl_code.SaslCode.{SaslCode}
-use Rattle.amqp_composites.specs.declared.sasl_code.SaslCode.TheVariants as sasl
+use Rattle.amqp_sasl_bodies.specs.declared.sasl_body.SaslBody.{SaslBody}
+use Rattle.amqp_sasl_bodies.specs.declared.sasl_code.SaslCode.{SaslCode}
+use Rattle.amqp_sasl_bodies.specs.declared.sasl_code.SaslCode.TheVariants as sasl
 use Rattle.sasl_gate.specs.declared.gate.scram_client.ClientStage.{ClientStage}
 use Rattle.sasl_gate.specs.declared.gate.exchange.Turn.TheVariants.{Send, Pass}
 use Rattle.sasl_gate.specs.declared.gate.scram_server.ServerStage.{ServerStage}

@@ -4,9 +4,9 @@ use Rattle.std.proofs.Math.Path.{ap₂}
 use Rattle.std.proofs.lemmas.List.{take_at, drop_at}
 use Rattle.std.proofs.lemmas.List.Elements.{All-head, All-tail}
 use Rattle.std.proofs.lemmas.Option.{same_Some}
-use Rattle.amqp_composites.specs.declared.sasl_body.SaslBody.{SaslBody}
-use Rattle.amqp_composites.specs.SaslBody.{sasl_body_in}
-use Rattle.amqp_frames.specs.Sasl.{SpellsSasl}
+use Rattle.amqp_sasl_bodies.specs.declared.sasl_body.SaslBody.{SaslBody}
+use Rattle.amqp_sasl_bodies.specs.SaslBody.{sasl_body_in}
+use Rattle.amqp_sasl_bodies.specs.SaslBytes.{SpellsSasl}
 use Rattle.amqp_opening.specs.Opening.{amqp_header}
 use Rattle.amqp_value.proofs.Complete.{begins_no_other}
 use Rattle.amqp_wire.specs.Frame.{frame_of}

@@ -1,6 +1,6 @@
 -- The two ends of a SASL exchange with SCRAM, joined by a stream of bodies each way.
 use Rattle.std.specs.Prelude.{◌≡◌, ◌≢◌, ◌⊎◌, ℕ, List, ◌++◌, Some, ⊤}
-use Rattle.amqp_composites.specs.declared.sasl_body.SaslBody.{SaslBody}
+use Rattle.amqp_sasl_bodies.specs.declared.sasl_body.SaslBody.{SaslBody}
 use Rattle.base64.specs.GeneralPurpose.{IsBytes}
 use Rattle.amqp_opening.specs.Authentication.{stored_for}
 use Rattle.sasl_gate.specs.declared.gate.scram_server.ServerStage.{ServerStage}

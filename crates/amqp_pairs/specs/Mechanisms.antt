@@ -1,8 +1,8 @@
 -- Two ends of a SASL exchange, whatever their mechanisms are (OASIS AMQP 1.0, part 5, section 5.3.3.1).
 use Rattle.std.specs.Prelude.{◌≡◌, ◌≢◌, ℕ, List, [], ◌∷◌, ◌++◌}
-use Rattle.amqp_composites.specs.declared.sasl_body.SaslBody.{SaslBody}
-use Rattle.amqp_composites.specs.declared.sasl_code.SaslCode.{SaslCode}
-use Rattle.amqp_composites.specs.declared.sasl_code.SaslCode.TheVariants as sasl
+use Rattle.amqp_sasl_bodies.specs.declared.sasl_body.SaslBody.{SaslBody}
+use Rattle.amqp_sasl_bodies.specs.declared.sasl_code.SaslCode.{SaslCode}
+use Rattle.amqp_sasl_bodies.specs.declared.sasl_code.SaslCode.TheVariants as sasl
 use Rattle.amqp_opening.specs.Authentication.{passwords_for, stored_for}
 use Rattle.sasl_gate.specs.declared.gate.client.ClientExchange.{ClientExchange}
 use Rattle.sasl_gate.specs.declared.gate.client.ClientExchange.TheVariants as client

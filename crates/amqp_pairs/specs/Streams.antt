@@ -1,6 +1,6 @@
 -- What one end wrote of a SASL layer and what the other read of it (OASIS AMQP 1.0, part 5, section 5.3; part 2, section 2.3).
 use Rattle.std.specs.Prelude.{◌≡◌, ◌⊎◌, ◌<◌, ℕ, List, ◌++◌, length, flat_map, All}
-use Rattle.amqp_composites.specs.declared.sasl_body.SaslBody.{SaslBody}
+use Rattle.amqp_sasl_bodies.specs.declared.sasl_body.SaslBody.{SaslBody}
 use Rattle.amqp_opening.specs.Opening.{amqp_header}
 use Rattle.amqp_wire.specs.Size.{size_of}
 use Rattle.sasl_gate.specs.Frames.{HasSaslFrame, Heard, said, sasl_frame}

@@ -1,8 +1,8 @@
 //! Laws over the bodies of an exchange with SCRAM (RFC 5802, section 3; OASIS AMQP 1.0, part 5, section 5.3.2).
 ghost use Rattle.std.specs.Prelude.{◌≡◌, ◌≢◌, List, [], ◌∷◌, ◌++◌, None};
-ghost use Rattle.amqp_composites.specs.declared.sasl_body.SaslBody.{SaslBody};
-ghost use Rattle.amqp_composites.specs.declared.sasl_code.SaslCode.{SaslCode};
-ghost use Rattle.amqp_composites.specs.declared.sasl_code.SaslCode.TheVariants as sasl;
+ghost use Rattle.amqp_sasl_bodies.specs.declared.sasl_body.SaslBody.{SaslBody};
+ghost use Rattle.amqp_sasl_bodies.specs.declared.sasl_code.SaslCode.{SaslCode};
+ghost use Rattle.amqp_sasl_bodies.specs.declared.sasl_code.SaslCode.TheVariants as sasl;
 ghost use Rattle.amqp_opening.specs.Authentication.{stored_for};
 ghost use Rattle.sasl_gate.specs.declared.gate.error.NegotiationError.{NegotiationError};
 ghost use Rattle.sasl_gate.specs.declared.gate.exchange.Turn.TheVariants.{Send, Receive, Refuse, Pass};

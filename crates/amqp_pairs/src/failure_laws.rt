@@ -1,7 +1,7 @@
 //! Laws over ends with SCRAM whose negotiation failed by its mechanism (RFC 5802, section 3; OASIS AMQP 1.0, part 5, section 5.3.2).
 ghost use Rattle.std.specs.Prelude.{◌≡◌, ℕ, List};
-ghost use Rattle.amqp_composites.specs.declared.sasl_body.SaslBody.{SaslBody};
-ghost use Rattle.amqp_composites.specs.declared.sasl_code.SaslCode.TheVariants as sasl;
+ghost use Rattle.amqp_sasl_bodies.specs.declared.sasl_body.SaslBody.{SaslBody};
+ghost use Rattle.amqp_sasl_bodies.specs.declared.sasl_code.SaslCode.TheVariants as sasl;
 ghost use Rattle.amqp_opening.specs.Authentication.{stored_for};
 ghost use Rattle.amqp_wire.specs.Events.{LinkEvent, read_of};
 ghost use Rattle.sasl_gate.specs.declared.gate.error.NegotiationError.{NegotiationError};

@@ -1,8 +1,8 @@
 //! Laws over the two ends of an exchange with ANONYMOUS or PLAIN (RFC 4505; RFC 4616; OASIS AMQP 1.0, part 5, section 5.3.2).
 ghost use Rattle.std.specs.Prelude.{◌≡◌, ◌≢◌, ◌↔◌, ℕ, List, [], ◌∷◌, ◌++◌, Option, Some, None};
-ghost use Rattle.amqp_composites.specs.declared.sasl_body.SaslBody.{SaslBody};
-ghost use Rattle.amqp_composites.specs.declared.sasl_code.SaslCode.{SaslCode};
-ghost use Rattle.amqp_composites.specs.declared.sasl_code.SaslCode.TheVariants as sasl;
+ghost use Rattle.amqp_sasl_bodies.specs.declared.sasl_body.SaslBody.{SaslBody};
+ghost use Rattle.amqp_sasl_bodies.specs.declared.sasl_code.SaslCode.{SaslCode};
+ghost use Rattle.amqp_sasl_bodies.specs.declared.sasl_code.SaslCode.TheVariants as sasl;
 ghost use Rattle.amqp_opening.specs.Authentication.{passwords_for};
 ghost use Rattle.amqp_wire.specs.Events.{LinkEvent, read_of};
 ghost use Rattle.sasl_gate.specs.declared.gate.error.NegotiationError.{NegotiationError};

@@ -1,6 +1,6 @@
 //! Two ends with SCRAM are joined from the beginning, and stay so by each step of one of them.
 ghost use Rattle.std.specs.Prelude.{◌≡◌, ℕ, List, [], ◌∷◌, ◌++◌, Option, Some};
-ghost use Rattle.amqp_composites.specs.declared.sasl_body.SaslBody.{SaslBody};
+ghost use Rattle.amqp_sasl_bodies.specs.declared.sasl_body.SaslBody.{SaslBody};
 ghost use Rattle.amqp_opening.specs.Authentication.{stored_for};
 ghost use Rattle.base64.specs.GeneralPurpose.{IsBytes};
 ghost use Rattle.sasl_gate.specs.declared.scram.hash.ScramHash.{ScramHash};

@@ -1,8 +1,8 @@
 //! Laws over two ends, whatever their mechanisms are, and over two whose mechanisms are not the same (OASIS AMQP 1.0, part 5, sections 5.3.2
 //! and 5.3.3.1).
 ghost use Rattle.std.specs.Prelude.{◌≡◌, ◌≢◌, ◌⊎◌, ℕ, List, [], ◌∷◌, ◌++◌};
-ghost use Rattle.amqp_composites.specs.declared.sasl_body.SaslBody.{SaslBody};
-ghost use Rattle.amqp_composites.specs.declared.sasl_code.SaslCode.{SaslCode};
+ghost use Rattle.amqp_sasl_bodies.specs.declared.sasl_body.SaslBody.{SaslBody};
+ghost use Rattle.amqp_sasl_bodies.specs.declared.sasl_code.SaslCode.{SaslCode};
 ghost use Rattle.amqp_opening.specs.Authentication.{passwords_for, stored_for};
 ghost use Rattle.amqp_wire.specs.Events.{LinkEvent, read_of};
 ghost use Rattle.sasl_gate.specs.declared.gate.client.ClientExchange.{ClientExchange};

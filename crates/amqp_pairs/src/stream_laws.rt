@@ -1,6 +1,6 @@
 //! Laws over the bytes of a SASL layer (OASIS AMQP 1.0, part 5, section 5.3).
 ghost use Rattle.std.specs.Prelude.{◌≡◌, ◌≢◌, ℕ, List, [], ◌++◌};
-ghost use Rattle.amqp_composites.specs.declared.sasl_body.SaslBody.{SaslBody};
+ghost use Rattle.amqp_sasl_bodies.specs.declared.sasl_body.SaslBody.{SaslBody};
 ghost use Rattle.amqp_opening.specs.Authentication.{passwords_for, stored_for};
 ghost use Rattle.sasl_gate.specs.declared.gate.error.NegotiationError.{NegotiationError};
 ghost use Rattle.sasl_gate.specs.declared.gate.exchange.Turn.TheVariants.{Send, Pass};

@@ -1,7 +1,7 @@
 -- What the frames that were read say of a connection.
 use Rattle.std.proofs.Common.{◌≡◌, ◌≤◌, inl, inr, ℕ, List, [], ◌∷◌, ◌++◌, length, true, false, Option, Some, None, refl, sym, ap, ◌∙◌, subst, length-append, arith}
 use Rattle.std.proofs.lemmas.Option.{same_Some}
-use Rattle.amqp_composites.specs.declared.close.Close.{Close}
+use Rattle.amqp_performatives.specs.declared.close.Close.{Close}
 use Rattle.amqp_frames.specs.declared.body.FrameBody.TheVariants as b
 use Rattle.amqp_frames.specs.declared.shared.ConnectionStopReason.{ConnectionStopReason}
 use Rattle.amqp_transport.specs.declared.frames.Frame.{Frame}

@@ -1,7 +1,7 @@
 -- Laws of an end that can do no more now, and of one whose connection has stopped.
 use Rattle.std.proofs.Common.{◌≡◌, ◌⊎◌, inl, inr, ℕ, List, [], ◌∷◌, ◌++◌, true, false, Option, refl, sym, ap, ◌∙◌, subst}
 use Rattle.std.proofs.lemmas.List.{append-nil}
-use Rattle.amqp_composites.specs.declared.close.Close.{Close}
+use Rattle.amqp_performatives.specs.declared.close.Close.{Close}
 use Rattle.amqp_frames.specs.declared.body.FrameBody.TheVariants as b
 use Rattle.amqp_frames.specs.declared.shared.ConnectionStopReason.{ConnectionStopReason}
 use Rattle.amqp_wire.specs.Codec.{Codec}

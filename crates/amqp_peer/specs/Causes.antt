@@ -1,9 +1,9 @@
 -- Why something was replied, by the calls, by what passed at the link and by the frames that were read and queued.
 use Rattle.std.specs.Prelude.{◌≡◌, ◌⊎◌, ◌<◌, ◌≤◌, ◌+◌, ℕ, List, [], ◌∷◌, ◌++◌, length, Bool, true, false, max, Option, Some, None, ⊤, All}
 use Rattle.amqp_composites.specs.declared.error.Error.{Error as AmqpError}
-use Rattle.amqp_composites.specs.declared.open.Open.{Open}
-use Rattle.amqp_composites.specs.declared.close.Close.{Close}
-use Rattle.amqp_composites.specs.declared.sasl_body.SaslBody.{SaslBody}
+use Rattle.amqp_performatives.specs.declared.open.Open.{Open}
+use Rattle.amqp_performatives.specs.declared.close.Close.{Close}
+use Rattle.amqp_sasl_bodies.specs.declared.sasl_body.SaslBody.{SaslBody}
 use Rattle.amqp_frames.specs.declared.body.FrameBody.TheVariants as b
 use Rattle.amqp_wire.specs.declared.frame.Front.TheVariants.{Refused, Foreign}
 use Rattle.amqp_wire.specs.declared.link.Held.TheVariants.{Full}

@@ -1,6 +1,6 @@
 -- The exchange of an end that asked for a SASL layer, at any time and where it waits (OASIS AMQP 1.0, part 5, section 5.3.2).
 use Rattle.std.specs.Prelude.{◌≡◌, ◌<◌, ◌⊎◌, ℕ, List, [], ◌∷◌, ◌++◌, length, All, Option, Some, None, ⊤}
-use Rattle.amqp_composites.specs.declared.sasl_body.SaslBody.{SaslBody}
+use Rattle.amqp_sasl_bodies.specs.declared.sasl_body.SaslBody.{SaslBody}
 use Rattle.amqp_wire.specs.declared.frame.Front.TheVariants.{Partial}
 use Rattle.amqp_wire.specs.Frame.{IsFront}
 use Rattle.amqp_engine.specs.Sentence.{bytes_of_all}

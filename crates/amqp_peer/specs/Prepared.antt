@@ -1,7 +1,7 @@
 -- What a call begins a connection with (OASIS AMQP 1.0, part 2, section 2.7.1).
 use Rattle.std.specs.Prelude.{ℕ, List, ◌/◌, max, Option, Some, None}
 use Rattle.amqp_composites.specs.declared.error.Error.{Error as AmqpError}
-use Rattle.amqp_composites.specs.declared.open.Open.{Open}
+use Rattle.amqp_performatives.specs.declared.open.Open.{Open}
 use Rattle.amqp_engine.specs.declared.connection.EndKind.TheVariants.{Client, Listener}
 use Rattle.amqp_opening.specs.declared.acceptor.AcceptSasl.{AcceptSasl}
 use Rattle.amqp_opening.specs.declared.authentication.SaslCall.{SaslCall}

@@ -1,6 +1,6 @@
 -- What an end says on its connection, and why it closes it (OASIS AMQP 1.0, part 2, section 2.4).
 use Rattle.std.specs.Prelude.{◌≡◌, ◌⊎◌, ℕ, List, [], ◌∷◌, ◌++◌, Option, Some, None}
-use Rattle.amqp_composites.specs.declared.close.Close.{Close}
+use Rattle.amqp_performatives.specs.declared.close.Close.{Close}
 use Rattle.amqp_composites.specs.declared.error.Error.{Error as AmqpError}
 use Rattle.amqp_frames.specs.declared.body.FrameBody.TheVariants as b
 use Rattle.amqp_transport.specs.declared.frames.Frame.{Frame}

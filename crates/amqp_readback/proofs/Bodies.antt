@@ -9,7 +9,7 @@ use Rattle.amqp_messages.specs.declared.message.Body.{Body}
 use Rattle.amqp_messages.specs.Message.{Said, seen}
 use Rattle.amqp_messages.specs.Reading.{IsTheMessage, SpellsMessage}
 use Rattle.amqp_messages.specs.Writing.{message_items, AllFit, Encodes as EncodesMessage}
-use Rattle.amqp_frames.specs.Writing.{Encodes as EncodesBody}
+use Rattle.amqp_described.specs.Bodies.{Encodes as EncodesBody}
 use Rattle.amqp_readback.specs.Bodies.{ComesBack, FitFrames}
 
 -- ---- messages

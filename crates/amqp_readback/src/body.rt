@@ -1,12 +1,13 @@
 //! The bodies of frames that are written and read back (OASIS AMQP 1.0, part 2, section 2.3.2, and part 5, section 5.3.2).
-ghost use Rattle.amqp_composites.specs.SaslBody.{of_sasl_body};
+ghost use Rattle.amqp_sasl_bodies.specs.SaslBody.{of_sasl_body};
 ghost use Rattle.amqp_data.specs.Data.{item, no_items};
 ghost use Rattle.amqp_frames.specs.Body.{body_values, read_again_body};
 ghost use Rattle.amqp_readback.specs.Bodies.{ComesBack, FitFrames};
 
-use amqp_composites::sasl_body::SaslBody;
+use amqp_sasl_bodies::sasl_body::SaslBody;
 use amqp_fields::BaseError;
-use amqp_frames::{FrameBody, decode_body, decode_sasl, encode_body, encode_sasl};
+use amqp_frames::{FrameBody, decode_body, encode_body};
+use amqp_sasl_bodies::{decode_sasl, encode_sasl};
 use std::alloc::Global;
 
 /// The body as it is read back from its canonical bytes, with its payload: it is the same, but that an Attach with a

@@ -1,9 +1,9 @@
 use crate::body::{body_read_back, sasl_read_back};
 use crate::message::message_read_back;
 use crate::value::value_read_back;
-use amqp_composites::sasl::SaslOutcome;
-use amqp_composites::sasl_body::SaslBody;
-use amqp_composites::sasl_code::SaslCode;
+use amqp_sasl_bodies::sasl::SaslOutcome;
+use amqp_sasl_bodies::sasl_body::SaslBody;
+use amqp_sasl_bodies::sasl_code::SaslCode;
 use amqp_data::{Value, ValueList};
 use amqp_fields::BaseError;
 use amqp_frames::{FrameBody, decode_body};

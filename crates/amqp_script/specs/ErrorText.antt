@@ -1,6 +1,6 @@
 -- Errors in the text of a trace: the variants from outside inwards, joined by points, and the innermost one's fields.
 use Rattle.std.specs.Prelude.{List, ℕ, ◌++◌, codes, decimal}
-use Rattle.amqp_composites.specs.SaslCode.{sasl_code_number}
+use Rattle.amqp_sasl_bodies.specs.SaslCode.{sasl_code_number}
 use Rattle.amqp_composites.specs.declared.error.Error.{Error}
 use Rattle.amqp_wire.specs.declared.link.IoKind.{IoKind}
 use Rattle.amqp_wire.specs.declared.link.IoKind.TheVariants as io

@@ -2,11 +2,11 @@
 use Rattle.std.specs.Prelude.{◌≡◌, ℕ, ◌≤◌, List, [], ◌++◌}
 use Rattle.amqp_data.specs.Data.{Items, no_items, item, items_depth}
 use Rattle.amqp_value.specs.Canonical.{canonical_items, AreSized}
-use Rattle.amqp_composites.specs.declared.sasl_body.SaslBody.{SaslBody}
-use Rattle.amqp_composites.specs.SaslBody.{of_sasl_body}
+use Rattle.amqp_sasl_bodies.specs.declared.sasl_body.SaslBody.{SaslBody}
+use Rattle.amqp_sasl_bodies.specs.SaslBody.{of_sasl_body}
 use Rattle.amqp_frames.specs.declared.body.FrameBody.TheVariants.{Empty}
 use Rattle.amqp_frames.specs.Body.{SpellsBody, body_values, body_payload, read_again_body}
-use Rattle.amqp_frames.specs.Sasl.{SpellsSasl}
+use Rattle.amqp_sasl_bodies.specs.SaslBytes.{SpellsSasl}
 use Rattle.amqp_transport.specs.declared.frames.Frame.{Frame}
 
 -- a frame that holds nothing

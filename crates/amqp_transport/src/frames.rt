@@ -4,11 +4,9 @@ ghost use Rattle.amqp_transport.specs.Kinds.{no_frame, amqp_spells, amqp_bytes, 
 ghost use Rattle.amqp_transport.specs.OneItem.{one_frame, one_sasl};
 
 use crate::kind::{Encoded, FrameKind};
-use amqp_composites::sasl_body::SaslBody;
 use amqp_fields::BaseError;
-use amqp_frames::{
-    FRAME_TYPE_AMQP, FRAME_TYPE_SASL, FrameBody, decode_body, decode_sasl, encode_body, encode_sasl,
-};
+use amqp_frames::{FRAME_TYPE_AMQP, FrameBody, decode_body, encode_body};
+use amqp_sasl_bodies::{FRAME_TYPE_SASL, SaslBody, decode_sasl, encode_sasl};
 use bytes::Bytes;
 use std::alloc::Global;
 

@@ -1,5 +1,5 @@
 //! The sessions that an engine takes in and hands out, which no script reaches.
-use amqp_composites::open::Open;
+use amqp_performatives::open::Open;
 use amqp_engine::{
     AllocSessionError, Connection, ConnectionEngine, EndKind, EngineStep, Error, ListenerConnection,
 };

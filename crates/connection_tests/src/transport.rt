@@ -1,6 +1,6 @@
 //! Headers, clocks, and frames at the limit of a transport.
-use amqp_composites::sasl::SaslResponse;
-use amqp_composites::sasl_body::SaslBody;
+use amqp_sasl_bodies::sasl::SaslResponse;
+use amqp_sasl_bodies::sasl_body::SaslBody;
 use amqp_frames::ConnectionState;
 use amqp_text::Binary;
 use amqp_transport::{

@@ -1,7 +1,7 @@
 -- The client's gate: what it wrote, and what it passes on.
 use Rattle.std.proofs.Common.{◌≡◌, ◌≤◌, arith, ℕ, List, [], ◌++◌, length, Option, Result, Ok, refl, sym, subst}
 use Rattle.std.specs.declared.alloc.AllocError.{AllocError}
-use Rattle.amqp_composites.specs.declared.sasl_body.SaslBody.{SaslBody}
+use Rattle.amqp_sasl_bodies.specs.declared.sasl_body.SaslBody.{SaslBody}
 use Rattle.amqp_wire.specs.declared.link.Link.{Ghosts}
 use Rattle.amqp_wire.specs.Events.{LinkEvent, read_of, wrote_of}
 use Rattle.sasl_gate.specs.declared.gate.client.ClientExchange.{ClientExchange}

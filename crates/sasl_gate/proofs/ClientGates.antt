@@ -3,11 +3,11 @@ use Rattle.std.proofs.Common.{◌≡◌, ◌≢◌, ◌<◌, ◌≤◌, inl, inr
 use Rattle.std.proofs.lemmas.List.{append-nil}
 use Rattle.std.specs.Prelude.{⊤}
 use Rattle.std.specs.declared.alloc.AllocError.{AllocError}
-use Rattle.amqp_composites.specs.declared.sasl_body.SaslBody.{SaslBody}
-use Rattle.amqp_composites.specs.declared.sasl_body.SaslBody.TheVariants.{Outcome}
-use Rattle.amqp_composites.specs.declared.sasl.SaslOutcome.{SaslOutcome}
-use Rattle.amqp_composites.specs.declared.sasl_code.SaslCode.{SaslCode}
-use Rattle.amqp_composites.specs.declared.sasl_code.SaslCode.TheVariants as sasl
+use Rattle.amqp_sasl_bodies.specs.declared.sasl_body.SaslBody.{SaslBody}
+use Rattle.amqp_sasl_bodies.specs.declared.sasl_body.SaslBody.TheVariants.{Outcome}
+use Rattle.amqp_sasl_bodies.specs.declared.sasl.SaslOutcome.{SaslOutcome}
+use Rattle.amqp_sasl_bodies.specs.declared.sasl_code.SaslCode.{SaslCode}
+use Rattle.amqp_sasl_bodies.specs.declared.sasl_code.SaslCode.TheVariants as sasl
 use Rattle.amqp_wire.specs.Events.{LinkEvent, read_of, wrote_of}
 use Rattle.sasl_gate.specs.declared.gate.scram_client.ClientStage.{ClientStage}
 use Rattle.sasl_gate.specs.declared.gate.scram_client.ClientStage.TheVariants.{AwaitsMechanisms, OwesInit, AwaitsChallenge, OwesResponse, AwaitsOutcome, OwesEmptyResponse, AwaitsEnd, Passed}

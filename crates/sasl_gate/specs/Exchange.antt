@@ -1,6 +1,6 @@
 -- What becomes of a body that was read.
 use Rattle.std.specs.Prelude.{Result, Ok, Err, None, ⊤}
-use Rattle.amqp_composites.specs.declared.sasl_code.SaslCode.{SaslCode}
+use Rattle.amqp_sasl_bodies.specs.declared.sasl_code.SaslCode.{SaslCode}
 use Rattle.sasl_gate.specs.declared.gate.error.NegotiationError.{NegotiationError}
 use Rattle.sasl_gate.specs.declared.gate.error.NegotiationError.TheVariants.{SaslError}
 use Rattle.sasl_gate.specs.declared.gate.exchange.Verdict.{Verdict}

@@ -1,6 +1,6 @@
 //! What follows of the contracts, over a whole exchange.
 ghost use Rattle.std.specs.Prelude.{ℕ, List, Option, length, ◌≤◌};
-ghost use Rattle.amqp_composites.specs.declared.sasl_body.SaslBody.{SaslBody};
+ghost use Rattle.amqp_sasl_bodies.specs.declared.sasl_body.SaslBody.{SaslBody};
 ghost use Rattle.amqp_wire.specs.Events.{LinkEvent, read_of, wrote_of};
 ghost use Rattle.sasl_gate.specs.declared.gate.client.ClientExchange.{ClientExchange};
 ghost use Rattle.sasl_gate.specs.declared.gate.server.ServerExchange.{ServerExchange};

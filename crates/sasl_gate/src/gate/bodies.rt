@@ -2,9 +2,9 @@
 ghost use Rattle.std.specs.Prelude.{◌≡◌, ◌<◌, ◌↔◌, [], ◌∷◌, All, Contains, IsTrue, IfOk};
 ghost use Rattle.sasl_gate.specs.ScramBodies.{mechanisms_body};
 
-use amqp_composites::sasl::SaslMechanisms;
-use amqp_composites::sasl_body::SaslBody;
-use amqp_composites::sasl_code::SaslCode;
+use amqp_sasl_bodies::sasl::SaslMechanisms;
+use amqp_sasl_bodies::sasl_body::SaslBody;
+use amqp_sasl_bodies::sasl_code::SaslCode;
 use amqp_text::symbol::SymbolError;
 use amqp_text::{Binary, Symbol, SymbolList, Text};
 use std::alloc::{AllocError, Global};

@@ -17,7 +17,7 @@ use crate::gate::profile::SaslProfile;
 use crate::gate::scram_client::ScramClientExchange;
 use crate::scram::error::ScramErrorKind;
 use crate::scram::hash::ScramHash;
-use amqp_composites::sasl_body::SaslBody;
+use amqp_sasl_bodies::sasl_body::SaslBody;
 use amqp_text::Text;
 use amqp_wire::codec::FramedCodec;
 use amqp_wire::link::Link;

@@ -4,7 +4,7 @@ ghost use Rattle.sasl_gate.specs.declared.gate.error.NegotiationError.TheVariant
 
 use crate::gate::bodies::clone_data;
 use crate::scram::error::ScramErrorKind;
-use amqp_composites::sasl_code::SaslCode;
+use amqp_sasl_bodies::sasl_code::SaslCode;
 use amqp_text::Binary;
 use amqp_wire::link::IoKind;
 use std::alloc::{AllocError, Global};

@@ -1,15 +1,15 @@
 //! What a mechanism does at one end, in SASL bodies alone.
 ghost use Rattle.std.specs.Prelude.{◌≡◌, ◌<◌, ℕ, List, [], ◌∷◌, ◌++◌, IfOk, IfErr, OnOk, OnErr};
-ghost use Rattle.amqp_composites.specs.declared.sasl_body.SaslBody.{SaslBody};
-ghost use Rattle.amqp_composites.specs.declared.sasl_code.SaslCode.{SaslCode};
+ghost use Rattle.amqp_sasl_bodies.specs.declared.sasl_body.SaslBody.{SaslBody};
+ghost use Rattle.amqp_sasl_bodies.specs.declared.sasl_code.SaslCode.{SaslCode};
 ghost use Rattle.sasl_gate.specs.declared.gate.error.NegotiationError.{NegotiationError};
 ghost use Rattle.sasl_gate.specs.declared.gate.exchange.Turn.{Turn};
 ghost use Rattle.sasl_gate.specs.declared.gate.exchange.Verdict.{Verdict};
 ghost use Rattle.sasl_gate.specs.Exchange.{OnTaken, OnRefused, refused_with};
 
 use crate::gate::error::NegotiationError;
-use amqp_composites::sasl_body::SaslBody;
-use amqp_composites::sasl_code::SaslCode;
+use amqp_sasl_bodies::sasl_body::SaslBody;
+use amqp_sasl_bodies::sasl_code::SaslCode;
 use std::alloc::{AllocError, Global};
 
 /// What an end does next.

@@ -1,7 +1,7 @@
 //! The client's end of a SASL negotiation whose client says all in its init: ANONYMOUS (RFC 4505) or PLAIN (RFC 4616);
 //! OASIS AMQP 1.0, part 5, section 5.3.
 ghost use Rattle.std.specs.Prelude.{◌≡◌, Some, None, Ok, IfOk, IfErr, OnOk};
-ghost use Rattle.amqp_composites.specs.declared.sasl_body.SaslBody.TheVariants.{Mechanisms, Outcome};
+ghost use Rattle.amqp_sasl_bodies.specs.declared.sasl_body.SaslBody.TheVariants.{Mechanisms, Outcome};
 ghost use Rattle.sasl_gate.specs.declared.gate.exchange.Turn.TheVariants.{Receive};
 ghost use Rattle.sasl_gate.specs.InitClient.{init_client_turn, init_client_left, init_client_owes, init_client_holds, init_client_causes, InitClientSame, init_client_mechanism, init_client_refusal, init_client_same_self, init_client_same_then, init_client_begun, own_init};
 ghost use Rattle.sasl_gate.specs.InitTexts.{anonymous_name, plain_name, plain_of};
@@ -15,8 +15,8 @@ use crate::gate::exchange::{Exchange, Turn, Verdict};
 use crate::gate::init_texts::{ANONYMOUS, PLAIN, plain_message};
 use crate::scram::error::ScramErrorKind;
 use crate::scram::profile::{is_allowed_password, is_allowed_user};
-use amqp_composites::sasl::{SaslInit, SaslMechanisms, SaslOutcome};
-use amqp_composites::sasl_body::SaslBody;
+use amqp_sasl_bodies::sasl::{SaslInit, SaslMechanisms, SaslOutcome};
+use amqp_sasl_bodies::sasl_body::SaslBody;
 use amqp_text::{Binary, Symbol, Text};
 use std::alloc::{AllocError, Global};
 use std::marker::Model;

@@ -1,16 +1,16 @@
 //! The listener's end of a SASL negotiation whose client says all in its init: ANONYMOUS (RFC 4505) or PLAIN (RFC 4616);
 //! OASIS AMQP 1.0, part 5, section 5.3.
 ghost use Rattle.std.specs.Prelude.{◌≡◌, ◌↔◌, ◌<◌, Some, All, IsTrue, IsUtf8};
-ghost use Rattle.amqp_composites.specs.declared.sasl_body.SaslBody.TheVariants.{Init};
+ghost use Rattle.amqp_sasl_bodies.specs.declared.sasl_body.SaslBody.TheVariants.{Init};
 ghost use Rattle.sasl_gate.specs.InitServer.{init_server_turn, init_server_left, init_server_owes, init_server_holds, init_server_causes, InitServerSame, init_server_refusal, init_server_same_self, init_server_same_then, init_server_begun, check_name, IsPassing, IsJudged};
 
 use crate::gate::bodies::{is_named, list_of};
 use crate::gate::exchange::{Exchange, Turn, Verdict};
 use crate::gate::init_texts::{ANONYMOUS, PLAIN, read_plain};
 use crate::provider::PlainCredentialProvider;
-use amqp_composites::sasl::{SaslInit, SaslOutcome};
-use amqp_composites::sasl_body::SaslBody;
-use amqp_composites::sasl_code::SaslCode;
+use amqp_sasl_bodies::sasl::{SaslInit, SaslOutcome};
+use amqp_sasl_bodies::sasl_body::SaslBody;
+use amqp_sasl_bodies::sasl_code::SaslCode;
 use std::alloc::{AllocError, Global};
 use std::marker::Model;
 use std::str;

@@ -4,9 +4,9 @@ ghost use Rattle.std.specs.Borrow.{Lends, sem};
 ghost use Rattle.amqp_wire.specs.declared.frame.Front.TheVariants.{Refused, Foreign, Partial};
 ghost use Rattle.amqp_wire.specs.declared.reading.Wait.{Wait};
 ghost use Rattle.amqp_wire.specs.Events.{LinkEvent};
-ghost use Rattle.amqp_composites.specs.declared.sasl_body.SaslBody.{SaslBody};
+ghost use Rattle.amqp_sasl_bodies.specs.declared.sasl_body.SaslBody.{SaslBody};
 ghost use Rattle.sasl_gate.specs.Frames.{HasSaslFrame, canonical_of};
-ghost use Rattle.amqp_frames.specs.Sasl.{SpellsSasl};
+ghost use Rattle.amqp_sasl_bodies.specs.SaslBytes.{SpellsSasl};
 ghost use Rattle.amqp_wire.specs.Frame.{HasBody, IsFront};
 ghost use Rattle.amqp_wire.specs.contracts.codec.FramedCodec.{the_row as codec_row};
 ghost use Rattle.sasl_gate.specs.contracts.gate.negotiation.Negotiation.{the_row};
@@ -18,9 +18,8 @@ ghost use Rattle.sasl_gate.specs.Steps.{Stepped, step_in, measure_of, HasEnded, 
 
 use crate::gate::error::NegotiationError;
 use crate::gate::exchange::{Exchange, Turn, Verdict};
-use amqp_composites::sasl_body::SaslBody;
+use amqp_sasl_bodies::{FRAME_TYPE_SASL, SaslBody, decode_sasl, encode_sasl};
 use amqp_fields::BaseError;
-use amqp_frames::{FRAME_TYPE_SASL, decode_sasl, encode_sasl};
 use amqp_text::Binary;
 use amqp_wire::codec::FramedCodec;
 use amqp_wire::frame::Front;

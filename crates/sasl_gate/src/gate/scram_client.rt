@@ -1,6 +1,6 @@
 //! The client's end of a SASL negotiation with SCRAM (OASIS AMQP 1.0, part 5, section 5.3; RFC 5802; RFC 7677).
 ghost use Rattle.std.specs.Prelude.{◌≡◌, ℕ, Some, Ok, IfOk, IfErr, OnOk};
-ghost use Rattle.amqp_composites.specs.declared.sasl_body.SaslBody.TheVariants.{Mechanisms, Challenge, Outcome};
+ghost use Rattle.amqp_sasl_bodies.specs.declared.sasl_body.SaslBody.TheVariants.{Mechanisms, Challenge, Outcome};
 ghost use Rattle.sasl_gate.specs.declared.gate.exchange.Turn.TheVariants.{Receive};
 ghost use Rattle.sasl_gate.specs.ClientGate.{client_turn, client_left, client_owes, client_holds, client_causes, client_init, ClientSame, client_mechanism, client_refusal, client_same_self, client_same_then, client_begun, IsTextAnswer};
 ghost use Rattle.sasl_gate.specs.Profile.{IsAllowedUser, IsAllowedPassword, IsNonce};
@@ -12,9 +12,9 @@ use crate::gate::exchange::{Exchange, Turn, Verdict};
 use crate::scram::any_client::AnyScramClient;
 use crate::scram::error::ScramErrorKind;
 use crate::scram::hash::ScramHash;
-use amqp_composites::sasl::{SaslChallenge, SaslInit, SaslMechanisms, SaslOutcome, SaslResponse};
-use amqp_composites::sasl_body::SaslBody;
-use amqp_composites::sasl_code::SaslCode;
+use amqp_sasl_bodies::sasl::{SaslChallenge, SaslInit, SaslMechanisms, SaslOutcome, SaslResponse};
+use amqp_sasl_bodies::sasl_body::SaslBody;
+use amqp_sasl_bodies::sasl_code::SaslCode;
 use amqp_text::{Binary, Text};
 use std::alloc::{AllocError, Global};
 use std::marker::Model;

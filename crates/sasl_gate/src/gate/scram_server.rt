@@ -1,6 +1,6 @@
 //! The listener's end of a SASL negotiation with SCRAM (OASIS AMQP 1.0, part 5, section 5.3; RFC 5802; RFC 7677).
 ghost use Rattle.std.specs.Prelude.{◌≡◌, ◌≢◌, ◌⊎◌, ℕ, List, Option, Some, None, IfSome, IfNone};
-ghost use Rattle.amqp_composites.specs.declared.sasl_body.SaslBody.TheVariants.{Init, Response};
+ghost use Rattle.amqp_sasl_bodies.specs.declared.sasl_body.SaslBody.TheVariants.{Init, Response};
 ghost use Rattle.sasl_gate.specs.declared.gate.exchange.Turn.TheVariants.{Receive};
 ghost use Rattle.sasl_gate.specs.ServerGate.{server_turn, server_left, server_owes, server_holds, server_causes, ServerSame, server_mechanism, server_refusal, server_same_self, server_same_then, server_begun, IsTextAnswer};
 ghost use Rattle.sasl_gate.specs.Hashes.{mechanism_of};
@@ -13,9 +13,9 @@ use crate::provider::ScramCredentialProvider;
 use crate::scram::any_server::AnyScramServer;
 use crate::scram::error::ScramErrorKind;
 use crate::scram::hash::ScramHash;
-use amqp_composites::sasl::{SaslChallenge, SaslInit, SaslOutcome, SaslResponse};
-use amqp_composites::sasl_body::SaslBody;
-use amqp_composites::sasl_code::SaslCode;
+use amqp_sasl_bodies::sasl::{SaslChallenge, SaslInit, SaslOutcome, SaslResponse};
+use amqp_sasl_bodies::sasl_body::SaslBody;
+use amqp_sasl_bodies::sasl_code::SaslCode;
 use amqp_text::{Binary, Text};
 use std::alloc::{AllocError, Global};
 use std::marker::Model;

@@ -13,7 +13,7 @@ use crate::gate::negotiation::{GatePoll, Negotiation};
 use crate::gate::scram_server::ScramServerExchange;
 use crate::provider::{PlainCredentialProvider, ScramCredentialProvider};
 use crate::scram::hash::ScramHash;
-use amqp_composites::sasl_body::SaslBody;
+use amqp_sasl_bodies::sasl_body::SaslBody;
 use amqp_wire::codec::FramedCodec;
 use amqp_wire::link::Link;
 use std::alloc::{AllocError, Global};

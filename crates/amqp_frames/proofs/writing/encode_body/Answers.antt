@@ -1,21 +1,22 @@
 use Rattle.std.proofs.Common.{[], sym, ap, subst, ◌∙◌}
 use Rattle.std.specs.Prelude.{List, ℕ, Some, Ok}
 use Rattle.amqp_composites.specs.declared.kind.CompositeKind.TheVariants as kind
-use Rattle.amqp_composites.specs.declared.performative.Performative.TheVariants as p
-use Rattle.amqp_composites.specs.Open.{open_fields}
-use Rattle.amqp_composites.specs.Begin.{begin_fields}
-use Rattle.amqp_composites.specs.Attach.{attach_fields}
-use Rattle.amqp_composites.specs.Flow.{flow_fields}
-use Rattle.amqp_composites.specs.Transfer.{transfer_fields}
-use Rattle.amqp_composites.specs.Disposition.{disposition_fields}
-use Rattle.amqp_composites.specs.Detach.{detach_fields}
-use Rattle.amqp_composites.specs.End.{end_fields}
-use Rattle.amqp_composites.specs.Close.{close_fields}
+use Rattle.amqp_performatives.specs.declared.performative.Performative.TheVariants as p
+use Rattle.amqp_performatives.specs.Open.{open_fields}
+use Rattle.amqp_performatives.specs.Begin.{begin_fields}
+use Rattle.amqp_performatives.specs.Attach.{attach_fields}
+use Rattle.amqp_performatives.specs.Flow.{flow_fields}
+use Rattle.amqp_performatives.specs.Transfer.{transfer_fields}
+use Rattle.amqp_performatives.specs.Disposition.{disposition_fields}
+use Rattle.amqp_performatives.specs.Detach.{detach_fields}
+use Rattle.amqp_performatives.specs.End.{end_fields}
+use Rattle.amqp_performatives.specs.Close.{close_fields}
 use Rattle.amqp_frames.specs.declared.body.FrameBody.{FrameBody}
 use Rattle.amqp_frames.specs.declared.body.FrameBody.TheVariants as b
 use Rattle.amqp_frames.specs.Body.{SpellsBody, empty', body_values, body_payload, read_again_body}
-use Rattle.amqp_frames.specs.Writing.{Encodes}
-use Rattle.amqp_frames.proofs.Written.{encodes, spells, no_values}
+use Rattle.amqp_described.specs.Bodies.{Encodes}
+use Rattle.amqp_described.proofs.BodyWritten.{encodes, no_values}
+use Rattle.amqp_frames.proofs.Written.{spells}
 use Rattle.amqp_frames.proofs.writing.encode_body.Goals as goal
 
 pub returns-in-Open-clause-bytes : goal.returns-in-Open-clause-bytes

@@ -1,8 +1,8 @@
 use Rattle.std.proofs.Common.{[]}
 use Rattle.std.proofs.lemmas.Result.{err_from_is_err_and}
-use Rattle.amqp_composites.specs.SaslBody.{of_sasl_body}
+use Rattle.amqp_sasl_bodies.specs.SaslBody.{of_sasl_body}
 use Rattle.amqp_data.specs.Data.{item, no_items}
-use Rattle.amqp_frames.specs.Sasl.{SpellsSasl}
+use Rattle.amqp_sasl_bodies.specs.SaslBytes.{SpellsSasl}
 use Rattle.amqp_readback.proofs.Bodies.{body_back, body_unwritten}
 use Rattle.amqp_readback.proofs.body.sasl_read_back.Goals as goal
 

@@ -1,5 +1,5 @@
 use Rattle.std.proofs.Common.{ℕ, List, sym, subst}
-use Rattle.amqp_frames.specs.Sasl.{SpellsSasl}
+use Rattle.amqp_sasl_bodies.specs.SaslBytes.{SpellsSasl}
 use Rattle.amqp_transport.proofs.Refused.{holds_of_none}
 use Rattle.amqp_transport.proofs.frames.SaslFramesFrameKind.decode.Goals as goal
 

@@ -1,5 +1,5 @@
 use Rattle.std.proofs.Common.{refl}
-use Rattle.amqp_composites.specs.declared.sasl_body.SaslBody.TheVariants.{Mechanisms, Challenge, Outcome}
+use Rattle.amqp_sasl_bodies.specs.declared.sasl_body.SaslBody.TheVariants.{Mechanisms, Challenge, Outcome}
 use Rattle.sasl_gate.proofs.ServerGates.{received_other}
 use Rattle.sasl_gate.proofs.gate.scram_server.ScramServerExchangeExchange.on_body.Goals as goal
 

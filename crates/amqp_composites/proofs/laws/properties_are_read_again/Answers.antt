@@ -1,5 +1,0 @@
-use Rattle.amqp_composites.specs.Properties.{properties_again}
-use Rattle.amqp_composites.proofs.laws.properties_are_read_again.Goals as goal
-
-pub returns : goal.returns
-returns c = λ x. properties_again x tt

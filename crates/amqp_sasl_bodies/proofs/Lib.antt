@@ -1,0 +1,2 @@
+pub mod SaslRead
+pub mod SaslWritten

@@ -1,0 +1,4 @@
+pub mod SaslCode
+pub mod Sasl
+pub mod SaslBody
+pub mod SaslBytes

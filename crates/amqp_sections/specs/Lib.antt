@@ -1,0 +1,3 @@
+pub mod MessageId
+pub mod Header
+pub mod Properties

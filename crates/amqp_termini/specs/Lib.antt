@@ -1,0 +1,9 @@
+pub mod States
+pub mod Outcome
+pub mod Transactional
+pub mod State
+pub mod TerminalState
+pub mod Source
+pub mod Target
+pub mod TargetArchetype
+pub mod Unsettled

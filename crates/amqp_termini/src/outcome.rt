@@ -1,0 +1,94 @@
+//! The outcomes of deliveries (OASIS AMQP 1.0, part 3, section 3.4).
+ghost use Rattle.std.specs.Prelude.{◌≡◌, IsErrAnd};
+ghost use Rattle.amqp_data.specs.View.{view};
+ghost use Rattle.amqp_fields.specs.Fields.{Gives, Makes};
+ghost use Rattle.amqp_termini.specs.declared.outcome.Outcome.TheVariants as v;
+ghost use Rattle.amqp_termini.specs.Outcome.{outcome_in, of_outcome, IsOutcomeValid, outcome_again, IsNotAccepted, MatchAccepted};
+
+use crate::states::{
+    Accepted, Declared, Modified, Rejected, Released, accepted_list, declared_list, modified_list,
+    read_accepted, read_declared, read_modified, read_rejected, read_released, rejected_list,
+    released_list,
+};
+use amqp_composites::described::{list_value, read_list};
+use amqp_composites::kind::CompositeKind;
+use amqp_data::Value;
+use amqp_fields::{BaseError, Field};
+use std::alloc::Global;
+
+/// What becomes of a delivery.
+#[derive(Debug, Drop)]
+pub enum Outcome {
+    /// The delivery is taken.
+    Accepted(Accepted),
+    /// The delivery is invalid.
+    Rejected(Rejected),
+    /// The delivery is not taken, and may be sent anew.
+    Released(Released),
+    /// The delivery is not taken, and is to be changed before it is sent anew.
+    Modified(Modified),
+    /// A transaction is declared.
+    Declared(Declared),
+}
+
+impl Outcome {
+    /// The acceptance, or the error that `op` makes of any other outcome.
+    pub fn accepted_or_else<F: FnOnce(Outcome) -> E, E>(self, op: F) -> Result<Accepted, E>
+        requires { IsNotAccepted self → F.pre op self }
+        ensures { MatchAccepted self (λ x. result ≡ Ok x) (λ other. IsErrAnd result (F.post op other)) }
+    {
+        match self {
+            Outcome::Accepted(body) => Ok(body),
+            other => Err(op(other)),
+        }
+    }
+}
+
+impl Field for Outcome {
+    ghost reads = { outcome_in };
+
+    ghost writes = { of_outcome };
+
+    ghost valid = { IsOutcomeValid };
+
+    fn from_value(alloc: Global, value: Value) -> Result<Self, BaseError> {
+        let (kind, fields) = read_list(value)?;
+        match kind {
+            CompositeKind::Accepted => Ok(Outcome::Accepted(read_accepted(alloc, fields)?)),
+            CompositeKind::Rejected => Ok(Outcome::Rejected(read_rejected(alloc, fields)?)),
+            CompositeKind::Released => Ok(Outcome::Released(read_released(alloc, fields)?)),
+            CompositeKind::Modified => Ok(Outcome::Modified(read_modified(alloc, fields)?)),
+            CompositeKind::Declared => Ok(Outcome::Declared(read_declared(alloc, fields)?)),
+            _ => Err(BaseError::Decode),
+        }
+    }
+
+    fn to_value(&self, alloc: Global) -> Result<Value, BaseError> {
+        match self {
+            Outcome::Accepted(body) => {
+                let fields = accepted_list(alloc, body)?;
+                list_value(alloc, CompositeKind::Accepted, fields)
+            }
+            Outcome::Rejected(body) => {
+                let fields = rejected_list(alloc, body)?;
+                list_value(alloc, CompositeKind::Rejected, fields)
+            }
+            Outcome::Released(body) => {
+                let fields = released_list(alloc, body)?;
+                list_value(alloc, CompositeKind::Released, fields)
+            }
+            Outcome::Modified(body) => {
+                let fields = modified_list(alloc, body)?;
+                list_value(alloc, CompositeKind::Modified, fields)
+            }
+            Outcome::Declared(body) => {
+                let fields = declared_list(alloc, body)?;
+                list_value(alloc, CompositeKind::Declared, fields)
+            }
+        }
+    }
+
+    ghost again = { outcome_again };
+
+    ghost there = { elim [ v.Accepted x ↦ tt | v.Rejected x ↦ tt | v.Released x ↦ tt | v.Modified x ↦ tt | v.Declared x ↦ tt ] };
+}
