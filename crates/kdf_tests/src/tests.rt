@@ -121,6 +121,16 @@ fn key_of_three_calls(rt: HostRuntime) {
     assert_eq!(rt; key.as_slice(), want);
 }
 
+// RFC 7914, section 11.
+#[test]
+fn key_of_80000_rounds(rt: HostRuntime) {
+    let want: &[u8] =
+        b"\x4d\xdc\xd8\xf6\x0b\x98\xbe\x21\x83\x0c\xee\x5e\xf2\x27\x01\xf9\x64\x1a\x44\x18\xd0\x4c\x04\x14\xae\xff\x08\x87\x6b\x34\xab\x56\xa1\xd4\x25\xa1\x22\x58\x33\x54\x9a\xdb\x84\x1b\x51\xc9\xb3\x17\x6a\x27\x2b\xde\xbb\xa1\xd0\x78\x47\x8f\x62\xb3\x97\xf3\x3c\x8d";
+    let mut key = [0u8; 64];
+    pbkdf2_hmac::<Sha256Fn>(b"Password", b"NaCl", 80000, &mut key);
+    assert_eq!(rt; key.as_slice(), want);
+}
+
 // RFC 4231, section 4.7: a key that is longer than a block.
 #[test]
 fn mac_of_three_calls(rt: HostRuntime) -> Result<(), Fail> {

@@ -56,7 +56,10 @@ fn stored(
     iterations: u32,
 ) -> Result<StoredPassword, CaseError> {
     let salt = salt.as_slice();
-    if salt.is_empty() || salt.len() > 64 || !(1..=10_000_000).contains(&iterations) {
+    if salt.is_empty() || salt.len() > 64 {
+        return Err(CaseError::Malformed);
+    }
+    if !(1..=10_000_000).contains(&iterations) {
         return Err(CaseError::Malformed);
     }
     match StoredPassword::derive_for(alloc, hash, password, salt, iterations) {
@@ -65,22 +68,16 @@ fn stored(
     }
 }
 
-/// An acceptor with SCRAM.
-fn scram(
-    hash: ScramHash,
-    user: OneUser,
-    nonce: Text,
-) -> Result<SaslAcceptor<OneUser, OneUser>, CaseError>
-    ensures { IfOk result HasMechanism }
+/// An acceptor with SCRAM and this hash function.
+fn scram(hash: ScramHash, user: OneUser, nonce: Text) -> SaslAcceptor<OneUser, OneUser>
+    requires { IsNonce nonce }
+    ensures { HasMechanism result }
 {
-    if !is_nonce(nonce.as_bytes()) {
-        return Err(CaseError::Malformed);
-    }
-    Ok(match hash {
+    match hash {
         ScramHash::Sha1 => SaslAcceptor::ScramSha1(user, nonce),
         ScramHash::Sha256 => SaslAcceptor::ScramSha256(user, nonce),
         ScramHash::Sha512 => SaslAcceptor::ScramSha512(user, nonce),
-    })
+    }
 }
 
 /// The acceptor of SCRAM with one user.
@@ -97,7 +94,10 @@ fn scram_user(
 {
     let stored = stored(alloc, hash, password.as_str(), &salt, iterations)?;
     let user = one_user(username, password, Some(stored))?;
-    scram(hash, user, nonce)
+    if !is_nonce(nonce.as_bytes()) {
+        return Err(CaseError::Malformed);
+    }
+    Ok(scram(hash, user, nonce))
 }
 
 /// The acceptor of a call.
