@@ -4,7 +4,7 @@ ghost use Rattle.amqp_opening.specs.Admission.{scram, admission_of, admission_in
 
 use amqp_text::{Binary, Text};
 use sasl_gate::ScramHash;
-use sasl_gate::scram::hash::ScramHash::{Sha1, Sha256, Sha512};
+use sasl_scram::hash::ScramHash::{Sha1, Sha256, Sha512};
 use std::alloc::{AllocError, Global};
 
 /// Whom a listener lets in: anyone, or one user.

@@ -12,7 +12,7 @@ use amqp_wire::codec::{FramedCodec, MIN_MAX_FRAME_SIZE};
 use amqp_wire::link::{Held, IoKind, Link, Stop};
 use amqp_wire::reading::{Wait, read_header};
 use sasl_gate::NegotiationError;
-use sasl_gate::gate::exchange::Exchange;
+use sasl_exchange::exchange::Exchange;
 use sasl_gate::gate::negotiation::{GatePoll, Negotiation};
 use std::alloc::{AllocError, Global};
 use std::marker::Model;

@@ -5,7 +5,7 @@ use crate::{
 use amqp_text::{Binary, Text};
 use amqp_wire::codec::FramedCodec;
 use amqp_wire::pipe::Pipe;
-use sasl_gate::gate::exchange::Exchange;
+use sasl_exchange::exchange::Exchange;
 use sasl_gate::{NegotiationError, SASL_HEADER, SaslProfile, ScramHash};
 use std::alloc::Global;
 use std::process::Abort;

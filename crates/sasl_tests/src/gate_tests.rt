@@ -1,13 +1,13 @@
 ghost use Rattle.std.specs.Prelude.{◌≡◌};
-ghost use Rattle.sasl_gate.specs.AnyServer.{HasMechanism};
-ghost use Rattle.sasl_gate.specs.Credentials.{credentials_of, scram};
-ghost use Rattle.sasl_gate.specs.Profile.{IsNonce};
+ghost use Rattle.sasl_exchange.specs.AnyServer.{HasMechanism};
+ghost use Rattle.sasl_exchange.specs.Credentials.{credentials_of, scram};
+ghost use Rattle.sasl_scram.specs.Profile.{IsNonce};
 
 use amqp_sasl_bodies::sasl_code::SaslCode;
 use amqp_text::Text;
 use amqp_wire::codec::FramedCodec;
 use amqp_wire::pipe::Pipe;
-use sasl_gate::scram::profile::is_nonce;
+use sasl_scram::profile::is_nonce;
 use sasl_gate::{
     ClientGate, GatePoll, NegotiationError, NoUsers, OneUser, SaslAcceptor, SaslProfile,
     ScramErrorKind, ScramHash, ServerGate, StoredPassword, poll_client, poll_server,

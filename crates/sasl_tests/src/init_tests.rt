@@ -1,7 +1,7 @@
 ghost use Rattle.std.specs.Prelude.{ℕ, [], ◌∷◌, Some, None, codes, if◌then◌else◌};
 ghost use Rattle.std.specs.Str.{bytes_eq};
-ghost use Rattle.sasl_gate.specs.AnyServer.{HasMechanism};
-ghost use Rattle.sasl_gate.specs.Credentials.{credentials_of, HasNonce};
+ghost use Rattle.sasl_exchange.specs.AnyServer.{HasMechanism};
+ghost use Rattle.sasl_exchange.specs.Credentials.{credentials_of, HasNonce};
 
 use amqp_sasl_bodies::sasl_code::SaslCode;
 use amqp_text::Text;
