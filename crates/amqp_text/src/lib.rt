@@ -7,6 +7,4 @@ pub use text::Text;
 
 pub mod binary;
 pub mod symbol;
-#[cfg(test)]
-mod tests;
 pub mod text;
