@@ -13,5 +13,3 @@ pub mod error;
 pub mod laws;
 pub mod phase;
 mod sessions;
-#[cfg(test)]
-mod tests;

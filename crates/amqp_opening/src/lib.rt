@@ -11,5 +11,3 @@ pub mod acceptor;
 pub mod authentication;
 pub mod opening;
 pub mod permission;
-#[cfg(test)]
-mod tests;

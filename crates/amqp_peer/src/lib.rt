@@ -8,6 +8,4 @@ mod drops;
 pub mod held;
 pub mod peer;
 pub mod prepared;
-#[cfg(test)]
-mod tests;
 pub mod valid;

@@ -11,10 +11,6 @@ pub mod key;
 pub mod outside;
 pub mod program;
 pub mod standard;
-#[cfg(test)]
-mod tests;
-#[cfg(test)]
-mod world_tests;
 
 use crate::program::run_program;
 use crate::standard::{StandardInput, StandardOutput};

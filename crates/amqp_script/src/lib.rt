@@ -5,6 +5,4 @@ pub use script::{ScriptError, parse};
 pub use trace_text::text;
 
 pub mod script;
-#[cfg(test)]
-mod tests;
 pub mod trace_text;

@@ -21,6 +21,4 @@ pub mod kind;
 pub mod laws;
 pub mod negotiating;
 pub mod reading;
-#[cfg(test)]
-mod tests;
 pub mod transport;

@@ -14,5 +14,3 @@ pub mod pipe;
 pub mod reading;
 pub mod source;
 pub mod status;
-#[cfg(test)]
-mod tests;

@@ -13,6 +13,4 @@ pub mod copies;
 pub mod open_error;
 pub mod reply;
 pub mod step;
-#[cfg(test)]
-mod tests;
 pub mod trace;

@@ -4,6 +4,4 @@
 pub use world::{World, WorldError};
 
 mod both;
-#[cfg(test)]
-mod tests;
 pub mod world;

@@ -19,5 +19,3 @@ pub mod hmac;
 pub mod params;
 pub mod password;
 pub mod prf;
-#[cfg(test)]
-mod tests;

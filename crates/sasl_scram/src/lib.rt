@@ -27,6 +27,4 @@ pub mod profile;
 pub mod provider;
 pub mod server;
 pub mod stored;
-#[cfg(test)]
-mod tests;
 pub mod texts;

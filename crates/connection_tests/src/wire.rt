@@ -1,12 +1,13 @@
-use crate::codec::{Filled, FramedCodec};
-use crate::faulty_pipe::FaultyPipe;
-use crate::frame::{Front, front_of};
-use crate::link::{Held, Link, LinkRead, LinkWrite, Stop};
-use crate::memory::{MemorySink, MemorySource};
-use crate::pipe::Pipe;
-use crate::reading::{Wait, read_all, read_front, read_header, read_once};
-use crate::source::{Sink, SinkWrite, Source, SourceRead};
-use crate::status::Status;
+//! Frames over links in memory, and links that fail.
+use amqp_wire::codec::{Filled, FramedCodec};
+use amqp_wire::faulty_pipe::FaultyPipe;
+use amqp_wire::frame::{Front, front_of};
+use amqp_wire::link::{Held, Link, LinkRead, LinkWrite, Stop};
+use amqp_wire::memory::{MemorySink, MemorySource};
+use amqp_wire::pipe::Pipe;
+use amqp_wire::reading::{Wait, read_all, read_front, read_header, read_once};
+use amqp_wire::source::{Sink, SinkWrite, Source, SourceRead};
+use amqp_wire::status::Status;
 use std::test::Fail;
 
 /// A read through the trait, as generic callers make it.
