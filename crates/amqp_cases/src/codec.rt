@@ -9,8 +9,8 @@ use amqp_value::{read_value, read_value_within, read_values, to_vec};
 use std::alloc::Global;
 
 /// The bytes of the value, written again.
-fn value_again(alloc: Global, bytes: &[u8]) -> Result<Binary, Refusal> {
-    let (value, used) = read_value(alloc, bytes)?;
+fn value_again(alloc: Global, bytes: &[u8], levels: u8) -> Result<Binary, Refusal> {
+    let (value, used) = read_value_within(alloc, bytes, levels)?;
     if used < bytes.len() {
         return Err(Refusal::Rest);
     }
@@ -64,7 +64,7 @@ fn message_again(alloc: Global, bytes: &[u8]) -> Result<Binary, Refusal> {
 /// What comes of bytes, with that many levels where the kind counts them.
 fn try_codec(alloc: Global, kind: Kind, bytes: &[u8], levels: u8) -> Result<Came, Refusal> {
     match kind {
-        Kind::Values => Ok(Came::Bytes(value_again(alloc, bytes)?)),
+        Kind::Values => Ok(Came::Bytes(value_again(alloc, bytes, levels)?)),
         Kind::Shown => Ok(Came::Text(value_shown(alloc, bytes)?)),
         Kind::Fronts => Ok(Came::Count(front_len(alloc, bytes, levels)?)),
         Kind::Sequences => Ok(Came::Count(values_count(alloc, bytes, levels)?)),
