@@ -59,7 +59,12 @@ fn line_difference(alloc: Global, kind: Kind, line: &str) -> Result<Option<Came>
 }
 
 /// Makes the cases of a text, and writes each that is not the same.
-fn run_text(rt: &(impl AllocGlobal + Print), kind: Kind, name: &str, text: &str) -> io::Result<Tally> {
+fn run_text(
+    rt: &(impl AllocGlobal + Print),
+    kind: Kind,
+    name: &str,
+    text: &str,
+) -> io::Result<Tally> {
     let mut tally = Tally::new();
     for (index, line) in text.lines().enumerate() {
         if is_comment(line) {
