@@ -35,7 +35,6 @@ pub enum SaslCall {
 }
 
 /// The exchange of an end.
-#[derive(Drop)]
 pub enum Authentication {
     /// No call was made.
     Idle,
@@ -43,6 +42,17 @@ pub enum Authentication {
     Client(ClientExchange),
     /// A listener's.
     Listener(ServerExchange<OneUser, OneUser>),
+}
+
+// An exchange is let go by a call, so that no caller sees what a mechanism keeps.
+impl Drop for Authentication {
+    fn drop(self) {
+        match self {
+            Authentication::Idle => {}
+            Authentication::Client(exchange) => drop(exchange),
+            Authentication::Listener(exchange) => drop(exchange),
+        }
+    }
 }
 
 impl Exchange for Authentication {
