@@ -15,6 +15,8 @@ pub enum Kind {
     Fronts,
     /// `.sequences`: bytes, and how many values fill them.
     Sequences,
+    /// `.hashes`: bytes that values fill, and how many different hashes they have.
+    Hashes,
     /// `.bodies`: the body of a frame, and how it is written again.
     Bodies,
     /// `.sasl`: the body of a SASL frame, and how it is written again.
@@ -32,6 +34,7 @@ impl Kind {
             "shown" => Some(Kind::Shown),
             "fronts" => Some(Kind::Fronts),
             "sequences" => Some(Kind::Sequences),
+            "hashes" => Some(Kind::Hashes),
             "bodies" => Some(Kind::Bodies),
             "sasl" => Some(Kind::Sasl),
             "messages" => Some(Kind::Messages),
