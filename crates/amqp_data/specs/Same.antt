@@ -3,10 +3,11 @@ use Rattle.std.specs.Prelude.{ℕ, Bool, true, false, ◌==◌, ◌&&◌, ◌++�
 use Rattle.std.specs.Str.{bytes_eq}
 use Rattle.std.specs.Ordering.{int_eq}
 use Rattle.std.specs.List.{list_any}
-use Rattle.std.specs.Hash.{HashWrites, u8 as one_byte, bool as one_bool, u16, u32, u64, i8, i16, i32, i64}
+use Rattle.std.specs.Hash.{HashWrites, u8 as one_byte, bool as one_bool, usize, u16, u32, u64, i8, i16, i32, i64}
 use Rattle.amqp_data.specs.declared.kind.ElementKind.{ElementKind}
 use Rattle.amqp_data.specs.declared.kind.ElementKind.TheVariants as k
-use Rattle.amqp_data.specs.Data.{Amqp, Items, Pairs, Scalar, null, boolean, ubyte, ushort, uint, ulong, byte, short, int, long, char, timestamp, uuid, binary, string, symbol, scalar, list, dict, array, described, no_items, item, no_pairs, pair}
+use Rattle.amqp_data.specs.Data.{Amqp, Items, Pairs, Scalar, null, boolean, ubyte, ushort, uint, ulong, byte, short, int, long, char, timestamp, uuid, binary, string, symbol, scalar, list, dict, array, described, no_items, item, no_pairs, pair, count, pair_count}
+use Rattle.amqp_text.specs.Bytes.{hashed_bytes}
 
 -- the place of a kind in the list of kinds
 abbrev pub kind_number : ElementKind → ℕ
@@ -101,7 +102,33 @@ distinct_after seen (pair k v ps) = if list_any (same k) seen then false else di
 abbrev pub distinct_keys : Pairs → Bool
 distinct_keys ps = distinct_after [] ps
 
--- what a value feeds a hasher: of a scalar what it holds, of a compound a mark and what its parts feed
+-- the place of a value's kind among the kinds of values
+abbrev pub scalar_number : Scalar → ℕ
+scalar_number null = 0
+scalar_number (boolean b) = 1
+scalar_number (ubyte n) = 2
+scalar_number (ushort n) = 3
+scalar_number (uint n) = 4
+scalar_number (ulong n) = 5
+scalar_number (byte n) = 6
+scalar_number (short n) = 7
+scalar_number (int n) = 8
+scalar_number (long n) = 9
+scalar_number (char c) = 10
+scalar_number (timestamp t) = 11
+scalar_number (uuid u) = 12
+scalar_number (binary s) = 13
+scalar_number (string s) = 14
+scalar_number (symbol s) = 15
+
+abbrev pub value_number : Amqp → ℕ
+value_number (scalar s) = scalar_number s
+value_number (list vs) = 16
+value_number (dict ps) = 17
+value_number (array k vs) = 18
+value_number (described d v) = 19
+
+-- what a scalar feeds a hasher behind its kind: what it holds
 unfoldable pub hashed_scalar : Scalar → HashWrites
 hashed_scalar null = []
 hashed_scalar (boolean b) = one_bool b
@@ -116,17 +143,19 @@ hashed_scalar (long n) = i64 n
 hashed_scalar (char c) = u32 c
 hashed_scalar (timestamp t) = i64 t
 hashed_scalar (uuid u) = u ∷ []
-hashed_scalar (binary s) = s ∷ []
-hashed_scalar (string s) = s ∷ []
-hashed_scalar (symbol s) = s ∷ []
+hashed_scalar (binary s) = hashed_bytes s
+hashed_scalar (string s) = hashed_bytes s
+hashed_scalar (symbol s) = hashed_bytes s
 
+-- What a value feeds a hasher: its kind, of a compound how many parts it has, and what it holds. So what one value feeds
+-- never begins what another feeds.
 unfoldable mutual
   pub hashed : Amqp → HashWrites
-  hashed (scalar s) = hashed_scalar s
-  hashed (list vs) = one_byte 1 ++ hashed_items vs
-  hashed (dict ps) = one_byte 2 ++ hashed_pairs ps
-  hashed (array k vs) = one_byte 3 ++ hashed_items vs
-  hashed (described d v) = hashed d ++ hashed v
+  hashed (scalar s) = one_byte (scalar_number s) ++ hashed_scalar s
+  hashed (list vs) = one_byte 16 ++ (usize (count vs) ++ hashed_items vs)
+  hashed (dict ps) = one_byte 17 ++ (usize (pair_count ps) ++ hashed_pairs ps)
+  hashed (array k vs) = one_byte 18 ++ (one_byte (kind_number k) ++ (usize (count vs) ++ hashed_items vs))
+  hashed (described d v) = one_byte 19 ++ (hashed d ++ hashed v)
 
   pub hashed_items : Items → HashWrites
   hashed_items no_items = []

@@ -108,13 +108,6 @@ impl ValueArray {
         }
     }
 
-    /// The values themselves.
-    pub fn into_vec(self) -> Vec<Value>
-        ensures { items_view result.items ≡ self.1 }
-    {
-        self.values
-    }
-
     /// The kind of all elements.
     pub fn kind(&self) -> ElementKind
         ensures { result ≡ self.now.0 }

@@ -2,8 +2,6 @@
 ghost use Rattle.std.specs.Prelude.{◌≡◌, IfOk};
 
 use crate::value::{Described, Entry, OrderedMap, Value, ValueArray, ValueList};
-use amqp_text::Symbol;
-use amqp_text::symbol::SymbolError;
 use std::alloc::{AllocError, Global};
 
 impl Value {
@@ -28,7 +26,7 @@ impl Value {
             Value::Uuid(u) => Ok(Value::Uuid(*u)),
             Value::Binary(s) => Ok(Value::Binary(s.try_clone(alloc)?)),
             Value::String(s) => Ok(Value::String(s.try_clone(alloc)?)),
-            Value::Symbol(s) => Ok(Value::Symbol(copied_symbol(alloc, s)?)),
+            Value::Symbol(s) => Ok(Value::Symbol(s.try_clone(alloc)?)),
             Value::List(list) => Ok(Value::List(list.try_clone(alloc)?)),
             Value::Map(map) => Ok(Value::Map(map.try_clone(alloc)?)),
             Value::Array(array) => Ok(Value::Array(array.try_clone(alloc)?)),
@@ -94,16 +92,6 @@ impl Described {
         let descriptor = self.parts.descriptor.try_clone(alloc)?;
         let value = self.parts.value.try_clone(alloc)?;
         Described::new(alloc, descriptor, value)
-    }
-}
-
-fn copied_symbol(alloc: Global, symbol: &Symbol) -> Result<Symbol, AllocError>
-    ensures { IfOk result (λ s. s ≡ symbol.now) }
-{
-    match Symbol::from_slice(alloc, symbol.as_slice()) {
-        Ok(copy) => Ok(copy),
-        Err(SymbolError::Memory(error)) => Err(error),
-        Err(SymbolError::NotAscii) => unreachable!(),
     }
 }
 

@@ -27,13 +27,4 @@ impl Described {
     {
         &self.parts.value
     }
-
-    /// The descriptor and the value.
-    pub fn into_parts(self) -> (Value, Value)
-        ensures descriptor { view result.0 ≡ self.0 }
-        ensures value { view result.1 ≡ self.1 }
-    {
-        let parts = Box::into_inner(self.parts);
-        (parts.descriptor, parts.value)
-    }
 }

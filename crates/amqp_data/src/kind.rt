@@ -40,7 +40,7 @@ pub enum ElementKind {
 }
 
 impl ElementKind {
-    fn number(self) -> u8
+    pub(crate) fn number(self) -> u8
         ensures { result ≡ kind_number self }
     {
         match self {

@@ -20,6 +20,4 @@ mod list;
 pub mod map;
 pub mod nesting;
 mod same;
-#[cfg(test)]
-mod tests;
 pub mod value;

@@ -23,13 +23,6 @@ impl ValueList {
         ValueList { values }
     }
 
-    /// The values themselves.
-    pub fn into_vec(self) -> Vec<Value>
-        ensures { items_view result.items ≡ self }
-    {
-        self.values
-    }
-
     /// The values, lent.
     pub fn as_slice(&self) -> &[Value]
         ensures { items_view result.now ≡ self.now }

@@ -127,14 +127,6 @@ impl OrderedMap {
         }
     }
 
-    /// The entries themselves.
-    pub fn into_entries(self) -> Vec<Entry>
-        ensures value { pairs_view result.items ≡ self }
-        ensures distinct { HasDistinctKeys self }
-    {
-        self.entries
-    }
-
     /// The entries, lent.
     pub fn entries(&self) -> &[Entry]
         ensures value { pairs_view result.now ≡ self.now }

@@ -19,16 +19,62 @@ pub struct Uuid {
 
 /// Values in order (section 1.6.22).
 #[cycle(value)]
-#[derive(Debug, Drop)]
+#[derive(Debug)]
 pub struct ValueList {
     pub(crate) values: Vec<Value>,
 }
 
+// Let go by a call, so that no caller sees where the values lie.
+impl Drop for ValueList {
+    #[cycle(value)]
+    fn drop(self) {
+        let ValueList { values } = self;
+        drop(values);
+    }
+}
+
+impl ValueList {
+    ghost use Rattle.std.specs.Prelude.{◌≡◌};
+    ghost use Rattle.amqp_data.specs.View.{items_view};
+
+    /// The values themselves.
+    pub fn into_vec(self) -> Vec<Value>
+        ensures { items_view result.items ≡ self }
+    {
+        let ValueList { values } = self;
+        values
+    }
+}
+
 /// Keys with their values, in the order of insertion; no key comes twice (section 1.6.23).
 #[cycle(value)]
-#[derive(Debug, Drop)]
+#[derive(Debug)]
 pub struct OrderedMap {
     pub(crate) entries: Vec<Entry>,
+}
+
+// Let go by a call, so that no caller sees where the values lie.
+impl Drop for OrderedMap {
+    #[cycle(value)]
+    fn drop(self) {
+        let OrderedMap { entries } = self;
+        drop(entries);
+    }
+}
+
+impl OrderedMap {
+    ghost use Rattle.std.specs.Prelude.{◌≡◌};
+    ghost use Rattle.amqp_data.specs.Data.{HasDistinctKeys};
+    ghost use Rattle.amqp_data.specs.View.{pairs_view};
+
+    /// The entries themselves.
+    pub fn into_entries(self) -> Vec<Entry>
+        ensures value { pairs_view result.items ≡ self }
+        ensures distinct { HasDistinctKeys self }
+    {
+        let OrderedMap { entries } = self;
+        entries
+    }
 }
 
 /// A key and its value.
@@ -43,17 +89,63 @@ pub struct Entry {
 
 /// Values of one kind (section 1.6.24).
 #[cycle(value)]
-#[derive(Debug, Drop)]
+#[derive(Debug)]
 pub struct ValueArray {
     pub(crate) kind: ElementKind,
     pub(crate) values: Vec<Value>,
 }
 
+// Let go by a call, so that no caller sees where the values lie.
+impl Drop for ValueArray {
+    #[cycle(value)]
+    fn drop(self) {
+        let ValueArray { kind: _, values } = self;
+        drop(values);
+    }
+}
+
+impl ValueArray {
+    ghost use Rattle.std.specs.Prelude.{◌≡◌};
+    ghost use Rattle.amqp_data.specs.View.{items_view};
+
+    /// The values themselves.
+    pub fn into_vec(self) -> Vec<Value>
+        ensures { items_view result.items ≡ self.1 }
+    {
+        let ValueArray { kind: _, values } = self;
+        values
+    }
+}
+
 /// A value with a descriptor (section 1.1.2).
 #[cycle(value)]
-#[derive(Debug, Drop)]
+#[derive(Debug)]
 pub struct Described {
     pub(crate) parts: Box<DescribedParts>,
+}
+
+// Let go by a call, so that no caller sees where the values lie.
+impl Drop for Described {
+    #[cycle(value)]
+    fn drop(self) {
+        let Described { parts } = self;
+        drop(parts);
+    }
+}
+
+impl Described {
+    ghost use Rattle.std.specs.Prelude.{◌≡◌};
+    ghost use Rattle.amqp_data.specs.View.{view};
+
+    /// The descriptor and the value.
+    pub fn into_parts(self) -> (Value, Value)
+        ensures descriptor { view result.0 ≡ self.0 }
+        ensures value { view result.1 ≡ self.1 }
+    {
+        let Described { parts } = self;
+        let DescribedParts { descriptor, value } = Box::into_inner(parts);
+        (descriptor, value)
+    }
 }
 
 /// A descriptor and the value behind it, in one place of memory.

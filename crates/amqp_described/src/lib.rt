@@ -12,6 +12,4 @@ pub use writing::{
 pub mod bodies;
 pub mod error;
 pub mod reading;
-#[cfg(test)]
-mod tests;
 pub mod writing;

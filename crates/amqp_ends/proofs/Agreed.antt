@@ -1,8 +1,8 @@
 -- Between two ends whose layers agree no negotiation fails fairly.
 use Rattle.std.proofs.Common.{◌≡◌, inl, inr, ℕ, List, Option, Some, None, sym, ap, ◌∙◌, subst}
 use Rattle.std.proofs.lemmas.Option.{same_Some}
-use Rattle.sasl_gate.specs.declared.gate.error.NegotiationError.{NegotiationError}
-use Rattle.sasl_gate.specs.declared.gate.error.NegotiationError.TheVariants.{Memory, ProtocolHeaderMismatch, NotImplemented, SaslError, ScramError, Io, DecodeError, IllegalState, FramingError}
+use Rattle.sasl_exchange.specs.declared.error.NegotiationError.{NegotiationError}
+use Rattle.sasl_exchange.specs.declared.error.NegotiationError.TheVariants.{Memory, ProtocolHeaderMismatch, NotImplemented, SaslError, ScramError, Io, DecodeError, IllegalState, FramingError}
 use Rattle.amqp_opening.specs.declared.authentication.SaslCall.{SaslCall}
 use Rattle.amqp_opening.specs.declared.authentication.SaslCall.TheVariants as layer
 use Rattle.amqp_opening.specs.Authentication.{account_of_call, mechanism_of_call, IsAllowedAccount}

@@ -2,19 +2,19 @@
 use Rattle.std.proofs.Common.{◌≡◌, ◌≢◌, ◌⊎◌, inl, inr, ℕ, List, [], Option, Some, refl, sym, ◌∙◌, subst}
 use Rattle.amqp_sasl_bodies.specs.declared.sasl_body.SaslBody.{SaslBody}
 use Rattle.amqp_wire.specs.Events.{LinkEvent, read_of}
-use Rattle.sasl_gate.specs.declared.gate.client.ClientExchange.{ClientExchange}
-use Rattle.sasl_gate.specs.declared.gate.error.NegotiationError.{NegotiationError}
-use Rattle.sasl_gate.specs.declared.gate.error.NegotiationError.TheVariants.{NotImplemented, FramingError}
-use Rattle.sasl_gate.specs.declared.gate.exchange.Turn.TheVariants.{Pass}
-use Rattle.sasl_gate.specs.declared.gate.profile.SaslProfile.{SaslProfile}
-use Rattle.sasl_gate.specs.declared.gate.server.ServerExchange.TheVariants as server
-use Rattle.sasl_gate.specs.AnyClient.{any_client_causes, any_client_holds, any_client_owes, any_client_turn}
-use Rattle.sasl_gate.specs.AnyServer.{any_server_holds, any_server_turn}
-use Rattle.sasl_gate.specs.Credentials.{credentials_of}
+use Rattle.sasl_exchange.specs.declared.client.ClientExchange.{ClientExchange}
+use Rattle.sasl_exchange.specs.declared.error.NegotiationError.{NegotiationError}
+use Rattle.sasl_exchange.specs.declared.error.NegotiationError.TheVariants.{NotImplemented, FramingError}
+use Rattle.sasl_exchange.specs.declared.exchange.Turn.TheVariants.{Pass}
+use Rattle.sasl_exchange.specs.declared.profile.SaslProfile.{SaslProfile}
+use Rattle.sasl_exchange.specs.declared.server.ServerExchange.TheVariants as server
+use Rattle.sasl_exchange.specs.AnyClient.{any_client_causes, any_client_holds, any_client_owes, any_client_turn}
+use Rattle.sasl_exchange.specs.AnyServer.{any_server_holds, any_server_turn}
+use Rattle.sasl_exchange.specs.Credentials.{credentials_of}
 use Rattle.sasl_gate.specs.Frames.{Heard}
 use Rattle.sasl_gate.specs.Negotiation.{IsCaused, IsCauseAfter, IsHeard, IsOverlong, at_link, at_header, at_frame, by_body, too_long}
-use Rattle.sasl_gate.specs.ServerGate.{ServerEnd, server_turn}
-use Rattle.sasl_gate.specs.States.{Account}
+use Rattle.sasl_exchange.specs.ScramServer.{ServerEnd, server_turn}
+use Rattle.sasl_scram.specs.States.{Account}
 use Rattle.amqp_opening.specs.declared.acceptor.AcceptSasl.{AcceptSasl}
 use Rattle.amqp_opening.specs.declared.authentication.Authentication.TheVariants.{Client, Listener}
 use Rattle.amqp_opening.specs.declared.authentication.SaslCall.{SaslCall}

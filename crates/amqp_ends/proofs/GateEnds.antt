@@ -2,25 +2,25 @@
 use Rattle.std.proofs.Common.{◌≡◌, ◌≢◌, ◌⊎◌, inl, inr, ℕ, List, Option, Some, sym, ap, ◌∙◌, subst}
 use Rattle.std.proofs.lemmas.Option.{same_Some}
 use Rattle.amqp_sasl_bodies.specs.declared.sasl_body.SaslBody.{SaslBody}
-use Rattle.sasl_gate.specs.declared.gate.client.ClientExchange.{ClientExchange}
-use Rattle.sasl_gate.specs.declared.gate.client.ClientExchange.TheVariants as client
-use Rattle.sasl_gate.specs.declared.gate.init_server.InitCheck.{InitCheck}
-use Rattle.sasl_gate.specs.declared.gate.init_server.InitCheck.TheVariants as check
-use Rattle.sasl_gate.specs.declared.gate.server.ServerExchange.TheVariants as server
-use Rattle.sasl_gate.specs.declared.scram.hash.ScramHash.{ScramHash}
-use Rattle.sasl_gate.specs.declared.scram.stored.StoredPassword.{StoredPassword}
-use Rattle.sasl_gate.specs.AnyClient.{any_client_holds}
-use Rattle.sasl_gate.specs.AnyServer.{any_server_holds}
-use Rattle.sasl_gate.specs.Check.{stored_of}
-use Rattle.sasl_gate.specs.ClientGate.{ClientEnd, client_holds}
-use Rattle.sasl_gate.specs.Credentials.{Credentials, mechanism_in}
-use Rattle.sasl_gate.specs.Credentials as own
-use Rattle.sasl_gate.specs.Hashes.{digest_of, block_of, output_of, mechanism_of}
-use Rattle.sasl_gate.specs.InitClient.{InitClientEnd}
-use Rattle.sasl_gate.specs.InitServer.{InitServerEnd, check_name}
-use Rattle.sasl_gate.specs.Profile.{IsAllowedUser, IsNonce}
-use Rattle.sasl_gate.specs.ServerGate.{ServerEnd, server_holds}
-use Rattle.sasl_gate.specs.States.{Account}
+use Rattle.sasl_exchange.specs.declared.client.ClientExchange.{ClientExchange}
+use Rattle.sasl_exchange.specs.declared.client.ClientExchange.TheVariants as client
+use Rattle.sasl_exchange.specs.declared.init_server.InitCheck.{InitCheck}
+use Rattle.sasl_exchange.specs.declared.init_server.InitCheck.TheVariants as check
+use Rattle.sasl_exchange.specs.declared.server.ServerExchange.TheVariants as server
+use Rattle.sasl_scram.specs.declared.hash.ScramHash.{ScramHash}
+use Rattle.sasl_scram.specs.declared.stored.StoredPassword.{StoredPassword}
+use Rattle.sasl_exchange.specs.AnyClient.{any_client_holds}
+use Rattle.sasl_exchange.specs.AnyServer.{any_server_holds}
+use Rattle.sasl_scram.specs.Check.{stored_of}
+use Rattle.sasl_exchange.specs.ScramClient.{ClientEnd, client_holds}
+use Rattle.sasl_exchange.specs.Credentials.{Credentials, mechanism_in}
+use Rattle.sasl_exchange.specs.Credentials as own
+use Rattle.sasl_scram.specs.Hashes.{digest_of, block_of, output_of, mechanism_of}
+use Rattle.sasl_exchange.specs.InitClient.{InitClientEnd}
+use Rattle.sasl_exchange.specs.InitServer.{InitServerEnd, check_name}
+use Rattle.sasl_scram.specs.Profile.{IsAllowedUser, IsNonce}
+use Rattle.sasl_exchange.specs.ScramServer.{ServerEnd, server_holds}
+use Rattle.sasl_scram.specs.States.{Account}
 use Rattle.amqp_opening.specs.Admission.{Admission, account_by, mechanism_by}
 use Rattle.amqp_opening.specs.Admission as admitted
 use Rattle.amqp_opening.specs.Authentication.{account_in, plain_account, IsClientFor, IsClientMade, IsListenerFor, IsListenerMade, passwords_for, stored_for}

@@ -2,14 +2,14 @@
 use Rattle.std.proofs.Common.{◌≡◌, ◌≢◌, ◌⊎◌, inl, inr, ℕ, List, [], Option, Some, refl, sym, ◌∙◌, subst}
 use Rattle.amqp_sasl_bodies.specs.declared.sasl_body.SaslBody.{SaslBody}
 use Rattle.amqp_wire.specs.Events.{LinkEvent, read_of}
-use Rattle.sasl_gate.specs.declared.gate.client.ClientExchange.{ClientExchange}
-use Rattle.sasl_gate.specs.declared.gate.error.NegotiationError.{NegotiationError}
-use Rattle.sasl_gate.specs.declared.gate.error.NegotiationError.TheVariants.{FramingError}
-use Rattle.sasl_gate.specs.declared.gate.exchange.Turn.TheVariants.{Pass}
-use Rattle.sasl_gate.specs.declared.gate.profile.SaslProfile.{SaslProfile}
-use Rattle.sasl_gate.specs.AnyClient.{any_client_holds, any_client_turn}
-use Rattle.sasl_gate.specs.AnyServer.{any_server_causes, any_server_holds, any_server_owes, any_server_turn}
-use Rattle.sasl_gate.specs.Credentials.{credentials_of}
+use Rattle.sasl_exchange.specs.declared.client.ClientExchange.{ClientExchange}
+use Rattle.sasl_exchange.specs.declared.error.NegotiationError.{NegotiationError}
+use Rattle.sasl_exchange.specs.declared.error.NegotiationError.TheVariants.{FramingError}
+use Rattle.sasl_exchange.specs.declared.exchange.Turn.TheVariants.{Pass}
+use Rattle.sasl_exchange.specs.declared.profile.SaslProfile.{SaslProfile}
+use Rattle.sasl_exchange.specs.AnyClient.{any_client_holds, any_client_turn}
+use Rattle.sasl_exchange.specs.AnyServer.{any_server_causes, any_server_holds, any_server_owes, any_server_turn}
+use Rattle.sasl_exchange.specs.Credentials.{credentials_of}
 use Rattle.sasl_gate.specs.Frames.{Heard}
 use Rattle.sasl_gate.specs.Negotiation.{IsCaused, IsCauseAfter, IsHeard, IsOverlong, at_link, at_header, at_frame, by_body, too_long}
 use Rattle.amqp_opening.specs.declared.acceptor.AcceptSasl.{AcceptSasl}

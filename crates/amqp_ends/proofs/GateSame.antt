@@ -6,23 +6,23 @@ use Rattle.amqp_sasl_bodies.specs.declared.sasl_body.SaslBody.{SaslBody}
 use Rattle.amqp_sasl_bodies.specs.declared.sasl_code.SaslCode.{SaslCode}
 use Rattle.amqp_sasl_bodies.specs.declared.sasl_code.SaslCode.TheVariants as sasl
 use Rattle.amqp_wire.specs.Events.{LinkEvent, read_of}
-use Rattle.sasl_gate.specs.declared.gate.client.ClientExchange.{ClientExchange}
-use Rattle.sasl_gate.specs.declared.gate.client.ClientExchange.TheVariants as client
-use Rattle.sasl_gate.specs.declared.gate.error.NegotiationError.{NegotiationError}
-use Rattle.sasl_gate.specs.declared.gate.error.NegotiationError.TheVariants.{Memory, ProtocolHeaderMismatch, NotImplemented, SaslError, ScramError, Io, DecodeError, IllegalState, FramingError}
-use Rattle.sasl_gate.specs.declared.gate.exchange.Turn.TheVariants.{Pass}
-use Rattle.sasl_gate.specs.declared.gate.server.ServerExchange.TheVariants as server
-use Rattle.sasl_gate.specs.declared.scram.error.ScramErrorKind.TheVariants.{Signature}
-use Rattle.sasl_gate.specs.AnyClient.{any_client_causes, any_client_owes, any_client_turn}
-use Rattle.sasl_gate.specs.AnyServer.{any_server_causes, any_server_owes, any_server_turn}
-use Rattle.sasl_gate.specs.ClientGate.{ClientEnd}
-use Rattle.sasl_gate.specs.Credentials.{Credentials}
-use Rattle.sasl_gate.specs.Exchange.{refused_with}
-use Rattle.sasl_gate.specs.InitClient.{InitClientEnd}
-use Rattle.sasl_gate.specs.InitServer.{InitServerEnd}
+use Rattle.sasl_exchange.specs.declared.client.ClientExchange.{ClientExchange}
+use Rattle.sasl_exchange.specs.declared.client.ClientExchange.TheVariants as client
+use Rattle.sasl_exchange.specs.declared.error.NegotiationError.{NegotiationError}
+use Rattle.sasl_exchange.specs.declared.error.NegotiationError.TheVariants.{Memory, ProtocolHeaderMismatch, NotImplemented, SaslError, ScramError, Io, DecodeError, IllegalState, FramingError}
+use Rattle.sasl_exchange.specs.declared.exchange.Turn.TheVariants.{Pass}
+use Rattle.sasl_exchange.specs.declared.server.ServerExchange.TheVariants as server
+use Rattle.sasl_scram.specs.declared.error.ScramErrorKind.TheVariants.{Signature}
+use Rattle.sasl_exchange.specs.AnyClient.{any_client_causes, any_client_owes, any_client_turn}
+use Rattle.sasl_exchange.specs.AnyServer.{any_server_causes, any_server_owes, any_server_turn}
+use Rattle.sasl_exchange.specs.ScramClient.{ClientEnd}
+use Rattle.sasl_exchange.specs.Credentials.{Credentials}
+use Rattle.sasl_exchange.specs.Exchange.{refused_with}
+use Rattle.sasl_exchange.specs.InitClient.{InitClientEnd}
+use Rattle.sasl_exchange.specs.InitServer.{InitServerEnd}
 use Rattle.sasl_gate.specs.Negotiation.{IsHeard}
-use Rattle.sasl_gate.specs.ServerGate.{ServerEnd, server_turn}
-use Rattle.sasl_gate.specs.States.{Account}
+use Rattle.sasl_exchange.specs.ScramServer.{ServerEnd, server_turn}
+use Rattle.sasl_scram.specs.States.{Account}
 use Rattle.amqp_opening.specs.Admission.{Admission, account_by}
 use Rattle.amqp_opening.specs.Authentication.{account_in, passwords_for, stored_for}
 use Rattle.amqp_pairs.specs.Errors.{MayRefuse}

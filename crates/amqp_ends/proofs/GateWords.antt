@@ -6,8 +6,8 @@ use Rattle.amqp_engine.specs.Sentence.{bytes_of_all}
 use Rattle.amqp_transport.specs.declared.frames.Frame.{Frame}
 use Rattle.amqp_wire.specs.declared.link.IoKind.TheVariants.{Fault, End}
 use Rattle.amqp_wire.specs.Events.{LinkEvent, HasFailed}
-use Rattle.sasl_gate.specs.declared.gate.error.NegotiationError.{NegotiationError}
-use Rattle.sasl_gate.specs.declared.gate.error.NegotiationError.TheVariants.{Memory, ProtocolHeaderMismatch, NotImplemented, SaslError, ScramError, Io, DecodeError, IllegalState, FramingError}
+use Rattle.sasl_exchange.specs.declared.error.NegotiationError.{NegotiationError}
+use Rattle.sasl_exchange.specs.declared.error.NegotiationError.TheVariants.{Memory, ProtocolHeaderMismatch, NotImplemented, SaslError, ScramError, Io, DecodeError, IllegalState, FramingError}
 use Rattle.sasl_gate.specs.Frames.{HasSaslFrame, Heard, said, sasl_header}
 use Rattle.sasl_gate.specs.Negotiation.{LinkCause}
 use Rattle.amqp_opening.specs.Opening.{amqp_header}

@@ -17,10 +17,10 @@ use Rattle.amqp_engine.specs.declared.phase.BodyKind.{BodyKind}
 use Rattle.amqp_engine.specs.declared.phase.BodyKind.TheVariants as kind
 use Rattle.amqp_engine.specs.Heard.{IsGreeted, IsRejected, IsStray}
 use Rattle.amqp_engine.specs.Phases.{kind_of, IsInner}
-use Rattle.sasl_gate.specs.declared.gate.client.ClientExchange.TheVariants as client
-use Rattle.sasl_gate.specs.declared.gate.error.NegotiationError.{NegotiationError}
-use Rattle.sasl_gate.specs.declared.gate.error.NegotiationError.TheVariants as negotiation
-use Rattle.sasl_gate.specs.declared.gate.server.ServerExchange.TheVariants as server
+use Rattle.sasl_exchange.specs.declared.client.ClientExchange.TheVariants as client
+use Rattle.sasl_exchange.specs.declared.error.NegotiationError.{NegotiationError}
+use Rattle.sasl_exchange.specs.declared.error.NegotiationError.TheVariants as negotiation
+use Rattle.sasl_exchange.specs.declared.server.ServerExchange.TheVariants as server
 use Rattle.sasl_gate.specs.Negotiation.{LinkCause, at_link, at_header, at_frame, by_body, too_long}
 use Rattle.amqp_opening.specs.declared.authentication.Authentication.{Authentication}
 use Rattle.amqp_opening.specs.declared.authentication.Authentication.TheVariants.{Idle, Client, Listener}

@@ -3,8 +3,8 @@ use Rattle.std.proofs.Common.{◌≡◌, ◌⊎◌, ◌≤◌, inl, inr, ℕ, Li
 use Rattle.amqp_sasl_bodies.specs.declared.sasl_body.SaslBody.{SaslBody}
 use Rattle.amqp_wire.specs.Events.{LinkEvent}
 use Rattle.amqp_transport.specs.declared.transport.Error.{Error as TransportFault}
-use Rattle.sasl_gate.specs.declared.gate.error.NegotiationError.{NegotiationError}
-use Rattle.sasl_gate.specs.declared.gate.exchange.Turn.TheVariants.{Pass}
+use Rattle.sasl_exchange.specs.declared.error.NegotiationError.{NegotiationError}
+use Rattle.sasl_exchange.specs.declared.exchange.Turn.TheVariants.{Pass}
 use Rattle.sasl_gate.specs.Frames.{HasSaslFrame, said, sasl_frame}
 use Rattle.amqp_opening.specs.declared.authentication.SaslCall.{SaslCall}
 use Rattle.amqp_opening.specs.Authentication.{turn_by}

@@ -2,7 +2,7 @@
 use Rattle.std.proofs.Common.{◌≡◌, ◌≢◌, ℕ, List, [], ◌++◌}
 use Rattle.std.specs.Prelude.{⊤}
 use Rattle.amqp_sasl_bodies.specs.declared.sasl_body.SaslBody.{SaslBody}
-use Rattle.sasl_gate.specs.declared.gate.exchange.Turn.TheVariants.{Send, Pass}
+use Rattle.sasl_exchange.specs.declared.exchange.Turn.TheVariants.{Send, Pass}
 use Rattle.sasl_gate.specs.Frames.{Heard}
 use Rattle.sasl_gate.specs.Negotiation.{IsHeard}
 use Rattle.amqp_opening.specs.declared.authentication.Authentication.{Authentication}

@@ -7,8 +7,8 @@ use Rattle.amqp_opening.specs.declared.authentication.Authentication.TheVariants
 use Rattle.amqp_opening.specs.declared.authentication.SaslCall.{SaslCall}
 use Rattle.amqp_opening.specs.Authentication.{passwords_for, stored_for, holds_by}
 use Rattle.sasl_gate.specs.Frames.{HasSaslFrame, sasl_header}
-use Rattle.sasl_gate.proofs.AnyClients.{any_client_few}
-use Rattle.sasl_gate.proofs.AnyServers.{any_server_few}
+use Rattle.sasl_exchange.proofs.AnyClients.{any_client_few}
+use Rattle.sasl_exchange.proofs.AnyServers.{any_server_few}
 use Rattle.amqp_peer.specs.History.{Local, made_in, wrote_in}
 use Rattle.amqp_peer.specs.Layers.{layer_in, HasExchange, HasLayer}
 use Rattle.amqp_ends.specs.Quiet.{HasFewFrames, IsFewOf, IsFew}

@@ -5,7 +5,7 @@ use Rattle.amqp_sasl_bodies.specs.declared.sasl_body.SaslBody.{SaslBody}
 use Rattle.amqp_wire.specs.declared.frame.Front.TheVariants.{Partial}
 use Rattle.amqp_wire.specs.Frame.{IsFront}
 use Rattle.amqp_engine.specs.Sentence.{bytes_of_all}
-use Rattle.sasl_gate.specs.declared.gate.exchange.Turn.TheVariants.{Send, Receive, Pass}
+use Rattle.sasl_exchange.specs.declared.exchange.Turn.TheVariants.{Send, Receive, Pass}
 use Rattle.sasl_gate.specs.Frames.{Carries, HasSaslFrame, Heard, said, sasl_frame, sasl_header}
 use Rattle.sasl_gate.specs.Negotiation.{IsHeard}
 use Rattle.amqp_opening.specs.declared.authentication.SaslCall.{SaslCall}

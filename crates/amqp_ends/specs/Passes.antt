@@ -1,7 +1,7 @@
 -- Two ends whose layers agree, and what they come to (OASIS AMQP 1.0, part 5, section 5.3.2).
 use Rattle.std.specs.Prelude.{◌≡◌, ◌⊎◌, ◌≤◌, ℕ, List, [], ◌∷◌, ◌++◌, length, Option, Some, None, ⊤}
-use Rattle.sasl_gate.specs.declared.gate.error.NegotiationError.{NegotiationError}
-use Rattle.sasl_gate.specs.declared.gate.exchange.Turn.TheVariants.{Pass}
+use Rattle.sasl_exchange.specs.declared.error.NegotiationError.{NegotiationError}
+use Rattle.sasl_exchange.specs.declared.exchange.Turn.TheVariants.{Pass}
 use Rattle.amqp_opening.specs.declared.authentication.SaslCall.{SaslCall}
 use Rattle.amqp_opening.specs.Authentication.{turn_by}
 use Rattle.amqp_words.specs.declared.open_error.OpenError.TheVariants as failed

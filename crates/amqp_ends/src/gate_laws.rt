@@ -1,6 +1,6 @@
 //! Laws over the negotiation of an end that faces another (OASIS AMQP 1.0, part 5, section 5.3).
 ghost use Rattle.std.specs.Prelude.{◌≡◌, ◌⊎◌, ◌≤◌, ℕ, List, [], ◌∷◌, ◌++◌, length, Option};
-ghost use Rattle.sasl_gate.specs.declared.gate.error.NegotiationError.{NegotiationError};
+ghost use Rattle.sasl_exchange.specs.declared.error.NegotiationError.{NegotiationError};
 ghost use Rattle.amqp_opening.specs.declared.authentication.SaslCall.{SaslCall};
 ghost use Rattle.amqp_words.specs.declared.call.Call.{Call};
 ghost use Rattle.amqp_peer.specs.Causes.{AllCaused, OpenCauseIn};

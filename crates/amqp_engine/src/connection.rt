@@ -37,12 +37,22 @@ impl ListenerConnection {
 }
 
 /// Which of the two ends it is.
-#[derive(Debug, Drop)]
+#[derive(Debug)]
 pub enum EndKind {
     /// The end that has made the connection.
     Client(Connection),
     /// The end that has taken it.
     Listener(ListenerConnection),
+}
+
+// An end is let go by a call, so that no caller sees the parts of its Open.
+impl Drop for EndKind {
+    fn drop(self) {
+        match self {
+            EndKind::Client(end) => drop(end),
+            EndKind::Listener(end) => drop(end),
+        }
+    }
 }
 
 /// What an engine keeps of both ends' Opens.

@@ -19,12 +19,12 @@ use crate::drops::discard;
 use crate::error::{AllocSessionError, Error};
 use crate::phase::{Phase, Rejection};
 use crate::sessions::{Plan, Sessions};
-use amqp_performatives::close::Close;
 use amqp_composites::error::Error as AmqpError;
-use amqp_performatives::open::Open;
 use amqp_frames::{
-    ConnectionState, ConnectionStopReason, FrameBody, IncomingSession, SessionFrame,
+    ConnectionState, ConnectionStopReason, FrameBody, IncomingSession, SessionFrame, let_go,
 };
+use amqp_performatives::close::Close;
+use amqp_performatives::open::Open;
 use amqp_text::Symbol;
 use amqp_transport::{AmqpFrames, Flush, Frame, HeartBeat, Next, Transport, transport};
 use amqp_wire::link::{IoKind, Link};
@@ -44,7 +44,6 @@ pub enum EngineStep {
 }
 
 /// A connection over a transport. Moments and times are in milliseconds.
-#[derive(Drop)]
 pub struct ConnectionEngine<L: Link> {
     transport: Transport<L, AmqpFrames>,
     phase: Phase,
@@ -53,6 +52,24 @@ pub struct ConnectionEngine<L: Link> {
     settings: Settings,
     sessions: Sessions,
     alloc: Global,
+}
+
+// An engine is let go by a call, so that no caller sees what it holds.
+impl<L: Link> Drop for ConnectionEngine<L> {
+    fn drop(self) {
+        let ConnectionEngine {
+            transport,
+            phase: _,
+            beat: _,
+            reason,
+            settings: _,
+            sessions,
+            alloc: _,
+        } = self;
+        drop(transport);
+        drop(reason);
+        drop(sessions);
+    }
 }
 
 impl<L: Link> Model for ConnectionEngine<L> {
@@ -153,7 +170,7 @@ impl<L: Link> ConnectionEngine<L> {
             body: FrameBody::Open(local_open),
         };
         let sent = transport.start_send(alloc, &frame);
-        discard(frame);
+        let_go(frame.body);
         match sent {
             Ok(()) => Ok(ConnectionEngine {
                 transport,
@@ -272,7 +289,7 @@ impl<L: Link> ConnectionEngine<L> {
                 Ok(EngineStep::Worked)
             }
             other => {
-                discard(other);
+                let_go(other);
                 self.phase = Phase::Refused;
                 Err(Error::IllegalState)
             }
@@ -297,7 +314,7 @@ impl<L: Link> ConnectionEngine<L> {
                 Ok(EngineStep::Worked)
             }
             other => {
-                discard(other);
+                let_go(other);
                 Ok(EngineStep::Worked)
             }
         }
@@ -314,7 +331,7 @@ impl<L: Link> ConnectionEngine<L> {
                 }
                 self.phase = Phase::Ended;
             }
-            other => discard(other),
+            other => let_go(other),
         }
     }
 
@@ -346,7 +363,7 @@ impl<L: Link> ConnectionEngine<L> {
                 Ok(EngineStep::Worked)
             }
             _ => {
-                discard(frame);
+                let_go(frame.body);
                 unreachable!()
             }
         }
@@ -409,7 +426,7 @@ impl<L: Link> ConnectionEngine<L> {
     {
         let frame = Frame::empty();
         let put = self.put(&frame);
-        discard(frame);
+        let_go(frame.body);
         match put {
             Ok(()) => {
                 self.beat = beat;
@@ -428,7 +445,7 @@ impl<L: Link> ConnectionEngine<L> {
             body: FrameBody::Close(Close { error: None }),
         };
         let put = self.put(&frame);
-        discard(frame);
+        let_go(frame.body);
         match put {
             Ok(()) => {
                 self.phase = Phase::Ended;
@@ -452,7 +469,7 @@ impl<L: Link> ConnectionEngine<L> {
                 Ok(())
             }
             Err(error) => {
-                discard(frame);
+                let_go(frame.body);
                 Err(error)
             }
         }
@@ -466,7 +483,7 @@ impl<L: Link> ConnectionEngine<L> {
                 self.phase = close_phase(&close.error);
                 self.set_reason(own_reason(close.error));
             }
-            other => discard(other),
+            other => let_go(other),
         }
     }
 
@@ -535,7 +552,7 @@ impl<L: Link> ConnectionEngine<L> {
         let (channel, body) = frame.into_parts();
         let frame = Frame { channel, body };
         let sent = self.put_if_open(&frame);
-        discard(frame);
+        let_go(frame.body);
         sent
     }
 
@@ -587,9 +604,11 @@ impl<L: Link> ConnectionEngine<L> {
         let ConnectionEngine {
             transport,
             phase,
+            beat: _,
             reason,
+            settings: _,
             sessions,
-            ..
+            alloc: _,
         } = self;
         discard(transport);
         discard(sessions);

@@ -6,7 +6,7 @@ ghost use Rattle.amqp_engine.specs.Channels.{frame_in, asked, channels_of, taken
 use crate::drops::discard;
 use crate::error::Error;
 use crate::phase::Rejection;
-use amqp_frames::{FrameBody, IncomingSession, SessionFrame};
+use amqp_frames::{FrameBody, IncomingSession, SessionFrame, let_go};
 use std::alloc::{AllocError, Global};
 use std::collections::VecDeque;
 
@@ -26,7 +26,7 @@ pub enum Plan {
 }
 
 /// The sessions of a connection, by their channels, and what came for them.
-#[derive(Debug, Drop)]
+#[derive(Debug)]
 pub struct Sessions {
     /// Of each channel of this end, from 0 on, whether a session has it.
     seats: Vec<bool>,
@@ -36,6 +36,22 @@ pub struct Sessions {
     incoming: VecDeque<SessionFrame>,
     /// The sessions that the peer asks for, in order.
     begun: VecDeque<IncomingSession>,
+}
+
+// The sessions are let go by a call, so that no caller sees the frames that wait.
+impl Drop for Sessions {
+    fn drop(self) {
+        let Sessions {
+            seats,
+            remotes,
+            incoming,
+            begun,
+        } = self;
+        drop(seats);
+        drop(remotes);
+        drop(incoming);
+        drop(begun);
+    }
 }
 
 fn is_taken(seats: &[bool], channel: u16) -> bool
@@ -123,7 +139,7 @@ fn ask(frame: SessionFrame) -> Option<IncomingSession>
     match body {
         FrameBody::Begin(begin) => Some(IncomingSession { channel, begin }),
         other => {
-            discard(other);
+            let_go(other);
             None
         }
     }

@@ -13,6 +13,4 @@ pub mod error;
 pub mod field;
 pub mod fields;
 pub mod map;
-#[cfg(test)]
-mod tests;
 pub mod writer;

@@ -1,7 +1,7 @@
 //! What frames hold, in bytes (OASIS AMQP 1.0, part 2, section 2.3).
 #![tactic(auto)]
 
-pub use body::{FRAME_TYPE_AMQP, FrameBody};
+pub use body::{FRAME_TYPE_AMQP, FrameBody, let_go};
 pub use reading::decode_body;
 pub use shared::{
     AllocLinkError, ConnectionState, ConnectionStopReason, CoveredDelivery, IncomingSession,

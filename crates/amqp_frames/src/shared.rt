@@ -16,11 +16,19 @@ use std::alloc::AllocError;
 use thiserror::Error;
 
 /// A frame of a session: any body but an Open, a Close or none.
-#[derive(Debug, Drop)]
+#[derive(Debug)]
 pub struct SessionFrame {
     channel: u16,
     body: FrameBody,
     ghost of_a_session: { of_session body ≡ true },
+}
+
+// A frame is let go by a call, so that no caller sees the parts of its body.
+impl Drop for SessionFrame {
+    fn drop(self) {
+        let SessionFrame { channel: _, body } = self;
+        drop(body);
+    }
 }
 
 impl SessionFrame {
@@ -55,7 +63,8 @@ impl SessionFrame {
         ensures value { (result.0 ≡ self.channel) × (result.1 ≡ self.body) }
         ensures session { of_session result.1 ≡ true }
     {
-        (self.channel, self.body)
+        let SessionFrame { channel, body } = self;
+        (channel, body)
     }
 }
 

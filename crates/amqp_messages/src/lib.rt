@@ -13,6 +13,4 @@ pub mod kind;
 pub mod message;
 pub mod reading;
 mod sections;
-#[cfg(test)]
-mod tests;
 pub mod writing;

@@ -6,30 +6,32 @@ use Rattle.amqp_sasl_bodies.specs.declared.sasl_body.SaslBody.{SaslBody}
 use Rattle.amqp_sasl_bodies.specs.declared.sasl_code.SaslCode.{SaslCode}
 use Rattle.amqp_sasl_bodies.specs.declared.sasl_code.SaslCode.TheVariants as sasl
 use Rattle.amqp_wire.specs.Events.{LinkEvent, read_of, wrote_of}
-use Rattle.sasl_gate.specs.declared.gate.client.ClientExchange.{ClientExchange}
-use Rattle.sasl_gate.specs.declared.gate.client.ClientExchange.TheVariants as client_end
-use Rattle.sasl_gate.specs.declared.gate.exchange.Turn.TheVariants.{Pass}
-use Rattle.sasl_gate.specs.declared.gate.init_client.InitClientStage.{InitClientStage}
-use Rattle.sasl_gate.specs.declared.gate.init_client.InitClientStage.TheVariants as init_client
-use Rattle.sasl_gate.specs.declared.gate.init_server.InitCheck.{InitCheck}
-use Rattle.sasl_gate.specs.declared.gate.init_server.InitServerStage.{InitServerStage}
-use Rattle.sasl_gate.specs.declared.gate.init_server.InitServerStage.TheVariants as init_server
-use Rattle.sasl_gate.specs.declared.gate.scram_client.ClientStage.{ClientStage}
-use Rattle.sasl_gate.specs.declared.gate.scram_client.ClientStage.TheVariants as client
-use Rattle.sasl_gate.specs.declared.gate.scram_server.ServerStage.{ServerStage}
-use Rattle.sasl_gate.specs.declared.gate.scram_server.ServerStage.TheVariants as server
-use Rattle.sasl_gate.specs.declared.gate.server.ServerExchange.{ServerExchange}
-use Rattle.sasl_gate.specs.declared.gate.server.ServerExchange.TheVariants as server_end
-use Rattle.sasl_gate.specs.declared.scram.hash.ScramHash.{ScramHash}
-use Rattle.sasl_gate.specs.ClientGate.{ClientEnd, turn_in as client_turn_in, holds_in as client_holds_in, HasPassed as ClientHasPassed, ClientPassed}
-use Rattle.sasl_gate.specs.Credentials.{Credentials, credentials_of}
-use Rattle.sasl_gate.specs.Credentials as own
-use Rattle.sasl_gate.specs.Frames.{HasSaslFrame, Heard, said}
-use Rattle.sasl_gate.specs.InitClient.{InitClientEnd, turn_in as init_client_turn_in, holds_in as init_client_holds_in, HasPassed as InitClientHasPassed, InitClientPassed}
-use Rattle.sasl_gate.specs.InitServer.{InitServerEnd, told_turn, turn_in as init_server_turn_in, holds_in as init_server_holds_in, check_mechanisms, HasJudged, InitServerPassed}
-use Rattle.sasl_gate.specs.ScramBodies.{outcome_body, IsOnlySasl}
-use Rattle.sasl_gate.specs.ServerGate.{ServerEnd, turn_in as server_turn_in, holds_in as server_holds_in, HasProof, ServerPassed}
-use Rattle.sasl_gate.specs.States.{Account, ServerState}
+use Rattle.sasl_exchange.specs.declared.client.ClientExchange.{ClientExchange}
+use Rattle.sasl_exchange.specs.declared.client.ClientExchange.TheVariants as client_end
+use Rattle.sasl_exchange.specs.declared.exchange.Turn.TheVariants.{Pass}
+use Rattle.sasl_exchange.specs.declared.init_client.InitClientStage.{InitClientStage}
+use Rattle.sasl_exchange.specs.declared.init_client.InitClientStage.TheVariants as init_client
+use Rattle.sasl_exchange.specs.declared.init_server.InitCheck.{InitCheck}
+use Rattle.sasl_exchange.specs.declared.init_server.InitServerStage.{InitServerStage}
+use Rattle.sasl_exchange.specs.declared.init_server.InitServerStage.TheVariants as init_server
+use Rattle.sasl_exchange.specs.declared.scram_client.ClientStage.{ClientStage}
+use Rattle.sasl_exchange.specs.declared.scram_client.ClientStage.TheVariants as client
+use Rattle.sasl_exchange.specs.declared.scram_server.ServerStage.{ServerStage}
+use Rattle.sasl_exchange.specs.declared.scram_server.ServerStage.TheVariants as server
+use Rattle.sasl_exchange.specs.declared.server.ServerExchange.{ServerExchange}
+use Rattle.sasl_exchange.specs.declared.server.ServerExchange.TheVariants as server_end
+use Rattle.sasl_scram.specs.declared.hash.ScramHash.{ScramHash}
+use Rattle.sasl_exchange.specs.ScramClient.{ClientEnd, turn_in as client_turn_in, holds_in as client_holds_in, HasPassed as ClientHasPassed}
+use Rattle.sasl_gate.specs.ClientGate.{ClientPassed, InitClientPassed}
+use Rattle.sasl_exchange.specs.Credentials.{Credentials, credentials_of}
+use Rattle.sasl_exchange.specs.Credentials as own
+use Rattle.sasl_gate.specs.Frames.{HasSaslFrame, Heard, said, IsOnlySasl}
+use Rattle.sasl_exchange.specs.InitClient.{InitClientEnd, turn_in as init_client_turn_in, holds_in as init_client_holds_in, HasPassed as InitClientHasPassed}
+use Rattle.sasl_exchange.specs.InitServer.{InitServerEnd, told_turn, turn_in as init_server_turn_in, holds_in as init_server_holds_in, check_mechanisms, HasJudged}
+use Rattle.sasl_gate.specs.ServerGate.{InitServerPassed, ServerPassed}
+use Rattle.sasl_exchange.specs.ScramBodies.{outcome_body}
+use Rattle.sasl_exchange.specs.ScramServer.{ServerEnd, turn_in as server_turn_in, holds_in as server_holds_in, HasProof}
+use Rattle.sasl_scram.specs.States.{Account, ServerState}
 use Rattle.sasl_gate.proofs.Negotiations.{heard_more}
 use Rattle.amqp_opening.specs.declared.authentication.Authentication.{Authentication}
 use Rattle.amqp_opening.specs.declared.authentication.Authentication.TheVariants.{Idle, Client, Listener}

@@ -1,18 +1,18 @@
 -- The exchanges that calls begin.
 use Rattle.std.proofs.Common.{◌≡◌, ℕ, List, [], Option, Some, refl, sym, ◌∙◌}
-use Rattle.sasl_gate.specs.declared.gate.client.ClientExchange.{ClientExchange}
-use Rattle.sasl_gate.specs.declared.gate.client.ClientExchange.TheVariants as client
-use Rattle.sasl_gate.specs.declared.gate.error.NegotiationError.{NegotiationError}
-use Rattle.sasl_gate.specs.declared.gate.server.ServerExchange.{ServerExchange}
-use Rattle.sasl_gate.specs.declared.gate.server.ServerExchange.TheVariants as server
-use Rattle.sasl_gate.specs.declared.scram.error.ScramErrorKind.{ScramErrorKind}
-use Rattle.sasl_gate.specs.declared.scram.error.ScramErrorKind.TheVariants as scram
-use Rattle.sasl_gate.specs.AnyClient.{any_client_begun, any_client_holds, any_client_same}
-use Rattle.sasl_gate.specs.AnyServer.{any_server_same}
-use Rattle.sasl_gate.specs.Credentials.{Credentials, IsAllowedTexts, HasNonce}
-use Rattle.sasl_gate.specs.Credentials as own
-use Rattle.sasl_gate.specs.Refusals.{IsTextRefusal}
-use Rattle.sasl_gate.specs.States.{Account}
+use Rattle.sasl_exchange.specs.declared.client.ClientExchange.{ClientExchange}
+use Rattle.sasl_exchange.specs.declared.client.ClientExchange.TheVariants as client
+use Rattle.sasl_exchange.specs.declared.error.NegotiationError.{NegotiationError}
+use Rattle.sasl_exchange.specs.declared.server.ServerExchange.{ServerExchange}
+use Rattle.sasl_exchange.specs.declared.server.ServerExchange.TheVariants as server
+use Rattle.sasl_scram.specs.declared.error.ScramErrorKind.{ScramErrorKind}
+use Rattle.sasl_scram.specs.declared.error.ScramErrorKind.TheVariants as scram
+use Rattle.sasl_exchange.specs.AnyClient.{any_client_begun, any_client_holds, any_client_same}
+use Rattle.sasl_exchange.specs.AnyServer.{any_server_same}
+use Rattle.sasl_exchange.specs.Credentials.{Credentials, IsAllowedTexts, HasNonce}
+use Rattle.sasl_exchange.specs.Credentials as own
+use Rattle.sasl_scram.specs.Refusals.{IsTextRefusal}
+use Rattle.sasl_scram.specs.States.{Account}
 use Rattle.amqp_opening.specs.Admission.{Admission}
 use Rattle.amqp_opening.specs.Admission as admitted
 use Rattle.amqp_opening.specs.Authentication.{account_in, IsAllowedAccount, IsClientMade, IsListenerMade, IsAccountRefusal, IsErrorOf}

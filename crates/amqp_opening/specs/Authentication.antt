@@ -4,35 +4,35 @@ use Rattle.std.specs.Str.{bytes_eq}
 use Rattle.amqp_sasl_bodies.specs.declared.sasl_body.SaslBody.{SaslBody}
 use Rattle.amqp_sasl_bodies.specs.declared.sasl_code.SaslCode.{SaslCode}
 use Rattle.base64.specs.GeneralPurpose.{IsBytes}
-use Rattle.sasl_gate.specs.declared.gate.client.ClientExchange.{ClientExchange}
-use Rattle.sasl_gate.specs.declared.gate.client.ClientExchange.TheVariants as client
-use Rattle.sasl_gate.specs.declared.gate.error.NegotiationError.{NegotiationError}
-use Rattle.sasl_gate.specs.declared.gate.error.NegotiationError.TheVariants.{Memory, ProtocolHeaderMismatch, NotImplemented, SaslError, ScramError, Io, DecodeError, IllegalState, FramingError}
-use Rattle.sasl_gate.specs.declared.gate.exchange.Exchange.{Ghosts as Mechanism}
-use Rattle.sasl_gate.specs.declared.gate.exchange.Turn.{Turn}
-use Rattle.sasl_gate.specs.declared.gate.exchange.Turn.TheVariants.{Receive, Refuse}
-use Rattle.sasl_gate.specs.declared.gate.init_server.InitCheck.{InitCheck}
-use Rattle.sasl_gate.specs.declared.gate.init_server.InitCheck.TheVariants as check
-use Rattle.sasl_gate.specs.declared.gate.server.ServerExchange.{ServerExchange}
-use Rattle.sasl_gate.specs.declared.gate.server.ServerExchange.TheVariants as server
-use Rattle.sasl_gate.specs.declared.scram.error.ScramErrorKind.{ScramErrorKind}
-use Rattle.sasl_gate.specs.declared.scram.error.ScramErrorKind.TheVariants as scram
-use Rattle.sasl_gate.specs.declared.scram.hash.ScramHash.{ScramHash}
-use Rattle.sasl_gate.specs.declared.scram.stored.StoredPassword.{StoredPassword}
-use Rattle.sasl_gate.specs.AnyClient.{any_client_holds, any_client_causes, any_client_owes, any_client_turn, any_client_left, any_client_same, any_client_refusal, any_client_same_self, any_client_same_then}
-use Rattle.sasl_gate.specs.AnyServer.{any_server_holds, any_server_causes, any_server_owes, any_server_turn, any_server_left, any_server_same, any_server_refusal, any_server_same_self, any_server_same_then}
-use Rattle.sasl_gate.specs.Check.{stored_of}
-use Rattle.sasl_gate.specs.ClientGate.{ClientEnd}
-use Rattle.sasl_gate.specs.Credentials.{Credentials, credentials_of, mechanism_in}
-use Rattle.sasl_gate.specs.Credentials as own
-use Rattle.sasl_gate.specs.Exchange.{refused_with}
-use Rattle.sasl_gate.specs.Hashes.{digest_of, block_of, output_of}
-use Rattle.sasl_gate.specs.InitClient.{InitClientEnd}
-use Rattle.sasl_gate.specs.InitServer.{InitServerEnd}
-use Rattle.sasl_gate.specs.InitTexts.{anonymous_name, plain_name, plain_of}
-use Rattle.sasl_gate.specs.Profile.{IsAllowedUser, IsAllowedPassword, IsAllowedCount, IsNonce}
-use Rattle.sasl_gate.specs.ServerGate.{ServerEnd}
-use Rattle.sasl_gate.specs.States.{Account}
+use Rattle.sasl_exchange.specs.declared.client.ClientExchange.{ClientExchange}
+use Rattle.sasl_exchange.specs.declared.client.ClientExchange.TheVariants as client
+use Rattle.sasl_exchange.specs.declared.error.NegotiationError.{NegotiationError}
+use Rattle.sasl_exchange.specs.declared.error.NegotiationError.TheVariants.{Memory, ProtocolHeaderMismatch, NotImplemented, SaslError, ScramError, Io, DecodeError, IllegalState, FramingError}
+use Rattle.sasl_exchange.specs.declared.exchange.Exchange.{Ghosts as Mechanism}
+use Rattle.sasl_exchange.specs.declared.exchange.Turn.{Turn}
+use Rattle.sasl_exchange.specs.declared.exchange.Turn.TheVariants.{Receive, Refuse}
+use Rattle.sasl_exchange.specs.declared.init_server.InitCheck.{InitCheck}
+use Rattle.sasl_exchange.specs.declared.init_server.InitCheck.TheVariants as check
+use Rattle.sasl_exchange.specs.declared.server.ServerExchange.{ServerExchange}
+use Rattle.sasl_exchange.specs.declared.server.ServerExchange.TheVariants as server
+use Rattle.sasl_scram.specs.declared.error.ScramErrorKind.{ScramErrorKind}
+use Rattle.sasl_scram.specs.declared.error.ScramErrorKind.TheVariants as scram
+use Rattle.sasl_scram.specs.declared.hash.ScramHash.{ScramHash}
+use Rattle.sasl_scram.specs.declared.stored.StoredPassword.{StoredPassword}
+use Rattle.sasl_exchange.specs.AnyClient.{any_client_holds, any_client_causes, any_client_owes, any_client_turn, any_client_left, any_client_same, any_client_refusal, any_client_same_self, any_client_same_then}
+use Rattle.sasl_exchange.specs.AnyServer.{any_server_holds, any_server_causes, any_server_owes, any_server_turn, any_server_left, any_server_same, any_server_refusal, any_server_same_self, any_server_same_then}
+use Rattle.sasl_scram.specs.Check.{stored_of}
+use Rattle.sasl_exchange.specs.ScramClient.{ClientEnd}
+use Rattle.sasl_exchange.specs.Credentials.{Credentials, credentials_of, mechanism_in}
+use Rattle.sasl_exchange.specs.Credentials as own
+use Rattle.sasl_exchange.specs.Exchange.{refused_with}
+use Rattle.sasl_scram.specs.Hashes.{digest_of, block_of, output_of}
+use Rattle.sasl_exchange.specs.InitClient.{InitClientEnd}
+use Rattle.sasl_exchange.specs.InitServer.{InitServerEnd}
+use Rattle.sasl_exchange.specs.InitTexts.{anonymous_name, plain_name, plain_of}
+use Rattle.sasl_scram.specs.Profile.{IsAllowedUser, IsAllowedPassword, IsAllowedCount, IsNonce}
+use Rattle.sasl_exchange.specs.ScramServer.{ServerEnd}
+use Rattle.sasl_scram.specs.States.{Account}
 use Rattle.amqp_opening.specs.declared.authentication.Authentication.{Authentication}
 use Rattle.amqp_opening.specs.declared.authentication.Authentication.TheVariants.{Idle, Client, Listener}
 use Rattle.amqp_opening.specs.declared.authentication.SaslCall.{SaslCall}

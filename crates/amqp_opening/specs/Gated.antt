@@ -1,17 +1,15 @@
 -- What an end with a SASL layer may have written, by what it wrote and what it read: nothing but the SASL header and SASL
 -- frames before its check holds (OASIS AMQP 1.0, part 5, section 5.3.2).
 use Rattle.std.specs.Prelude.{◌≡◌, ◌⊎◌, ℕ, List, ◌++◌, Option, Some, None}
-use Rattle.sasl_gate.specs.declared.gate.init_server.InitCheck.TheVariants as check
-use Rattle.sasl_gate.specs.declared.scram.hash.ScramHash.{ScramHash}
-use Rattle.sasl_gate.specs.declared.scram.stored.StoredPassword.{StoredPassword}
-use Rattle.sasl_gate.specs.ClientGate.{ClientPassed}
-use Rattle.sasl_gate.specs.Credentials.{Credentials, credentials_of}
-use Rattle.sasl_gate.specs.Credentials as own
-use Rattle.sasl_gate.specs.InitClient.{InitClientPassed}
-use Rattle.sasl_gate.specs.InitServer.{InitServerPassed}
-use Rattle.sasl_gate.specs.InitTexts.{anonymous_name, plain_name, plain_of}
-use Rattle.sasl_gate.specs.ScramBodies.{IsOnlySasl}
-use Rattle.sasl_gate.specs.ServerGate.{ServerPassed}
+use Rattle.sasl_exchange.specs.declared.init_server.InitCheck.TheVariants as check
+use Rattle.sasl_scram.specs.declared.hash.ScramHash.{ScramHash}
+use Rattle.sasl_scram.specs.declared.stored.StoredPassword.{StoredPassword}
+use Rattle.sasl_gate.specs.ClientGate.{ClientPassed, InitClientPassed}
+use Rattle.sasl_exchange.specs.Credentials.{Credentials, credentials_of}
+use Rattle.sasl_exchange.specs.Credentials as own
+use Rattle.sasl_gate.specs.ServerGate.{InitServerPassed, ServerPassed}
+use Rattle.sasl_exchange.specs.InitTexts.{anonymous_name, plain_name, plain_of}
+use Rattle.sasl_gate.specs.Frames.{IsOnlySasl}
 use Rattle.amqp_opening.specs.declared.authentication.SaslCall.{SaslCall}
 use Rattle.amqp_opening.specs.declared.authentication.SaslCall.TheVariants as call
 use Rattle.amqp_opening.specs.Admission.{Admission, admission_of}

@@ -9,13 +9,12 @@ use Rattle.amqp_wire.specs.declared.link.Stop.TheVariants.{Empty, End, Failed as
 use Rattle.amqp_wire.specs.declared.link.Held.TheVariants.{Full}
 use Rattle.amqp_wire.specs.declared.link.IoKind.TheVariants.{Fault, End as InputEnd}
 use Rattle.amqp_wire.specs.Events.{LinkEvent, NotWritten, Went, read_of, wrote_of, reads_in, Includes}
-use Rattle.sasl_gate.specs.declared.gate.error.NegotiationError.{NegotiationError}
-use Rattle.sasl_gate.specs.declared.gate.error.NegotiationError.TheVariants.{Memory, ProtocolHeaderMismatch, NotImplemented, SaslError, ScramError, Io, DecodeError, IllegalState, FramingError}
-use Rattle.sasl_gate.specs.declared.gate.exchange.Exchange.{Ghosts as Mechanism}
-use Rattle.sasl_gate.specs.declared.gate.exchange.Turn.TheVariants.{Pass}
-use Rattle.sasl_gate.specs.Frames.{HasSaslFrame, Heard, said, sasl_header}
+use Rattle.sasl_exchange.specs.declared.error.NegotiationError.{NegotiationError}
+use Rattle.sasl_exchange.specs.declared.error.NegotiationError.TheVariants.{Memory, ProtocolHeaderMismatch, NotImplemented, SaslError, ScramError, Io, DecodeError, IllegalState, FramingError}
+use Rattle.sasl_exchange.specs.declared.exchange.Exchange.{Ghosts as Mechanism}
+use Rattle.sasl_exchange.specs.declared.exchange.Turn.TheVariants.{Pass}
+use Rattle.sasl_gate.specs.Frames.{HasSaslFrame, Heard, said, sasl_header, IsOnlySasl}
 use Rattle.sasl_gate.specs.Negotiation.{Negotiating, LinkCause, IsCaused, IsHeard, IsCauseAfter, IsHeldUp, IsAtRest as IsNegotiationAtRest, Has}
-use Rattle.sasl_gate.specs.ScramBodies.{IsOnlySasl}
 use Rattle.amqp_opening.specs.declared.opening.OpeningPoll.{OpeningPoll}
 use Rattle.amqp_opening.specs.declared.opening.OpeningPoll.TheVariants as poll
 use Rattle.amqp_opening.specs.declared.opening.Stage.{Stage}

@@ -1,8 +1,8 @@
 -- Which exchanges of the SASL layer may be asked for.
 use Rattle.std.specs.Prelude.{◌≤◌, ℕ, List, length, ⊤}
-use Rattle.sasl_gate.specs.declared.gate.profile.SaslProfile.{SaslProfile}
-use Rattle.sasl_gate.specs.Credentials.{credentials_of, HasNonce}
-use Rattle.sasl_gate.specs.Profile.{IsNonce, IsAllowedCount}
+use Rattle.sasl_exchange.specs.declared.profile.SaslProfile.{SaslProfile}
+use Rattle.sasl_exchange.specs.Credentials.{credentials_of, HasNonce}
+use Rattle.sasl_scram.specs.Profile.{IsNonce, IsAllowedCount}
 use Rattle.amqp_opening.specs.declared.acceptor.AcceptSasl.{AcceptSasl}
 use Rattle.amqp_opening.specs.declared.authentication.SaslCall.{SaslCall}
 use Rattle.amqp_opening.specs.declared.authentication.SaslCall.TheVariants as call

@@ -4,11 +4,11 @@ ghost use Rattle.amqp_opening.specs.Admission.{scram, admission_of, admission_in
 
 use amqp_text::{Binary, Text};
 use sasl_gate::ScramHash;
-use sasl_gate::scram::hash::ScramHash::{Sha1, Sha256, Sha512};
+use sasl_scram::hash::ScramHash::{Sha1, Sha256, Sha512};
 use std::alloc::{AllocError, Global};
 
 /// Whom a listener lets in: anyone, or one user.
-#[derive(Debug, Drop)]
+#[derive(Debug)]
 pub enum AcceptSasl {
     /// ANONYMOUS (RFC 4505): anyone.
     Anonymous,
@@ -58,6 +58,45 @@ pub enum AcceptSasl {
         /// The listener's nonce: 1 or more characters from 0x21 to 0x7e other than the comma, new for each exchange.
         nonce: Text,
     },
+}
+
+// It is let go by a call, so that no caller sees its parts.
+impl Drop for AcceptSasl {
+    fn drop(self) {
+        match self {
+            AcceptSasl::Anonymous => {}
+            AcceptSasl::Plain { username, password } => {
+                drop(username);
+                drop(password);
+            }
+            AcceptSasl::ScramSha1 {
+                username,
+                password,
+                salt,
+                iterations: _,
+                nonce,
+            }
+            | AcceptSasl::ScramSha256 {
+                username,
+                password,
+                salt,
+                iterations: _,
+                nonce,
+            }
+            | AcceptSasl::ScramSha512 {
+                username,
+                password,
+                salt,
+                iterations: _,
+                nonce,
+            } => {
+                drop(username);
+                drop(password);
+                drop(salt);
+                drop(nonce);
+            }
+        }
+    }
 }
 
 /// The parts of an `AcceptSasl`, whatever its hash function.

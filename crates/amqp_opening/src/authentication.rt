@@ -1,11 +1,11 @@
 //! The SASL exchange of an end: a client's, or a listener's with one user (OASIS AMQP 1.0, part 5, section 5.3).
 ghost use Rattle.std.specs.Prelude.{◌≡◌, ◌≤◌, List, [], Some, None, length, IfOk, IfErr, OnOk};
 ghost use Rattle.base64.specs.GeneralPurpose.{IsBytes};
-ghost use Rattle.sasl_gate.specs.AnyServer.{any_server_holds};
-ghost use Rattle.sasl_gate.specs.Check.{stored_of};
-ghost use Rattle.sasl_gate.specs.Hashes.{digest_of, block_of, output_of};
-ghost use Rattle.sasl_gate.specs.Profile.{IsAllowedPassword, IsAllowedCount};
-ghost use Rattle.sasl_gate.specs.Refusals.{IsTextRefusal};
+ghost use Rattle.sasl_exchange.specs.AnyServer.{any_server_holds};
+ghost use Rattle.sasl_scram.specs.Check.{stored_of};
+ghost use Rattle.sasl_scram.specs.Hashes.{digest_of, block_of, output_of};
+ghost use Rattle.sasl_scram.specs.Profile.{IsAllowedPassword, IsAllowedCount};
+ghost use Rattle.sasl_scram.specs.Refusals.{IsTextRefusal};
 ghost use Rattle.amqp_opening.specs.Admission.{plain, scram, admission_of, account_by};
 ghost use Rattle.amqp_opening.specs.Authentication.{passwords_for, stored_for, holds_by, causes_by, owes_by, turn_by, left_by, same_by, peer_refusal, peer_same_self, peer_same_then, IsAllowedAccount, IsListenerMade, MadeFor, IsAccountRefusal, IsCallRefusal, IsErrorOf};
 ghost use Rattle.amqp_opening.specs.Permission.{IsAllowedAccept, IsAllowedProfile, IsAllowedSasl, IsAllowedSaslCall};
@@ -13,7 +13,7 @@ ghost use Rattle.amqp_opening.specs.Permission.{IsAllowedAccept, IsAllowedProfil
 use crate::acceptor::{AcceptSasl, Accepting};
 use amqp_sasl_bodies::sasl_body::SaslBody;
 use amqp_text::{Binary, Text};
-use sasl_gate::gate::exchange::{Exchange, Turn, Verdict};
+use sasl_exchange::exchange::{Exchange, Turn, Verdict};
 use sasl_gate::{
     ClientExchange, InitCheck, InitServer, NegotiationError, OneUser, SaslProfile, ScramErrorKind,
     ScramHash, ScramServerExchange, ServerExchange, StoredPassword,
@@ -35,7 +35,6 @@ pub enum SaslCall {
 }
 
 /// The exchange of an end.
-#[derive(Drop)]
 pub enum Authentication {
     /// No call was made.
     Idle,
@@ -43,6 +42,17 @@ pub enum Authentication {
     Client(ClientExchange),
     /// A listener's.
     Listener(ServerExchange<OneUser, OneUser>),
+}
+
+// An exchange is let go by a call, so that no caller sees what a mechanism keeps.
+impl Drop for Authentication {
+    fn drop(self) {
+        match self {
+            Authentication::Idle => {}
+            Authentication::Client(exchange) => drop(exchange),
+            Authentication::Listener(exchange) => drop(exchange),
+        }
+    }
 }
 
 impl Exchange for Authentication {

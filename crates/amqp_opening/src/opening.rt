@@ -11,8 +11,8 @@ ghost use Rattle.amqp_opening.specs.Opening.{Opened, Ran, amqp_header, begun, be
 use amqp_wire::codec::{FramedCodec, MIN_MAX_FRAME_SIZE};
 use amqp_wire::link::{Held, IoKind, Link, Stop};
 use amqp_wire::reading::{Wait, read_header};
+use sasl_exchange::exchange::Exchange;
 use sasl_gate::NegotiationError;
-use sasl_gate::gate::exchange::Exchange;
 use sasl_gate::gate::negotiation::{GatePoll, Negotiation};
 use std::alloc::{AllocError, Global};
 use std::marker::Model;
@@ -48,11 +48,22 @@ pub enum OpeningPoll {
 }
 
 /// The opening of a connection over a link.
-#[derive(Drop)]
 pub struct Opening<L: Link, X: Exchange> {
     negotiation: Negotiation<L, X>,
     stage: Stage,
     has_sasl: bool,
+}
+
+// An opening is let go by a call, so that no caller sees what it holds.
+impl<L: Link, X: Exchange> Drop for Opening<L, X> {
+    fn drop(self) {
+        let Opening {
+            negotiation,
+            stage: _,
+            has_sasl: _,
+        } = self;
+        drop(negotiation);
+    }
 }
 
 impl<L: Link, X: Exchange> Model for Opening<L, X> {
@@ -125,7 +136,12 @@ impl<L: Link, X: Exchange> Opening<L, X> {
     pub fn into_codec(self) -> FramedCodec<L>
         ensures { result ≡ self.negotiation.codec }
     {
-        self.negotiation.into_framed_codec()
+        let Opening {
+            negotiation,
+            stage: _,
+            has_sasl: _,
+        } = self;
+        negotiation.into_framed_codec()
     }
 
     /// Begins with an exchange: the SASL header is queued. The one error is want of memory, which

@@ -1,13 +1,13 @@
 //! Which exchanges of the SASL layer may be asked for.
 ghost use Rattle.std.specs.Prelude.{◌↔◌, IsTrue};
-ghost use Rattle.sasl_gate.specs.Profile.{IsAllowedCount};
+ghost use Rattle.sasl_scram.specs.Profile.{IsAllowedCount};
 ghost use Rattle.amqp_opening.specs.Permission.{IsAllowedAccept, IsAllowedProfile, IsAllowedSasl, IsAllowedSaslCall};
 
 use crate::acceptor::{AcceptSasl, Accepting};
 use crate::authentication::SaslCall;
 use amqp_text::{Binary, Text};
 use sasl_gate::SaslProfile;
-use sasl_gate::scram::profile::is_nonce;
+use sasl_scram::profile::is_nonce;
 
 fn is_allowed_count(count: u32) -> bool
     ensures { IsTrue result ↔ IsAllowedCount count }

@@ -3,8 +3,8 @@ use Rattle.std.proofs.Common.{◌≡◌, ◌≢◌, ℕ, Bool, true, false, List
 use Rattle.std.proofs.lemmas.Option.{same_Some}
 use Rattle.std.proofs.lemmas.Slice.Eq.{bytes_eq-Decides}
 use Rattle.amqp_opening.specs.Authentication.{passwords_for, stored_for}
-use Rattle.sasl_gate.specs.declared.scram.stored.StoredPassword.{StoredPassword}
-use Rattle.sasl_gate.specs.States.{Account}
+use Rattle.sasl_scram.specs.declared.stored.StoredPassword.{StoredPassword}
+use Rattle.sasl_scram.specs.States.{Account}
 
 found_by : (b : Bool) (stored : Option StoredPassword) (keys : StoredPassword) → (if b then stored else None) ≡ Some keys → (b ≡ true) × (stored ≡ Some keys)
 found_by true stored keys e = (refl, e)

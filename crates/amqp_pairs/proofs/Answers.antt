@@ -4,17 +4,17 @@ use Rattle.base64.specs.Engines.{standard}
 use Rattle.base64.specs.GeneralPurpose.{IsBytes, encode_of}
 use Rattle.amqp_opening.specs.Authentication.{stored_for}
 use Rattle.kdf_core.specs.Hmac.{hmac_of}
-use Rattle.sasl_gate.specs.declared.scram.error.ScramErrorKind.{ScramErrorKind}
-use Rattle.sasl_gate.specs.declared.scram.error.ScramErrorKind.TheVariants.{Signature}
-use Rattle.sasl_gate.specs.declared.scram.stored.StoredPassword.{StoredPassword}
-use Rattle.sasl_gate.specs.Check.{stored_of, ClientAnswers, ServerAnswers, ServerCheck}
-use Rattle.sasl_gate.specs.declared.scram.hash.ScramHash.{ScramHash}
-use Rattle.sasl_gate.specs.Hashes.{digest_of, block_of, output_of}
-use Rattle.sasl_gate.specs.Keys.{salted_of, stored_key_of, server_key_of, proof_of, ProofHolds}
-use Rattle.sasl_gate.specs.Profile.{IsAllowedCount, IsNonce}
-use Rattle.sasl_gate.specs.Refusals.{IsMemory, IsClientFinalRefusal, IsServerFinalRefusal}
-use Rattle.sasl_gate.specs.States.{Account}
-use Rattle.sasl_gate.specs.Texts.{escaped_of, auth_of, client_first_of, client_first_bare_of, server_first_of, client_final_of, client_final_bare_of, server_final_of, IsClientFirst, IsServerFirst, IsClientFinal}
+use Rattle.sasl_scram.specs.declared.error.ScramErrorKind.{ScramErrorKind}
+use Rattle.sasl_scram.specs.declared.error.ScramErrorKind.TheVariants.{Signature}
+use Rattle.sasl_scram.specs.declared.stored.StoredPassword.{StoredPassword}
+use Rattle.sasl_scram.specs.Check.{stored_of, ClientAnswers, ServerAnswers, ServerCheck}
+use Rattle.sasl_scram.specs.declared.hash.ScramHash.{ScramHash}
+use Rattle.sasl_scram.specs.Hashes.{digest_of, block_of, output_of}
+use Rattle.sasl_scram.specs.Keys.{salted_of, stored_key_of, server_key_of, proof_of, ProofHolds}
+use Rattle.sasl_scram.specs.Profile.{IsAllowedCount, IsNonce}
+use Rattle.sasl_scram.specs.Refusals.{IsMemory, IsClientFinalRefusal, IsServerFinalRefusal}
+use Rattle.sasl_scram.specs.States.{Account}
+use Rattle.sasl_scram.specs.Texts.{escaped_of, auth_of, client_first_of, client_first_bare_of, server_first_of, client_final_of, client_final_bare_of, server_final_of, IsClientFirst, IsServerFirst, IsClientFinal}
 use Rattle.amqp_pairs.proofs.Accounts.{found}
 use Rattle.amqp_pairs.proofs.Keys.{hmac_bytes, length-hmac, proof_bytes, length-proof, proof_holds}
 use Rattle.amqp_pairs.proofs.Readings.{joined_nonce, client_first_reads, client_first_once, server_first_reads, server_first_once, client_final_reads, client_final_whole}

@@ -2,16 +2,16 @@
 use Rattle.std.proofs.Common.{◌≡◌, ◌≢◌, ℕ, List, [], ◌++◌, sym}
 use Rattle.amqp_sasl_bodies.specs.declared.sasl_body.SaslBody.{SaslBody}
 use Rattle.amqp_opening.specs.Authentication.{passwords_for, stored_for}
-use Rattle.sasl_gate.specs.declared.gate.client.ClientExchange.{ClientExchange}
-use Rattle.sasl_gate.specs.declared.gate.exchange.Turn.TheVariants.{Send, Pass}
-use Rattle.sasl_gate.specs.AnyClient.{any_client_holds, any_client_turn}
-use Rattle.sasl_gate.specs.AnyServer.{any_server_holds, any_server_turn}
-use Rattle.sasl_gate.specs.ClientGate.{ClientEnd}
-use Rattle.sasl_gate.specs.Credentials.{Credentials}
-use Rattle.sasl_gate.specs.InitClient.{InitClientEnd}
-use Rattle.sasl_gate.specs.InitServer.{InitServerEnd}
-use Rattle.sasl_gate.specs.ServerGate.{ServerEnd}
-use Rattle.sasl_gate.specs.States.{Account}
+use Rattle.sasl_exchange.specs.declared.client.ClientExchange.{ClientExchange}
+use Rattle.sasl_exchange.specs.declared.exchange.Turn.TheVariants.{Send, Pass}
+use Rattle.sasl_exchange.specs.AnyClient.{any_client_holds, any_client_turn}
+use Rattle.sasl_exchange.specs.AnyServer.{any_server_holds, any_server_turn}
+use Rattle.sasl_exchange.specs.ScramClient.{ClientEnd}
+use Rattle.sasl_exchange.specs.Credentials.{Credentials}
+use Rattle.sasl_exchange.specs.InitClient.{InitClientEnd}
+use Rattle.sasl_exchange.specs.InitServer.{InitServerEnd}
+use Rattle.sasl_exchange.specs.ScramServer.{ServerEnd}
+use Rattle.sasl_scram.specs.States.{Account}
 use Rattle.amqp_pairs.specs.InitEnds.{AreInitEnds, AreInitJoined}
 use Rattle.amqp_pairs.specs.Joined.{AreEnds, AreJoined}
 use Rattle.amqp_pairs.specs.Mechanisms.{Listening}

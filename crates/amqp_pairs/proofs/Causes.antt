@@ -4,17 +4,17 @@ use Rattle.amqp_sasl_bodies.specs.declared.sasl_body.SaslBody.{SaslBody}
 use Rattle.amqp_sasl_bodies.specs.declared.sasl_code.SaslCode.{SaslCode}
 use Rattle.amqp_sasl_bodies.specs.declared.sasl_code.SaslCode.TheVariants as sasl
 use Rattle.amqp_opening.specs.Authentication.{stored_for}
-use Rattle.sasl_gate.specs.declared.scram.error.ScramErrorKind.{ScramErrorKind}
-use Rattle.sasl_gate.specs.declared.scram.stored.StoredPassword.{StoredPassword}
-use Rattle.sasl_gate.specs.declared.scram.hash.ScramHash.{ScramHash}
-use Rattle.sasl_gate.specs.Check.{stored_of, ClientAnswers, ServerAnswers}
-use Rattle.sasl_gate.specs.ClientGate.{ClientEnd, client_init}
-use Rattle.sasl_gate.specs.Hashes.{digest_of, block_of, output_of, mechanism_of}
-use Rattle.sasl_gate.specs.Refusals.{IsMemory, IsClientFirstRefusal, IsClientFinalRefusal}
-use Rattle.sasl_gate.specs.ScramBodies.{challenge_body, init_body, response_body}
-use Rattle.sasl_gate.specs.ServerGate.{ServerEnd, IsRefusalCause, by_client_first, by_client_final, by_mechanism, by_no_response, by_order, by_other_body, is_next, is_of_client, own_mechanisms}
-use Rattle.sasl_gate.specs.States.{Account}
-use Rattle.sasl_gate.specs.Texts.{client_first_of}
+use Rattle.sasl_scram.specs.declared.error.ScramErrorKind.{ScramErrorKind}
+use Rattle.sasl_scram.specs.declared.stored.StoredPassword.{StoredPassword}
+use Rattle.sasl_scram.specs.declared.hash.ScramHash.{ScramHash}
+use Rattle.sasl_scram.specs.Check.{stored_of, ClientAnswers, ServerAnswers}
+use Rattle.sasl_exchange.specs.ScramClient.{ClientEnd, client_init}
+use Rattle.sasl_scram.specs.Hashes.{digest_of, block_of, output_of, mechanism_of}
+use Rattle.sasl_scram.specs.Refusals.{IsMemory, IsClientFirstRefusal, IsClientFinalRefusal}
+use Rattle.sasl_exchange.specs.ScramBodies.{challenge_body, init_body, response_body}
+use Rattle.sasl_exchange.specs.ScramServer.{ServerEnd, IsRefusalCause, by_client_first, by_client_final, by_mechanism, by_no_response, by_order, by_other_body, is_next, is_of_client, own_mechanisms}
+use Rattle.sasl_scram.specs.States.{Account}
+use Rattle.sasl_scram.specs.Texts.{client_first_of}
 use Rattle.amqp_pairs.specs.Joined.{AreJoined, IsOtherAccount}
 use Rattle.amqp_pairs.proofs.Accounts.{missing}
 use Rattle.amqp_pairs.proofs.Answers.{IsAnswerTo, answer_to, client_answer, other_password}

@@ -5,20 +5,20 @@ use Rattle.amqp_sasl_bodies.specs.declared.sasl_body.SaslBody.{SaslBody}
 use Rattle.amqp_sasl_bodies.specs.declared.sasl_code.SaslCode.{SaslCode}
 use Rattle.amqp_sasl_bodies.specs.declared.sasl_code.SaslCode.TheVariants as sasl
 use Rattle.amqp_opening.specs.Authentication.{stored_for}
-use Rattle.sasl_gate.specs.declared.gate.error.NegotiationError.{NegotiationError}
-use Rattle.sasl_gate.specs.declared.gate.error.NegotiationError.TheVariants.{Memory, ProtocolHeaderMismatch, NotImplemented, SaslError, ScramError, Io, DecodeError, IllegalState, FramingError}
-use Rattle.sasl_gate.specs.declared.gate.exchange.Turn.TheVariants.{Refuse}
-use Rattle.sasl_gate.specs.declared.scram.error.ScramErrorKind.{ScramErrorKind}
-use Rattle.sasl_gate.specs.declared.scram.error.ScramErrorKind.TheVariants as scram
-use Rattle.sasl_gate.specs.declared.scram.stored.StoredPassword.{StoredPassword}
-use Rattle.sasl_gate.specs.declared.scram.hash.ScramHash.{ScramHash}
-use Rattle.sasl_gate.specs.Check.{ClientAnswers, ServerCheck}
-use Rattle.sasl_gate.specs.ClientGate.{ClientEnd, IsDisorder, IsScramCause, by_challenge, by_final, by_no_signature, client_causes, client_init, is_next}
-use Rattle.sasl_gate.specs.Hashes.{digest_of, block_of, output_of, mechanism_of}
-use Rattle.sasl_gate.specs.Refusals.{IsMemory, IsServerFirstRefusal, IsServerFinalRefusal}
-use Rattle.sasl_gate.specs.ScramBodies.{challenge_body, init_body, mechanisms_body, outcome_body, response_body}
-use Rattle.sasl_gate.specs.ServerGate.{ServerEnd, IsRefusalCause, server_turn}
-use Rattle.sasl_gate.specs.States.{Account}
+use Rattle.sasl_exchange.specs.declared.error.NegotiationError.{NegotiationError}
+use Rattle.sasl_exchange.specs.declared.error.NegotiationError.TheVariants.{Memory, ProtocolHeaderMismatch, NotImplemented, SaslError, ScramError, Io, DecodeError, IllegalState, FramingError}
+use Rattle.sasl_exchange.specs.declared.exchange.Turn.TheVariants.{Refuse}
+use Rattle.sasl_scram.specs.declared.error.ScramErrorKind.{ScramErrorKind}
+use Rattle.sasl_scram.specs.declared.error.ScramErrorKind.TheVariants as scram
+use Rattle.sasl_scram.specs.declared.stored.StoredPassword.{StoredPassword}
+use Rattle.sasl_scram.specs.declared.hash.ScramHash.{ScramHash}
+use Rattle.sasl_scram.specs.Check.{ClientAnswers, ServerCheck}
+use Rattle.sasl_exchange.specs.ScramClient.{ClientEnd, IsDisorder, IsScramCause, by_challenge, by_final, by_no_signature, client_causes, client_init, is_next}
+use Rattle.sasl_scram.specs.Hashes.{digest_of, block_of, output_of, mechanism_of}
+use Rattle.sasl_scram.specs.Refusals.{IsMemory, IsServerFirstRefusal, IsServerFinalRefusal}
+use Rattle.sasl_exchange.specs.ScramBodies.{challenge_body, init_body, mechanisms_body, outcome_body, response_body}
+use Rattle.sasl_exchange.specs.ScramServer.{ServerEnd, IsRefusalCause, server_turn}
+use Rattle.sasl_scram.specs.States.{Account}
 use Rattle.amqp_pairs.specs.Errors.{IsCollided, IsTold, MayRefuse}
 use Rattle.amqp_pairs.specs.Joined.{AreJoined}
 use Rattle.amqp_pairs.proofs.Answers.{client_answer, other_signature, signature_told}

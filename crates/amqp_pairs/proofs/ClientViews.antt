@@ -4,17 +4,17 @@ use Rattle.amqp_sasl_bodies.specs.declared.sasl_body.SaslBody.{SaslBody}
 use Rattle.amqp_sasl_bodies.specs.declared.sasl_code.SaslCode.TheVariants as sasl
 use Rattle.base64.specs.Engines.{standard}
 use Rattle.base64.specs.GeneralPurpose.{encode_of}
-use Rattle.sasl_gate.specs.declared.gate.scram_client.ClientStage.{ClientStage}
-use Rattle.sasl_gate.specs.declared.gate.scram_client.ClientStage.TheVariants.{AwaitsMechanisms, OwesInit, AwaitsChallenge, OwesResponse, AwaitsOutcome, OwesEmptyResponse, AwaitsEnd, Passed}
-use Rattle.sasl_gate.specs.declared.gate.exchange.Turn.TheVariants.{Send, Receive, Pass}
-use Rattle.sasl_gate.specs.declared.scram.client.ClientPhase.{ClientPhase}
-use Rattle.sasl_gate.specs.declared.scram.client.ClientPhase.TheVariants.{Unanswered, Answered, Verified}
-use Rattle.sasl_gate.specs.Check.{ClientAnswers}
-use Rattle.sasl_gate.specs.ClientGate.{ClientEnd, HasAnswer, HasPassed, IsFinal, in_challenge, in_outcome, client_init, holds_in, turn_in}
-use Rattle.sasl_gate.specs.Hashes.{digest_of, block_of, output_of}
-use Rattle.sasl_gate.specs.ScramBodies.{challenge_body, mechanisms_body, outcome_body, response_body}
-use Rattle.sasl_gate.specs.States.{ForAnswered}
-use Rattle.sasl_gate.specs.Texts.{IsServerFinal}
+use Rattle.sasl_exchange.specs.declared.scram_client.ClientStage.{ClientStage}
+use Rattle.sasl_exchange.specs.declared.scram_client.ClientStage.TheVariants.{AwaitsMechanisms, OwesInit, AwaitsChallenge, OwesResponse, AwaitsOutcome, OwesEmptyResponse, AwaitsEnd, Passed}
+use Rattle.sasl_exchange.specs.declared.exchange.Turn.TheVariants.{Send, Receive, Pass}
+use Rattle.sasl_scram.specs.declared.client.ClientPhase.{ClientPhase}
+use Rattle.sasl_scram.specs.declared.client.ClientPhase.TheVariants.{Unanswered, Answered, Verified}
+use Rattle.sasl_scram.specs.Check.{ClientAnswers}
+use Rattle.sasl_exchange.specs.ScramClient.{ClientEnd, HasAnswer, HasPassed, IsFinal, in_challenge, in_outcome, client_init, holds_in, turn_in}
+use Rattle.sasl_scram.specs.Hashes.{digest_of, block_of, output_of}
+use Rattle.sasl_exchange.specs.ScramBodies.{challenge_body, mechanisms_body, outcome_body, response_body}
+use Rattle.sasl_scram.specs.States.{ForAnswered}
+use Rattle.sasl_scram.specs.Texts.{IsServerFinal}
 use Rattle.amqp_pairs.proofs.Bodies.{OneChallenge}
 
 -- an answer to a server first

@@ -2,9 +2,9 @@
 use Rattle.std.proofs.Common.{◌≡◌, ◌⊎◌, inl, inr, ℕ, List, [], ◌∷◌, ◌++◌, ap, sym, ◌∙◌, subst, append_assoc}
 use Rattle.amqp_sasl_bodies.specs.declared.sasl_body.SaslBody.{SaslBody}
 use Rattle.amqp_wire.specs.Events.{LinkEvent, read_of}
-use Rattle.sasl_gate.specs.declared.gate.error.NegotiationError.{NegotiationError}
-use Rattle.sasl_gate.specs.declared.gate.exchange.Turn.{Turn}
-use Rattle.sasl_gate.specs.declared.gate.exchange.Turn.TheVariants.{Receive}
+use Rattle.sasl_exchange.specs.declared.error.NegotiationError.{NegotiationError}
+use Rattle.sasl_exchange.specs.declared.exchange.Turn.{Turn}
+use Rattle.sasl_exchange.specs.declared.exchange.Turn.TheVariants.{Receive}
 use Rattle.sasl_gate.specs.Frames.{Heard}
 use Rattle.sasl_gate.specs.Negotiation.{FrameCause, HeaderCause, IsCaused, IsCauseAfter, IsHeard, at_link, at_header, at_frame, by_body, too_long}
 use Rattle.amqp_pairs.specs.Failures.{FailsBy, IsByMechanism, IsOwnCause}

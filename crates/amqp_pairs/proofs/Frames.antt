@@ -8,8 +8,8 @@ use Rattle.amqp_sasl_bodies.specs.SaslBytes.{SpellsSasl}
 use Rattle.amqp_wire.specs.Frame.{IsBadOffset, IsRefusedSize, IsWhole}
 use Rattle.amqp_wire.specs.Size.{size_of, start_of}
 use Rattle.amqp_wire.proofs.Cuts.{size_of-append}
-use Rattle.sasl_gate.specs.declared.gate.error.NegotiationError.{NegotiationError}
-use Rattle.sasl_gate.specs.declared.gate.error.NegotiationError.TheVariants.{Memory, ProtocolHeaderMismatch, NotImplemented, SaslError, ScramError, Io, DecodeError, IllegalState, FramingError}
+use Rattle.sasl_exchange.specs.declared.error.NegotiationError.{NegotiationError}
+use Rattle.sasl_exchange.specs.declared.error.NegotiationError.TheVariants.{Memory, ProtocolHeaderMismatch, NotImplemented, SaslError, ScramError, Io, DecodeError, IllegalState, FramingError}
 use Rattle.sasl_gate.specs.Frames.{HasSaslFrame, IsSaslFrame, sasl_frame, sasl_header}
 use Rattle.sasl_gate.specs.Negotiation.{FrameCause, HeaderCause, IsUndecodable}
 use Rattle.amqp_pairs.specs.Streams.{IsRead, IsSaid}

@@ -4,16 +4,16 @@ use Rattle.amqp_sasl_bodies.specs.declared.sasl_body.SaslBody.{SaslBody}
 use Rattle.amqp_sasl_bodies.specs.declared.sasl_code.SaslCode.TheVariants as sasl
 use Rattle.amqp_opening.specs.Authentication.{passwords_for}
 use Rattle.amqp_wire.specs.Events.{LinkEvent, read_of}
-use Rattle.sasl_gate.specs.declared.gate.client.ClientExchange.TheVariants as client
-use Rattle.sasl_gate.specs.declared.gate.error.NegotiationError.{NegotiationError}
-use Rattle.sasl_gate.specs.declared.gate.exchange.Turn.TheVariants.{Receive}
-use Rattle.sasl_gate.specs.declared.gate.server.ServerExchange.TheVariants as server
-use Rattle.sasl_gate.specs.Credentials.{Credentials}
-use Rattle.sasl_gate.specs.Exchange.{refused_with}
-use Rattle.sasl_gate.specs.InitClient.{InitClientEnd, init_client_causes, init_client_owes, init_client_turn}
-use Rattle.sasl_gate.specs.InitServer.{InitServerEnd, init_server_causes, init_server_owes, init_server_turn}
+use Rattle.sasl_exchange.specs.declared.client.ClientExchange.TheVariants as client
+use Rattle.sasl_exchange.specs.declared.error.NegotiationError.{NegotiationError}
+use Rattle.sasl_exchange.specs.declared.exchange.Turn.TheVariants.{Receive}
+use Rattle.sasl_exchange.specs.declared.server.ServerExchange.TheVariants as server
+use Rattle.sasl_exchange.specs.Credentials.{Credentials}
+use Rattle.sasl_exchange.specs.Exchange.{refused_with}
+use Rattle.sasl_exchange.specs.InitClient.{InitClientEnd, init_client_causes, init_client_owes, init_client_turn}
+use Rattle.sasl_exchange.specs.InitServer.{InitServerEnd, init_server_causes, init_server_owes, init_server_turn}
 use Rattle.sasl_gate.specs.Negotiation.{IsCaused, IsCauseAfter, IsHeard}
-use Rattle.sasl_gate.specs.States.{Account}
+use Rattle.sasl_scram.specs.States.{Account}
 use Rattle.amqp_pairs.specs.Failures.{FailsBy, IsFollowed, IsOwnCause}
 use Rattle.amqp_pairs.specs.InitEnds.{AreInitEnds, AreInitJoined, HasOtherAccount, HasSameAccount, MayRefuseInit}
 use Rattle.amqp_pairs.specs.Streams.{IsSaid}

@@ -2,14 +2,14 @@
 use Rattle.std.proofs.Common.{ℕ, List, [], ◌∷◌, ◌++◌, Option, Some, None, refl, ap, sym, ◌∙◌}
 use Rattle.amqp_sasl_bodies.specs.declared.sasl_body.SaslBody.{SaslBody}
 use Rattle.amqp_opening.specs.Authentication.{passwords_for}
-use Rattle.sasl_gate.specs.declared.gate.init_server.InitCheck.{InitCheck}
-use Rattle.sasl_gate.specs.declared.gate.init_server.InitCheck.TheVariants as init_check
-use Rattle.sasl_gate.specs.Credentials.{Credentials, anonymous, plain, scram}
-use Rattle.sasl_gate.specs.InitClient.{InitClientEnd, InitClientSame, init_client_begun, init_client_holds}
-use Rattle.sasl_gate.specs.InitServer.{InitServerEnd, InitServerSame, check_name, init_server_begun, init_server_holds}
-use Rattle.sasl_gate.specs.InitTexts.{anonymous_name, plain_name, plain_of}
-use Rattle.sasl_gate.specs.Profile.{IsAllowedUser, IsAllowedPassword}
-use Rattle.sasl_gate.specs.States.{Account}
+use Rattle.sasl_exchange.specs.declared.init_server.InitCheck.{InitCheck}
+use Rattle.sasl_exchange.specs.declared.init_server.InitCheck.TheVariants as init_check
+use Rattle.sasl_exchange.specs.Credentials.{Credentials, anonymous, plain, scram}
+use Rattle.sasl_exchange.specs.InitClient.{InitClientEnd, InitClientSame, init_client_begun, init_client_holds}
+use Rattle.sasl_exchange.specs.InitServer.{InitServerEnd, InitServerSame, check_name, init_server_begun, init_server_holds}
+use Rattle.sasl_exchange.specs.InitTexts.{anonymous_name, plain_name, plain_of}
+use Rattle.sasl_scram.specs.Profile.{IsAllowedUser, IsAllowedPassword}
+use Rattle.sasl_scram.specs.States.{Account}
 use Rattle.amqp_pairs.specs.InitEnds.{AreInitJoined, SaysIn}
 use Rattle.amqp_pairs.proofs.Joining.{given_next, sent_behind}
 

@@ -5,21 +5,21 @@ use Rattle.amqp_sasl_bodies.specs.declared.sasl_body.SaslBody.{SaslBody}
 use Rattle.amqp_sasl_bodies.specs.declared.sasl_code.SaslCode.{SaslCode}
 use Rattle.amqp_sasl_bodies.specs.declared.sasl_code.SaslCode.TheVariants as sasl
 use Rattle.amqp_opening.specs.Authentication.{passwords_for}
-use Rattle.sasl_gate.specs.declared.gate.client.ClientExchange.TheVariants as client
-use Rattle.sasl_gate.specs.declared.gate.error.NegotiationError.{NegotiationError}
-use Rattle.sasl_gate.specs.declared.gate.error.NegotiationError.TheVariants.{Memory, ProtocolHeaderMismatch, NotImplemented, SaslError, ScramError, Io, DecodeError, IllegalState, FramingError}
-use Rattle.sasl_gate.specs.declared.gate.exchange.Turn.TheVariants.{Send, Receive, Refuse, Pass}
-use Rattle.sasl_gate.specs.declared.gate.init_client.InitClientStage.{InitClientStage}
-use Rattle.sasl_gate.specs.declared.gate.init_server.InitCheck.{InitCheck}
-use Rattle.sasl_gate.specs.declared.gate.init_server.InitServerStage.{InitServerStage}
-use Rattle.sasl_gate.specs.declared.gate.init_server.InitServerStage.TheVariants.{OwesMechanisms, AwaitsInit, OwesOutcome, Told}
-use Rattle.sasl_gate.specs.declared.gate.server.ServerExchange.TheVariants as server
-use Rattle.sasl_gate.specs.Credentials.{Credentials}
-use Rattle.sasl_gate.specs.Exchange.{refused_with}
-use Rattle.sasl_gate.specs.InitClient.{InitClientEnd, init_client_causes, init_client_turn, is_next, own_init}
-use Rattle.sasl_gate.specs.InitServer.{InitServerEnd, IsJudged, IsPassing, check_mechanisms, check_name, holds_in, init_server_turn, told_turn, turn_in}
-use Rattle.sasl_gate.specs.ScramBodies.{mechanisms_body, outcome_body}
-use Rattle.sasl_gate.specs.States.{Account}
+use Rattle.sasl_exchange.specs.declared.client.ClientExchange.TheVariants as client
+use Rattle.sasl_exchange.specs.declared.error.NegotiationError.{NegotiationError}
+use Rattle.sasl_exchange.specs.declared.error.NegotiationError.TheVariants.{Memory, ProtocolHeaderMismatch, NotImplemented, SaslError, ScramError, Io, DecodeError, IllegalState, FramingError}
+use Rattle.sasl_exchange.specs.declared.exchange.Turn.TheVariants.{Send, Receive, Refuse, Pass}
+use Rattle.sasl_exchange.specs.declared.init_client.InitClientStage.{InitClientStage}
+use Rattle.sasl_exchange.specs.declared.init_server.InitCheck.{InitCheck}
+use Rattle.sasl_exchange.specs.declared.init_server.InitServerStage.{InitServerStage}
+use Rattle.sasl_exchange.specs.declared.init_server.InitServerStage.TheVariants.{OwesMechanisms, AwaitsInit, OwesOutcome, Told}
+use Rattle.sasl_exchange.specs.declared.server.ServerExchange.TheVariants as server
+use Rattle.sasl_exchange.specs.Credentials.{Credentials}
+use Rattle.sasl_exchange.specs.Exchange.{refused_with}
+use Rattle.sasl_exchange.specs.InitClient.{InitClientEnd, init_client_causes, init_client_turn, is_next, own_init}
+use Rattle.sasl_exchange.specs.InitServer.{InitServerEnd, IsJudged, IsPassing, check_mechanisms, check_name, holds_in, init_server_turn, told_turn, turn_in}
+use Rattle.sasl_exchange.specs.ScramBodies.{mechanisms_body, outcome_body}
+use Rattle.sasl_scram.specs.States.{Account}
 use Rattle.amqp_pairs.specs.InitEnds.{AreInitJoined, HasOtherAccount, HasSameAccount, IsInitTold, IsRefusingWith, MayRefuseInit}
 use Rattle.amqp_pairs.proofs.Bodies.{code_in, in_none, in_some, last_in_flight, last_of_one, last_of_two, last_once, list_not_outcome, names_in, none_in_flight, payload_in}
 use Rattle.amqp_pairs.proofs.Inits.{init_apart, refused_other, same_code, same_passes}

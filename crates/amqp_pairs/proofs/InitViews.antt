@@ -4,16 +4,16 @@ use Rattle.amqp_sasl_bodies.specs.declared.sasl_body.SaslBody.{SaslBody}
 use Rattle.amqp_sasl_bodies.specs.declared.sasl_code.SaslCode.{SaslCode}
 use Rattle.amqp_sasl_bodies.specs.declared.sasl_code.SaslCode.TheVariants as sasl
 use Rattle.amqp_opening.specs.Authentication.{passwords_for}
-use Rattle.sasl_gate.specs.declared.gate.exchange.Turn.TheVariants.{Send, Receive, Pass}
-use Rattle.sasl_gate.specs.declared.gate.init_client.InitClientStage.{InitClientStage}
-use Rattle.sasl_gate.specs.declared.gate.init_client.InitClientStage.TheVariants.{AwaitsMechanisms, OwesInit, AwaitsOutcome, Passed}
-use Rattle.sasl_gate.specs.declared.gate.init_server.InitCheck.{InitCheck}
-use Rattle.sasl_gate.specs.declared.gate.init_server.InitServerStage.{InitServerStage}
-use Rattle.sasl_gate.specs.declared.gate.init_server.InitServerStage.TheVariants.{OwesMechanisms, AwaitsInit, OwesOutcome, Told}
-use Rattle.sasl_gate.specs.InitClient.{InitClientEnd, holds_in as client_holds_in, own_init, turn_in as client_turn_in}
-use Rattle.sasl_gate.specs.InitServer.{IsJudged, check_mechanisms, holds_in, told_turn, turn_in}
-use Rattle.sasl_gate.specs.ScramBodies.{mechanisms_body, outcome_body}
-use Rattle.sasl_gate.specs.States.{Account}
+use Rattle.sasl_exchange.specs.declared.exchange.Turn.TheVariants.{Send, Receive, Pass}
+use Rattle.sasl_exchange.specs.declared.init_client.InitClientStage.{InitClientStage}
+use Rattle.sasl_exchange.specs.declared.init_client.InitClientStage.TheVariants.{AwaitsMechanisms, OwesInit, AwaitsOutcome, Passed}
+use Rattle.sasl_exchange.specs.declared.init_server.InitCheck.{InitCheck}
+use Rattle.sasl_exchange.specs.declared.init_server.InitServerStage.{InitServerStage}
+use Rattle.sasl_exchange.specs.declared.init_server.InitServerStage.TheVariants.{OwesMechanisms, AwaitsInit, OwesOutcome, Told}
+use Rattle.sasl_exchange.specs.InitClient.{InitClientEnd, holds_in as client_holds_in, own_init, turn_in as client_turn_in}
+use Rattle.sasl_exchange.specs.InitServer.{IsJudged, check_mechanisms, holds_in, told_turn, turn_in}
+use Rattle.sasl_exchange.specs.ScramBodies.{mechanisms_body, outcome_body}
+use Rattle.sasl_scram.specs.States.{Account}
 
 -- ---- a client
 

@@ -7,16 +7,16 @@ use Rattle.amqp_sasl_bodies.specs.declared.sasl_body.SaslBody.{SaslBody}
 use Rattle.amqp_sasl_bodies.specs.declared.sasl_code.SaslCode.{SaslCode}
 use Rattle.amqp_sasl_bodies.specs.declared.sasl_code.SaslCode.TheVariants as sasl
 use Rattle.amqp_opening.specs.Authentication.{passwords_for}
-use Rattle.sasl_gate.specs.declared.gate.init_server.InitCheck.{InitCheck}
-use Rattle.sasl_gate.specs.declared.gate.init_server.InitCheck.TheVariants as init_check
-use Rattle.sasl_gate.specs.Credentials.{Credentials, anonymous, plain, scram, IsAllowedTexts}
-use Rattle.sasl_gate.specs.InitClient.{InitClientEnd, own_init}
-use Rattle.sasl_gate.specs.InitServer.{IsJudged, IsPassing, check_name}
-use Rattle.sasl_gate.specs.InitTexts.{HasNoZero, IsPlain, anonymous_name, plain_name, plain_of}
-use Rattle.sasl_gate.specs.Profile.{IsAllowedUser}
-use Rattle.sasl_gate.specs.ScramBodies.{init_body}
-use Rattle.sasl_gate.specs.States.{Account}
-use Rattle.sasl_gate.proofs.Plains.{plain_once}
+use Rattle.sasl_exchange.specs.declared.init_server.InitCheck.{InitCheck}
+use Rattle.sasl_exchange.specs.declared.init_server.InitCheck.TheVariants as init_check
+use Rattle.sasl_exchange.specs.Credentials.{Credentials, anonymous, plain, scram, IsAllowedTexts}
+use Rattle.sasl_exchange.specs.InitClient.{InitClientEnd, own_init}
+use Rattle.sasl_exchange.specs.InitServer.{IsJudged, IsPassing, check_name}
+use Rattle.sasl_exchange.specs.InitTexts.{HasNoZero, IsPlain, anonymous_name, plain_name, plain_of}
+use Rattle.sasl_scram.specs.Profile.{IsAllowedUser}
+use Rattle.sasl_exchange.specs.ScramBodies.{init_body}
+use Rattle.sasl_scram.specs.States.{Account}
+use Rattle.sasl_exchange.proofs.Plains.{plain_once}
 use Rattle.amqp_pairs.specs.InitEnds.{HasOtherAccount, HasSameAccount, SaysIn}
 use Rattle.amqp_pairs.proofs.Accounts.{found_password, own_password}
 use Rattle.amqp_pairs.proofs.Bodies.{text_in}

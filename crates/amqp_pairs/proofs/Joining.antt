@@ -3,13 +3,13 @@ use Rattle.std.proofs.Common.{◌≡◌, ℕ, List, [], ◌∷◌, ◌++◌, Opt
 use Rattle.amqp_sasl_bodies.specs.declared.sasl_body.SaslBody.{SaslBody}
 use Rattle.amqp_opening.specs.Authentication.{stored_for}
 use Rattle.base64.specs.GeneralPurpose.{IsBytes}
-use Rattle.sasl_gate.specs.Check.{stored_of}
-use Rattle.sasl_gate.specs.ClientGate.{ClientEnd, ClientSame, client_begun, client_holds}
-use Rattle.sasl_gate.specs.declared.scram.hash.ScramHash.{ScramHash}
-use Rattle.sasl_gate.specs.Hashes.{digest_of, block_of, output_of}
-use Rattle.sasl_gate.specs.Profile.{IsAllowedUser, IsAllowedCount, IsNonce}
-use Rattle.sasl_gate.specs.ServerGate.{ServerEnd, ServerSame, server_begun, server_holds}
-use Rattle.sasl_gate.specs.States.{Account}
+use Rattle.sasl_scram.specs.Check.{stored_of}
+use Rattle.sasl_exchange.specs.ScramClient.{ClientEnd, ClientSame, client_begun, client_holds}
+use Rattle.sasl_scram.specs.declared.hash.ScramHash.{ScramHash}
+use Rattle.sasl_scram.specs.Hashes.{digest_of, block_of, output_of}
+use Rattle.sasl_scram.specs.Profile.{IsAllowedUser, IsAllowedCount, IsNonce}
+use Rattle.sasl_exchange.specs.ScramServer.{ServerEnd, ServerSame, server_begun, server_holds}
+use Rattle.sasl_scram.specs.States.{Account}
 use Rattle.amqp_pairs.specs.Joined.{AreJoined}
 
 pub begun : (hash : ScramHash) (user password nonce : List ℕ) (hostname : Option (List ℕ)) (account : Account) (own salt : List ℕ) (count : ℕ)

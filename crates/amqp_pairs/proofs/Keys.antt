@@ -11,10 +11,10 @@ use Rattle.sha2.specs.Sha512.{sha512, digest_bytes as digest_bytes_512}
 use Rattle.kdf_core.specs.Hmac.{hmac_of}
 use Rattle.kdf_core.specs.Lengths.{length-sha1, length-sha256, length-sha512}
 use Rattle.kdf_core.specs.Pbkdf2.{xor_of}
-use Rattle.sasl_gate.specs.declared.scram.hash.ScramHash.{ScramHash}
-use Rattle.sasl_gate.specs.declared.scram.hash.ScramHash.TheVariants.{Sha1, Sha256, Sha512}
-use Rattle.sasl_gate.specs.Hashes.{digest_of, block_of, output_of}
-use Rattle.sasl_gate.specs.Keys.{client_key_of, stored_key_of, proof_of, ProofHolds}
+use Rattle.sasl_scram.specs.declared.hash.ScramHash.{ScramHash}
+use Rattle.sasl_scram.specs.declared.hash.ScramHash.TheVariants.{Sha1, Sha256, Sha512}
+use Rattle.sasl_scram.specs.Hashes.{digest_of, block_of, output_of}
+use Rattle.sasl_scram.specs.Keys.{client_key_of, stored_key_of, proof_of, ProofHolds}
 
 -- ---- bytes
 

@@ -4,21 +4,21 @@ use Rattle.amqp_sasl_bodies.specs.declared.sasl_body.SaslBody.{SaslBody}
 use Rattle.amqp_sasl_bodies.specs.declared.sasl_code.SaslCode.{SaslCode}
 use Rattle.amqp_sasl_bodies.specs.declared.sasl_code.SaslCode.TheVariants as sasl
 use Rattle.amqp_opening.specs.Authentication.{stored_for}
-use Rattle.sasl_gate.specs.declared.gate.client.ClientExchange.TheVariants as client
-use Rattle.sasl_gate.specs.declared.gate.server.ServerExchange.TheVariants as server
-use Rattle.sasl_gate.specs.declared.gate.error.NegotiationError.{NegotiationError}
-use Rattle.sasl_gate.specs.declared.gate.error.NegotiationError.TheVariants.{Memory, ProtocolHeaderMismatch, NotImplemented, SaslError, ScramError, Io, DecodeError, IllegalState, FramingError}
-use Rattle.sasl_gate.specs.declared.gate.exchange.Turn.TheVariants.{Send, Receive, Refuse, Pass}
-use Rattle.sasl_gate.specs.declared.gate.scram_server.ServerStage.{ServerStage}
-use Rattle.sasl_gate.specs.declared.gate.scram_server.ServerStage.TheVariants.{OwesMechanisms, AwaitsInit, OwesChallenge, AwaitsResponse, OwesOutcome, Passed, OwesRefusal, Refused}
-use Rattle.sasl_gate.specs.declared.scram.hash.ScramHash.{ScramHash}
-use Rattle.sasl_gate.specs.declared.scram.stored.StoredPassword.{StoredPassword}
-use Rattle.sasl_gate.specs.ClientGate.{ClientEnd, client_causes, client_turn}
-use Rattle.sasl_gate.specs.Exchange.{refused_with}
-use Rattle.sasl_gate.specs.ScramBodies.{outcome_body}
-use Rattle.sasl_gate.specs.ServerGate.{ServerEnd, IsRefusalCause, Waited, holds_in, server_turn}
-use Rattle.sasl_gate.specs.States.{Account, ServerState}
-use Rattle.sasl_gate.proofs.ServerGates.{awaited}
+use Rattle.sasl_exchange.specs.declared.client.ClientExchange.TheVariants as client
+use Rattle.sasl_exchange.specs.declared.server.ServerExchange.TheVariants as server
+use Rattle.sasl_exchange.specs.declared.error.NegotiationError.{NegotiationError}
+use Rattle.sasl_exchange.specs.declared.error.NegotiationError.TheVariants.{Memory, ProtocolHeaderMismatch, NotImplemented, SaslError, ScramError, Io, DecodeError, IllegalState, FramingError}
+use Rattle.sasl_exchange.specs.declared.exchange.Turn.TheVariants.{Send, Receive, Refuse, Pass}
+use Rattle.sasl_exchange.specs.declared.scram_server.ServerStage.{ServerStage}
+use Rattle.sasl_exchange.specs.declared.scram_server.ServerStage.TheVariants.{OwesMechanisms, AwaitsInit, OwesChallenge, AwaitsResponse, OwesOutcome, Passed, OwesRefusal, Refused}
+use Rattle.sasl_scram.specs.declared.hash.ScramHash.{ScramHash}
+use Rattle.sasl_scram.specs.declared.stored.StoredPassword.{StoredPassword}
+use Rattle.sasl_exchange.specs.ScramClient.{ClientEnd, client_causes, client_turn}
+use Rattle.sasl_exchange.specs.Exchange.{refused_with}
+use Rattle.sasl_exchange.specs.ScramBodies.{outcome_body}
+use Rattle.sasl_exchange.specs.ScramServer.{ServerEnd, IsRefusalCause, Waited, holds_in, server_turn}
+use Rattle.sasl_scram.specs.States.{Account, ServerState}
+use Rattle.sasl_exchange.proofs.ScramServers.{awaited}
 use Rattle.amqp_pairs.specs.Errors.{MayRefuse}
 use Rattle.amqp_pairs.specs.Joined.{AreJoined, IsOtherAccount, IsRefusing, IsSameAccount}
 use Rattle.amqp_pairs.proofs.Asked.{Asked, asked, asking_asked}

@@ -4,18 +4,18 @@ use Rattle.amqp_sasl_bodies.specs.declared.sasl_body.SaslBody.{SaslBody}
 use Rattle.amqp_sasl_bodies.specs.declared.sasl_code.SaslCode.{SaslCode}
 use Rattle.amqp_sasl_bodies.specs.declared.sasl_code.SaslCode.TheVariants as sasl
 use Rattle.amqp_opening.specs.Authentication.{stored_for}
-use Rattle.sasl_gate.specs.declared.gate.exchange.Turn.TheVariants.{Send, Receive, Refuse, Pass}
-use Rattle.sasl_gate.specs.declared.gate.scram_server.ServerStage.{ServerStage}
-use Rattle.sasl_gate.specs.declared.gate.scram_server.ServerStage.TheVariants.{OwesMechanisms, AwaitsInit, OwesChallenge, AwaitsResponse, OwesOutcome, Passed, OwesRefusal, Refused}
-use Rattle.sasl_gate.specs.declared.scram.server.ServerPhase.{ServerPhase}
-use Rattle.sasl_gate.specs.declared.scram.server.ServerPhase.TheVariants.{Unasked, Challenged, Proved}
-use Rattle.sasl_gate.specs.declared.scram.stored.StoredPassword.{StoredPassword}
-use Rattle.sasl_gate.specs.Check.{ServerAnswers, ServerCheck}
-use Rattle.sasl_gate.specs.declared.scram.hash.ScramHash.{ScramHash}
-use Rattle.sasl_gate.specs.Hashes.{digest_of, block_of, output_of, mechanism_of}
-use Rattle.sasl_gate.specs.ScramBodies.{challenge_body, init_body, outcome_body, response_body}
-use Rattle.sasl_gate.specs.ServerGate.{ServerEnd, HasChallenge, IsRefusalCause, Waited, for_init, for_response, holds_in, own_mechanisms, turn_in}
-use Rattle.sasl_gate.specs.States.{Account, ForChallenged, ServerState}
+use Rattle.sasl_exchange.specs.declared.exchange.Turn.TheVariants.{Send, Receive, Refuse, Pass}
+use Rattle.sasl_exchange.specs.declared.scram_server.ServerStage.{ServerStage}
+use Rattle.sasl_exchange.specs.declared.scram_server.ServerStage.TheVariants.{OwesMechanisms, AwaitsInit, OwesChallenge, AwaitsResponse, OwesOutcome, Passed, OwesRefusal, Refused}
+use Rattle.sasl_scram.specs.declared.server.ServerPhase.{ServerPhase}
+use Rattle.sasl_scram.specs.declared.server.ServerPhase.TheVariants.{Unasked, Challenged, Proved}
+use Rattle.sasl_scram.specs.declared.stored.StoredPassword.{StoredPassword}
+use Rattle.sasl_scram.specs.Check.{ServerAnswers, ServerCheck}
+use Rattle.sasl_scram.specs.declared.hash.ScramHash.{ScramHash}
+use Rattle.sasl_scram.specs.Hashes.{digest_of, block_of, output_of, mechanism_of}
+use Rattle.sasl_exchange.specs.ScramBodies.{challenge_body, init_body, outcome_body, response_body}
+use Rattle.sasl_exchange.specs.ScramServer.{ServerEnd, HasChallenge, IsRefusalCause, Waited, for_init, for_response, holds_in, own_mechanisms, turn_in}
+use Rattle.sasl_scram.specs.States.{Account, ForChallenged, ServerState}
 
 -- a challenge to a client first
 pub record IsChallenge (stored : List ℕ → Option StoredPassword) (own client_first first : List ℕ) : Type 0 where

@@ -2,10 +2,10 @@
 use Rattle.std.proofs.Common.{◌≡◌, ◌≢◌, ◌⊎◌, inl, inr, ℕ, Bool, true, false, List, [], ◌∷◌, length, get_or, refl, ap, sym, ◌∙◌, arith, Contains, bytes_eq}
 use Rattle.std.proofs.lemmas.List.Elements.{Contains-push_cases}
 use Rattle.std.proofs.lemmas.Slice.Eq.{bytes_eq-Decides}
-use Rattle.sasl_gate.specs.declared.scram.hash.ScramHash.{ScramHash}
-use Rattle.sasl_gate.specs.declared.scram.hash.ScramHash.TheVariants.{Sha1, Sha256, Sha512}
-use Rattle.sasl_gate.specs.Hashes.{mechanism_of}
-use Rattle.sasl_gate.specs.InitTexts.{anonymous_name, plain_name}
+use Rattle.sasl_scram.specs.declared.hash.ScramHash.{ScramHash}
+use Rattle.sasl_scram.specs.declared.hash.ScramHash.TheVariants.{Sha1, Sha256, Sha512}
+use Rattle.sasl_scram.specs.Hashes.{mechanism_of}
+use Rattle.sasl_exchange.specs.InitTexts.{anonymous_name, plain_name}
 
 -- ---- the five
 

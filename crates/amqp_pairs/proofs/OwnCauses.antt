@@ -6,19 +6,19 @@ use Rattle.base64.specs.Engines.{standard}
 use Rattle.kdf_core.specs.Hmac.{hmac_of}
 use Rattle.amqp_opening.specs.Authentication.{stored_for}
 use Rattle.base64.specs.GeneralPurpose.{IsBytes, encode_of}
-use Rattle.sasl_gate.specs.declared.gate.error.NegotiationError.{NegotiationError}
-use Rattle.sasl_gate.specs.declared.gate.error.NegotiationError.TheVariants.{Memory, ProtocolHeaderMismatch, NotImplemented, SaslError, ScramError, Io, DecodeError, IllegalState, FramingError}
-use Rattle.sasl_gate.specs.declared.scram.error.ScramErrorKind.{ScramErrorKind}
-use Rattle.sasl_gate.specs.declared.scram.error.ScramErrorKind.TheVariants as scram
-use Rattle.sasl_gate.specs.Check.{ClientAnswers}
-use Rattle.sasl_gate.specs.ClientGate.{ClientEnd, IsScramCause, by_challenge, by_final, by_no_signature, client_causes}
-use Rattle.sasl_gate.specs.Hashes.{digest_of, block_of, output_of}
-use Rattle.sasl_gate.specs.Keys.{server_key_of}
-use Rattle.sasl_gate.specs.Refusals.{IsServerFinalRefusal, IsServerFirstRefusal}
-use Rattle.sasl_gate.specs.ScramBodies.{challenge_body, mechanisms_body, outcome_body}
-use Rattle.sasl_gate.specs.ServerGate.{ServerEnd}
-use Rattle.sasl_gate.specs.States.{Account}
-use Rattle.sasl_gate.specs.Texts.{IsServerFinal}
+use Rattle.sasl_exchange.specs.declared.error.NegotiationError.{NegotiationError}
+use Rattle.sasl_exchange.specs.declared.error.NegotiationError.TheVariants.{Memory, ProtocolHeaderMismatch, NotImplemented, SaslError, ScramError, Io, DecodeError, IllegalState, FramingError}
+use Rattle.sasl_scram.specs.declared.error.ScramErrorKind.{ScramErrorKind}
+use Rattle.sasl_scram.specs.declared.error.ScramErrorKind.TheVariants as scram
+use Rattle.sasl_scram.specs.Check.{ClientAnswers}
+use Rattle.sasl_exchange.specs.ScramClient.{ClientEnd, IsScramCause, by_challenge, by_final, by_no_signature, client_causes}
+use Rattle.sasl_scram.specs.Hashes.{digest_of, block_of, output_of}
+use Rattle.sasl_scram.specs.Keys.{server_key_of}
+use Rattle.sasl_scram.specs.Refusals.{IsServerFinalRefusal, IsServerFirstRefusal}
+use Rattle.sasl_exchange.specs.ScramBodies.{challenge_body, mechanisms_body, outcome_body}
+use Rattle.sasl_exchange.specs.ScramServer.{ServerEnd}
+use Rattle.sasl_scram.specs.States.{Account}
+use Rattle.sasl_scram.specs.Texts.{IsServerFinal}
 use Rattle.amqp_pairs.specs.Errors.{IsTold, MayRefuse}
 use Rattle.amqp_pairs.specs.Joined.{AreJoined}
 use Rattle.amqp_pairs.proofs.Answers.{client_answer, salted, signed}

@@ -3,13 +3,13 @@ use Rattle.std.proofs.Common.{ℕ, List}
 use Rattle.amqp_sasl_bodies.specs.declared.sasl_body.SaslBody.{SaslBody}
 use Rattle.amqp_opening.specs.Authentication.{stored_for}
 use Rattle.amqp_wire.specs.Events.{LinkEvent, read_of}
-use Rattle.sasl_gate.specs.declared.gate.client.ClientExchange.TheVariants as client
-use Rattle.sasl_gate.specs.declared.gate.error.NegotiationError.{NegotiationError}
-use Rattle.sasl_gate.specs.declared.gate.server.ServerExchange.TheVariants as server
-use Rattle.sasl_gate.specs.ClientGate.{ClientEnd, client_causes, client_owes, client_turn}
+use Rattle.sasl_exchange.specs.declared.client.ClientExchange.TheVariants as client
+use Rattle.sasl_exchange.specs.declared.error.NegotiationError.{NegotiationError}
+use Rattle.sasl_exchange.specs.declared.server.ServerExchange.TheVariants as server
+use Rattle.sasl_exchange.specs.ScramClient.{ClientEnd, client_causes, client_owes, client_turn}
 use Rattle.sasl_gate.specs.Negotiation.{IsCaused, IsCauseAfter, IsHeard}
-use Rattle.sasl_gate.specs.ServerGate.{ServerEnd, server_causes, server_owes, server_turn}
-use Rattle.sasl_gate.specs.States.{Account}
+use Rattle.sasl_exchange.specs.ScramServer.{ServerEnd, server_causes, server_owes, server_turn}
+use Rattle.sasl_scram.specs.States.{Account}
 use Rattle.amqp_pairs.specs.Failures.{IsFollowed, IsOwnCause}
 use Rattle.amqp_pairs.specs.Joined.{AreEnds, IsSameAccount}
 use Rattle.amqp_pairs.specs.Streams.{IsSaid}

@@ -3,11 +3,11 @@ use Rattle.std.proofs.Common.{◌≡◌, inl, inr, ℕ, List, [], ◌∷◌, ◌
 use Rattle.amqp_sasl_bodies.specs.declared.sasl_body.SaslBody.{SaslBody}
 use Rattle.amqp_opening.specs.Authentication.{passwords_for, stored_for}
 use Rattle.amqp_wire.specs.Events.{LinkEvent, read_of}
-use Rattle.sasl_gate.specs.declared.gate.client.ClientExchange.{ClientExchange}
-use Rattle.sasl_gate.specs.declared.gate.error.NegotiationError.{NegotiationError}
-use Rattle.sasl_gate.specs.declared.gate.exchange.Turn.TheVariants.{Receive, Pass}
-use Rattle.sasl_gate.specs.AnyClient.{any_client_holds, any_client_turn}
-use Rattle.sasl_gate.specs.AnyServer.{any_server_holds, any_server_turn}
+use Rattle.sasl_exchange.specs.declared.client.ClientExchange.{ClientExchange}
+use Rattle.sasl_exchange.specs.declared.error.NegotiationError.{NegotiationError}
+use Rattle.sasl_exchange.specs.declared.exchange.Turn.TheVariants.{Receive, Pass}
+use Rattle.sasl_exchange.specs.AnyClient.{any_client_holds, any_client_turn}
+use Rattle.sasl_exchange.specs.AnyServer.{any_server_holds, any_server_turn}
 use Rattle.sasl_gate.specs.Frames.{Heard, sasl_frame}
 use Rattle.sasl_gate.specs.Negotiation.{FrameCause, IsHeard}
 use Rattle.amqp_pairs.specs.Failures.{IsFollowed}

@@ -3,14 +3,14 @@ use Rattle.std.proofs.Common.{◌≡◌, ℕ, List, [], ◌∷◌, ◌++◌, Opt
 use Rattle.amqp_sasl_bodies.specs.declared.sasl_body.SaslBody.{SaslBody}
 use Rattle.amqp_sasl_bodies.specs.declared.sasl_code.SaslCode.{SaslCode}
 use Rattle.amqp_sasl_bodies.specs.declared.sasl_code.SaslCode.TheVariants as sasl
-use Rattle.sasl_gate.specs.declared.gate.exchange.Turn.TheVariants.{Refuse}
-use Rattle.sasl_gate.specs.declared.gate.scram_server.ServerStage.{ServerStage}
-use Rattle.sasl_gate.specs.declared.scram.stored.StoredPassword.{StoredPassword}
-use Rattle.sasl_gate.specs.Check.{ServerCheck}
-use Rattle.sasl_gate.specs.declared.scram.hash.ScramHash.{ScramHash}
-use Rattle.sasl_gate.specs.Hashes.{digest_of, block_of, output_of, mechanism_of}
-use Rattle.sasl_gate.specs.ScramBodies.{challenge_body, init_body, outcome_body, response_body}
-use Rattle.sasl_gate.specs.ServerGate.{IsRefusalCause, own_mechanisms, turn_in}
+use Rattle.sasl_exchange.specs.declared.exchange.Turn.TheVariants.{Refuse}
+use Rattle.sasl_exchange.specs.declared.scram_server.ServerStage.{ServerStage}
+use Rattle.sasl_scram.specs.declared.stored.StoredPassword.{StoredPassword}
+use Rattle.sasl_scram.specs.Check.{ServerCheck}
+use Rattle.sasl_scram.specs.declared.hash.ScramHash.{ScramHash}
+use Rattle.sasl_scram.specs.Hashes.{digest_of, block_of, output_of, mechanism_of}
+use Rattle.sasl_exchange.specs.ScramBodies.{challenge_body, init_body, outcome_body, response_body}
+use Rattle.sasl_exchange.specs.ScramServer.{IsRefusalCause, own_mechanisms, turn_in}
 use Rattle.amqp_pairs.proofs.Bodies.{text_in, in_none, in_some, challenge_not_outcome}
 use Rattle.amqp_pairs.proofs.ListenerViews.{ListenerView, owes_mechanisms, awaits_init, owes_challenge, awaits_response, owes_outcome, passed, owes_refusal, refused, Asking, at_init, at_response, IsChallenge}
 

@@ -5,13 +5,13 @@ use Rattle.std.proofs.lemmas.List.Elements.{All-append}
 use Rattle.base64.specs.Engines.{standard}
 use Rattle.base64.specs.GeneralPurpose.{encode_of}
 use Rattle.base64.specs.Rfc4648.{encode_symbols}
-use Rattle.sasl_gate.specs.Parts.{IsAttribute, IsNext, IsPair}
-use Rattle.sasl_gate.specs.Profile.{IsNonce, IsAllowedCount}
-use Rattle.sasl_gate.specs.Texts.{escaped_of, client_first_of, client_first_bare_of, server_first_of, client_final_of, client_final_bare_of, server_final_of, Extends, IsHeader, IsValue, IsClientFirst, IsServerFirst, IsClientFinal, IsServerFinal}
-use Rattle.sasl_gate.specs.Texts.IsExtensions.{none}
-use Rattle.sasl_gate.proofs.Attributes.{attribute_once, next_once, pair_once}
-use Rattle.sasl_gate.proofs.Extensions.{tail_of}
-use Rattle.sasl_gate.proofs.Readers.{client_first_split, client_final_once, cons_value, header_value}
+use Rattle.sasl_scram.specs.Parts.{IsAttribute, IsNext, IsPair}
+use Rattle.sasl_scram.specs.Profile.{IsNonce, IsAllowedCount}
+use Rattle.sasl_scram.specs.Texts.{escaped_of, client_first_of, client_first_bare_of, server_first_of, client_final_of, client_final_bare_of, server_final_of, Extends, IsHeader, IsValue, IsClientFirst, IsServerFirst, IsClientFinal, IsServerFinal}
+use Rattle.sasl_scram.specs.Texts.IsExtensions.{none}
+use Rattle.sasl_scram.proofs.Attributes.{attribute_once, next_once, pair_once}
+use Rattle.sasl_scram.proofs.ExtensionLists.{tail_of}
+use Rattle.sasl_scram.proofs.Readers.{client_first_split, client_final_once, cons_value, header_value}
 use Rattle.amqp_pairs.proofs.Texts.{nonce_value, escaped_value, encoded_value, decimal_value}
 
 -- ---- nonces

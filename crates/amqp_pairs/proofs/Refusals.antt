@@ -2,15 +2,15 @@
 use Rattle.std.proofs.Common.{◌≡◌, ℕ, List, ◌++◌, length, Option, None, inl, refl, ap, sym, ◌∙◌, subst, codes, decimal}
 use Rattle.base64.specs.Engines.{standard}
 use Rattle.base64.specs.GeneralPurpose.{IsBytes, encode_of}
-use Rattle.sasl_gate.specs.declared.scram.error.ScramErrorKind.{ScramErrorKind}
-use Rattle.sasl_gate.specs.declared.scram.error.ScramErrorKind.TheVariants.{Memory, TextNotAllowed, Malformed, NonceMismatch, Iterations, Base64, Signature, UserUnknown, ProofMismatch}
-use Rattle.sasl_gate.specs.declared.scram.stored.StoredPassword.{StoredPassword}
-use Rattle.sasl_gate.specs.declared.scram.hash.ScramHash.{ScramHash}
-use Rattle.sasl_gate.specs.Hashes.{digest_of, block_of, output_of}
-use Rattle.sasl_gate.specs.Keys.{ProofHolds}
-use Rattle.sasl_gate.specs.Profile.{IsAllowedUser, IsNonce, IsAllowedCount}
-use Rattle.sasl_gate.specs.Refusals.{IsMemory, IsClientFirstRefusal, IsServerFirstRefusal, IsClientFinalRefusal, IsServerFinalRefusal}
-use Rattle.sasl_gate.specs.Texts.{escaped_of, client_first_of, client_first_bare_of, server_first_of, client_final_of, client_final_bare_of, server_final_of, auth_of, Extends, IsName, IsClientFirst, IsServerFinal}
+use Rattle.sasl_scram.specs.declared.error.ScramErrorKind.{ScramErrorKind}
+use Rattle.sasl_scram.specs.declared.error.ScramErrorKind.TheVariants.{Memory, TextNotAllowed, Malformed, NonceMismatch, Iterations, Base64, Signature, UserUnknown, ProofMismatch}
+use Rattle.sasl_scram.specs.declared.stored.StoredPassword.{StoredPassword}
+use Rattle.sasl_scram.specs.declared.hash.ScramHash.{ScramHash}
+use Rattle.sasl_scram.specs.Hashes.{digest_of, block_of, output_of}
+use Rattle.sasl_scram.specs.Keys.{ProofHolds}
+use Rattle.sasl_scram.specs.Profile.{IsAllowedUser, IsNonce, IsAllowedCount}
+use Rattle.sasl_scram.specs.Refusals.{IsMemory, IsClientFirstRefusal, IsServerFirstRefusal, IsClientFinalRefusal, IsServerFinalRefusal}
+use Rattle.sasl_scram.specs.Texts.{escaped_of, client_first_of, client_first_bare_of, server_first_of, client_final_of, client_final_bare_of, server_final_of, auth_of, Extends, IsName, IsClientFirst, IsServerFinal}
 use Rattle.amqp_pairs.proofs.Readings.{joined_nonce, extended, client_first_reads, client_first_once, server_first_reads, server_first_once, client_final_reads, client_final_whole, server_final_reads, server_final_once}
 use Rattle.amqp_pairs.proofs.Texts.{escaped_once, encoded_once}
 

@@ -3,15 +3,15 @@ use Rattle.std.proofs.Common.{◌≡◌, ◌≢◌, inl, inr, ℕ, List, [], ◌
 use Rattle.amqp_sasl_bodies.specs.declared.sasl_body.SaslBody.{SaslBody}
 use Rattle.amqp_sasl_bodies.specs.declared.sasl_code.SaslCode.{SaslCode}
 use Rattle.amqp_sasl_bodies.specs.declared.sasl_code.SaslCode.TheVariants as sasl
-use Rattle.sasl_gate.specs.declared.gate.scram_client.ClientStage.{ClientStage}
-use Rattle.sasl_gate.specs.declared.gate.exchange.Turn.TheVariants.{Send, Pass}
-use Rattle.sasl_gate.specs.declared.gate.scram_server.ServerStage.{ServerStage}
-use Rattle.sasl_gate.specs.declared.scram.stored.StoredPassword.{StoredPassword}
-use Rattle.sasl_gate.specs.ClientGate.{ClientEnd, client_init, turn_in as client_turn_in}
-use Rattle.sasl_gate.specs.declared.scram.hash.ScramHash.{ScramHash}
-use Rattle.sasl_gate.specs.Hashes.{mechanism_of}
-use Rattle.sasl_gate.specs.ScramBodies.{challenge_body, init_body, mechanisms_body, outcome_body, response_body}
-use Rattle.sasl_gate.specs.ServerGate.{own_mechanisms, turn_in}
+use Rattle.sasl_exchange.specs.declared.scram_client.ClientStage.{ClientStage}
+use Rattle.sasl_exchange.specs.declared.exchange.Turn.TheVariants.{Send, Pass}
+use Rattle.sasl_exchange.specs.declared.scram_server.ServerStage.{ServerStage}
+use Rattle.sasl_scram.specs.declared.stored.StoredPassword.{StoredPassword}
+use Rattle.sasl_exchange.specs.ScramClient.{ClientEnd, client_init, turn_in as client_turn_in}
+use Rattle.sasl_scram.specs.declared.hash.ScramHash.{ScramHash}
+use Rattle.sasl_scram.specs.Hashes.{mechanism_of}
+use Rattle.sasl_exchange.specs.ScramBodies.{challenge_body, init_body, mechanisms_body, outcome_body, response_body}
+use Rattle.sasl_exchange.specs.ScramServer.{own_mechanisms, turn_in}
 use Rattle.amqp_pairs.proofs.Bodies.{challenge_not_outcome, in_none, in_some, list_not_outcome, told_not_none}
 use Rattle.amqp_pairs.proofs.ClientViews.{ClientView, awaits_mechanisms, owes_init, awaits_challenge, owes_response, awaits_outcome, passed}
 use Rattle.amqp_pairs.proofs.ListenerViews as listener

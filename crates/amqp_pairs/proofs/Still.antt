@@ -4,30 +4,30 @@ use Rattle.amqp_sasl_bodies.specs.declared.sasl_body.SaslBody.{SaslBody}
 use Rattle.amqp_sasl_bodies.specs.declared.sasl_code.SaslCode.{SaslCode}
 use Rattle.amqp_sasl_bodies.specs.declared.sasl_code.SaslCode.TheVariants as sasl
 use Rattle.amqp_opening.specs.Authentication.{passwords_for, stored_for}
-use Rattle.sasl_gate.specs.declared.gate.client.ClientExchange.{ClientExchange}
-use Rattle.sasl_gate.specs.declared.gate.client.ClientExchange.TheVariants as client
-use Rattle.sasl_gate.specs.declared.gate.exchange.Turn.{Turn}
-use Rattle.sasl_gate.specs.declared.gate.exchange.Turn.TheVariants.{Send, Receive, Refuse, Pass}
-use Rattle.sasl_gate.specs.declared.gate.init_client.InitClientStage.{InitClientStage}
-use Rattle.sasl_gate.specs.declared.gate.init_server.InitCheck.{InitCheck}
-use Rattle.sasl_gate.specs.declared.gate.init_server.InitCheck.TheVariants as init_check
-use Rattle.sasl_gate.specs.declared.gate.init_server.InitServerStage.{InitServerStage}
-use Rattle.sasl_gate.specs.declared.gate.scram_client.ClientStage.{ClientStage}
-use Rattle.sasl_gate.specs.declared.gate.scram_client.ClientStage.TheVariants as client_stage
-use Rattle.sasl_gate.specs.declared.gate.scram_server.ServerStage.{ServerStage}
-use Rattle.sasl_gate.specs.declared.gate.server.ServerExchange.TheVariants as server
-use Rattle.sasl_gate.specs.declared.scram.hash.ScramHash.{ScramHash}
-use Rattle.sasl_gate.specs.declared.scram.stored.StoredPassword.{StoredPassword}
-use Rattle.sasl_gate.specs.AnyClient.{any_client_holds, any_client_turn}
-use Rattle.sasl_gate.specs.AnyServer.{any_server_holds, any_server_turn}
-use Rattle.sasl_gate.specs.ClientGate.{ClientEnd, client_holds, client_turn, holds_in, turn_in as client_turn_in}
-use Rattle.sasl_gate.specs.Hashes.{mechanism_of}
-use Rattle.sasl_gate.specs.InitClient.{InitClientEnd, own_init, turn_in as init_client_turn_in}
-use Rattle.sasl_gate.specs.InitServer.{InitServerEnd, check_mechanisms, check_name, told_turn, turn_in as init_turn_in}
-use Rattle.sasl_gate.specs.ScramBodies.{challenge_body, mechanisms_body, outcome_body}
-use Rattle.sasl_gate.specs.ServerGate.{ServerEnd, own_mechanisms, server_holds, server_turn, turn_in}
-use Rattle.sasl_gate.specs.States.{Account}
-use Rattle.sasl_gate.proofs.ServerGates.{server_few}
+use Rattle.sasl_exchange.specs.declared.client.ClientExchange.{ClientExchange}
+use Rattle.sasl_exchange.specs.declared.client.ClientExchange.TheVariants as client
+use Rattle.sasl_exchange.specs.declared.exchange.Turn.{Turn}
+use Rattle.sasl_exchange.specs.declared.exchange.Turn.TheVariants.{Send, Receive, Refuse, Pass}
+use Rattle.sasl_exchange.specs.declared.init_client.InitClientStage.{InitClientStage}
+use Rattle.sasl_exchange.specs.declared.init_server.InitCheck.{InitCheck}
+use Rattle.sasl_exchange.specs.declared.init_server.InitCheck.TheVariants as init_check
+use Rattle.sasl_exchange.specs.declared.init_server.InitServerStage.{InitServerStage}
+use Rattle.sasl_exchange.specs.declared.scram_client.ClientStage.{ClientStage}
+use Rattle.sasl_exchange.specs.declared.scram_client.ClientStage.TheVariants as client_stage
+use Rattle.sasl_exchange.specs.declared.scram_server.ServerStage.{ServerStage}
+use Rattle.sasl_exchange.specs.declared.server.ServerExchange.TheVariants as server
+use Rattle.sasl_scram.specs.declared.hash.ScramHash.{ScramHash}
+use Rattle.sasl_scram.specs.declared.stored.StoredPassword.{StoredPassword}
+use Rattle.sasl_exchange.specs.AnyClient.{any_client_holds, any_client_turn}
+use Rattle.sasl_exchange.specs.AnyServer.{any_server_holds, any_server_turn}
+use Rattle.sasl_exchange.specs.ScramClient.{ClientEnd, client_holds, client_turn, holds_in, turn_in as client_turn_in}
+use Rattle.sasl_scram.specs.Hashes.{mechanism_of}
+use Rattle.sasl_exchange.specs.InitClient.{InitClientEnd, own_init, turn_in as init_client_turn_in}
+use Rattle.sasl_exchange.specs.InitServer.{InitServerEnd, check_mechanisms, check_name, told_turn, turn_in as init_turn_in}
+use Rattle.sasl_exchange.specs.ScramBodies.{challenge_body, mechanisms_body, outcome_body}
+use Rattle.sasl_exchange.specs.ScramServer.{ServerEnd, own_mechanisms, server_holds, server_turn, turn_in}
+use Rattle.sasl_scram.specs.States.{Account}
+use Rattle.sasl_exchange.proofs.ScramServers.{server_few}
 use Rattle.amqp_pairs.specs.Mechanisms.{AreFacing, AreUnlike, Listening}
 use Rattle.amqp_pairs.proofs.Bodies.{OneChallenge, challenge_not_outcome, code_in, in_none}
 use Rattle.amqp_pairs.proofs.Challenges.{first_of_one, one_challenge}

@@ -9,11 +9,11 @@ use Rattle.base64.specs.GeneralPurpose.{IsBytes, IsConsistent, encode_of, decode
 use Rattle.base64.specs.Rfc4648.{encode_symbols, padding_len}
 use Rattle.base64.proofs.EngineFacts.{decode_of-encode_of}
 use Rattle.base64.proofs.Tables.{are_tables_inverse, decode-encode_table}
-use Rattle.sasl_gate.specs.Profile.{IsNonce, IsAllowedCount}
-use Rattle.sasl_gate.specs.Texts.{escape_of, escaped_of, IsValue}
-use Rattle.sasl_gate.proofs.Attributes.{later_bytes}
-use Rattle.sasl_gate.proofs.Escapes.{comma, equals, plain, escape, escaped_of-nil, escaped_of-cons, escape_once, no_byte}
-use Rattle.sasl_gate.proofs.Readers.{nil_value, cons_value}
+use Rattle.sasl_scram.specs.Profile.{IsNonce, IsAllowedCount}
+use Rattle.sasl_scram.specs.Texts.{escape_of, escaped_of, IsValue}
+use Rattle.sasl_scram.proofs.Attributes.{later_bytes}
+use Rattle.sasl_scram.proofs.Escapes.{comma, equals, plain, escape, escaped_of-nil, escaped_of-cons, escape_once, no_byte}
+use Rattle.sasl_scram.proofs.Readers.{nil_value, cons_value}
 
 -- ---- values
 

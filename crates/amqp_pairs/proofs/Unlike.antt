@@ -4,34 +4,34 @@ use Rattle.amqp_sasl_bodies.specs.declared.sasl_body.SaslBody.{SaslBody}
 use Rattle.amqp_sasl_bodies.specs.declared.sasl_code.SaslCode.{SaslCode}
 use Rattle.amqp_sasl_bodies.specs.declared.sasl_code.SaslCode.TheVariants as sasl
 use Rattle.amqp_opening.specs.Authentication.{passwords_for, stored_for}
-use Rattle.sasl_gate.specs.declared.gate.client.ClientExchange.{ClientExchange}
-use Rattle.sasl_gate.specs.declared.gate.client.ClientExchange.TheVariants as client
-use Rattle.sasl_gate.specs.declared.gate.error.NegotiationError.{NegotiationError}
-use Rattle.sasl_gate.specs.declared.gate.error.NegotiationError.TheVariants.{Memory, ProtocolHeaderMismatch, NotImplemented, SaslError, ScramError, Io, DecodeError, IllegalState, FramingError}
-use Rattle.sasl_gate.specs.declared.gate.exchange.Turn.TheVariants.{Send}
-use Rattle.sasl_gate.specs.declared.gate.init_client.InitClientStage.{InitClientStage}
-use Rattle.sasl_gate.specs.declared.gate.init_client.InitClientStage.TheVariants as init_stage
-use Rattle.sasl_gate.specs.declared.gate.init_server.InitCheck.{InitCheck}
-use Rattle.sasl_gate.specs.declared.gate.init_server.InitServerStage.{InitServerStage}
-use Rattle.sasl_gate.specs.declared.gate.scram_client.ClientStage.{ClientStage}
-use Rattle.sasl_gate.specs.declared.gate.scram_client.ClientStage.TheVariants.{AwaitsMechanisms, OwesInit, AwaitsChallenge, OwesResponse, AwaitsOutcome, OwesEmptyResponse, AwaitsEnd, Passed}
-use Rattle.sasl_gate.specs.declared.gate.scram_server.ServerStage.{ServerStage}
-use Rattle.sasl_gate.specs.declared.gate.server.ServerExchange.TheVariants as server
-use Rattle.sasl_gate.specs.declared.scram.client.ClientPhase.{ClientPhase}
-use Rattle.sasl_gate.specs.declared.scram.client.ClientPhase.TheVariants.{Unanswered, Answered, Verified}
-use Rattle.sasl_gate.specs.declared.scram.error.ScramErrorKind.{ScramErrorKind}
-use Rattle.sasl_gate.specs.declared.scram.hash.ScramHash.{ScramHash}
-use Rattle.sasl_gate.specs.declared.scram.stored.StoredPassword.{StoredPassword}
-use Rattle.sasl_gate.specs.AnyClient.{any_client_causes, any_client_holds, any_client_turn}
-use Rattle.sasl_gate.specs.AnyServer.{any_server_holds, any_server_turn}
-use Rattle.sasl_gate.specs.ClientEnds.{IsUnlisted}
-use Rattle.sasl_gate.specs.ClientGate.{ClientEnd, HasAnswer, IsScramCause, by_challenge, by_final, by_no_signature, client_causes, client_init, holds_in, is_next}
-use Rattle.sasl_gate.specs.Hashes.{mechanism_of}
-use Rattle.sasl_gate.specs.InitClient.{InitClientEnd, init_client_causes, holds_in as init_holds_in, is_next as is_next_of_init}
-use Rattle.sasl_gate.specs.InitServer.{check_name, turn_in as init_turn_in}
-use Rattle.sasl_gate.specs.ScramBodies.{challenge_body, mechanisms_body, outcome_body, response_body}
-use Rattle.sasl_gate.specs.ServerGate.{own_mechanisms, turn_in}
-use Rattle.sasl_gate.specs.States.{Account, ForAnswered}
+use Rattle.sasl_exchange.specs.declared.client.ClientExchange.{ClientExchange}
+use Rattle.sasl_exchange.specs.declared.client.ClientExchange.TheVariants as client
+use Rattle.sasl_exchange.specs.declared.error.NegotiationError.{NegotiationError}
+use Rattle.sasl_exchange.specs.declared.error.NegotiationError.TheVariants.{Memory, ProtocolHeaderMismatch, NotImplemented, SaslError, ScramError, Io, DecodeError, IllegalState, FramingError}
+use Rattle.sasl_exchange.specs.declared.exchange.Turn.TheVariants.{Send}
+use Rattle.sasl_exchange.specs.declared.init_client.InitClientStage.{InitClientStage}
+use Rattle.sasl_exchange.specs.declared.init_client.InitClientStage.TheVariants as init_stage
+use Rattle.sasl_exchange.specs.declared.init_server.InitCheck.{InitCheck}
+use Rattle.sasl_exchange.specs.declared.init_server.InitServerStage.{InitServerStage}
+use Rattle.sasl_exchange.specs.declared.scram_client.ClientStage.{ClientStage}
+use Rattle.sasl_exchange.specs.declared.scram_client.ClientStage.TheVariants.{AwaitsMechanisms, OwesInit, AwaitsChallenge, OwesResponse, AwaitsOutcome, OwesEmptyResponse, AwaitsEnd, Passed}
+use Rattle.sasl_exchange.specs.declared.scram_server.ServerStage.{ServerStage}
+use Rattle.sasl_exchange.specs.declared.server.ServerExchange.TheVariants as server
+use Rattle.sasl_scram.specs.declared.client.ClientPhase.{ClientPhase}
+use Rattle.sasl_scram.specs.declared.client.ClientPhase.TheVariants.{Unanswered, Answered, Verified}
+use Rattle.sasl_scram.specs.declared.error.ScramErrorKind.{ScramErrorKind}
+use Rattle.sasl_scram.specs.declared.hash.ScramHash.{ScramHash}
+use Rattle.sasl_scram.specs.declared.stored.StoredPassword.{StoredPassword}
+use Rattle.sasl_exchange.specs.AnyClient.{any_client_causes, any_client_holds, any_client_turn}
+use Rattle.sasl_exchange.specs.AnyServer.{any_server_holds, any_server_turn}
+use Rattle.sasl_exchange.specs.ClientEnds.{IsUnlisted}
+use Rattle.sasl_exchange.specs.ScramClient.{ClientEnd, HasAnswer, IsScramCause, by_challenge, by_final, by_no_signature, client_causes, client_init, holds_in, is_next}
+use Rattle.sasl_scram.specs.Hashes.{mechanism_of}
+use Rattle.sasl_exchange.specs.InitClient.{InitClientEnd, init_client_causes, holds_in as init_holds_in, is_next as is_next_of_init}
+use Rattle.sasl_exchange.specs.InitServer.{check_name, turn_in as init_turn_in}
+use Rattle.sasl_exchange.specs.ScramBodies.{challenge_body, mechanisms_body, outcome_body, response_body}
+use Rattle.sasl_exchange.specs.ScramServer.{own_mechanisms, turn_in}
+use Rattle.sasl_scram.specs.States.{Account, ForAnswered}
 use Rattle.amqp_pairs.specs.Mechanisms.{AreUnlike, HasRefusalCause, Listening, client_name, listener_name}
 use Rattle.amqp_pairs.proofs.Bodies.{in_none, last_once, list_not_challenge, list_not_outcome, names_in}
 use Rattle.amqp_pairs.proofs.InitViews as view

@@ -2,14 +2,14 @@
 use Rattle.std.specs.Prelude.{◌≡◌, ◌≢◌, None}
 use Rattle.amqp_sasl_bodies.specs.declared.sasl_body.SaslBody.{SaslBody}
 use Rattle.amqp_sasl_bodies.specs.declared.sasl_code.SaslCode.TheVariants as sasl
-use Rattle.sasl_gate.specs.declared.gate.error.NegotiationError.{NegotiationError}
-use Rattle.sasl_gate.specs.declared.gate.error.NegotiationError.TheVariants.{Memory, ProtocolHeaderMismatch, NotImplemented, SaslError, ScramError, Io, DecodeError, IllegalState, FramingError}
-use Rattle.sasl_gate.specs.declared.gate.exchange.Turn.TheVariants.{Refuse, Pass}
-use Rattle.sasl_gate.specs.declared.scram.error.ScramErrorKind.TheVariants as scram
-use Rattle.sasl_gate.specs.ClientGate.{ClientEnd}
-use Rattle.sasl_gate.specs.ScramBodies.{outcome_body}
-use Rattle.sasl_gate.specs.ServerGate.{ServerEnd, server_turn}
-use Rattle.sasl_gate.specs.States.{Account}
+use Rattle.sasl_exchange.specs.declared.error.NegotiationError.{NegotiationError}
+use Rattle.sasl_exchange.specs.declared.error.NegotiationError.TheVariants.{Memory, ProtocolHeaderMismatch, NotImplemented, SaslError, ScramError, Io, DecodeError, IllegalState, FramingError}
+use Rattle.sasl_exchange.specs.declared.exchange.Turn.TheVariants.{Refuse, Pass}
+use Rattle.sasl_scram.specs.declared.error.ScramErrorKind.TheVariants as scram
+use Rattle.sasl_exchange.specs.ScramClient.{ClientEnd}
+use Rattle.sasl_exchange.specs.ScramBodies.{outcome_body}
+use Rattle.sasl_exchange.specs.ScramServer.{ServerEnd, server_turn}
+use Rattle.sasl_scram.specs.States.{Account}
 use Rattle.amqp_pairs.specs.Joined.{IsOtherAccount}
 
 -- the listener told the client that it refuses another account

@@ -2,9 +2,9 @@
 use Rattle.std.specs.Prelude.{◌≡◌, ◌⊎◌, ℕ, List, [], ⊤}
 use Rattle.amqp_sasl_bodies.specs.declared.sasl_body.SaslBody.{SaslBody}
 use Rattle.amqp_wire.specs.Events.{LinkEvent}
-use Rattle.sasl_gate.specs.declared.gate.error.NegotiationError.{NegotiationError}
-use Rattle.sasl_gate.specs.declared.gate.exchange.Turn.{Turn}
-use Rattle.sasl_gate.specs.declared.gate.exchange.Turn.TheVariants.{Pass}
+use Rattle.sasl_exchange.specs.declared.error.NegotiationError.{NegotiationError}
+use Rattle.sasl_exchange.specs.declared.exchange.Turn.{Turn}
+use Rattle.sasl_exchange.specs.declared.exchange.Turn.TheVariants.{Pass}
 use Rattle.sasl_gate.specs.Negotiation.{IsCaused, IsCauseAfter, at_link, at_header, at_frame, by_body, too_long}
 
 -- the mechanism is the cause: it refused a body, or told the other end that it refuses (OASIS AMQP 1.0, part 5, section 5.3.2)

@@ -5,19 +5,19 @@ use Rattle.amqp_sasl_bodies.specs.declared.sasl_body.SaslBody.{SaslBody}
 use Rattle.amqp_sasl_bodies.specs.declared.sasl_code.SaslCode.{SaslCode}
 use Rattle.amqp_sasl_bodies.specs.declared.sasl_code.SaslCode.TheVariants as sasl
 use Rattle.amqp_opening.specs.Authentication.{passwords_for}
-use Rattle.sasl_gate.specs.declared.gate.error.NegotiationError.{NegotiationError}
-use Rattle.sasl_gate.specs.declared.gate.error.NegotiationError.TheVariants.{Memory, ProtocolHeaderMismatch, NotImplemented, SaslError, ScramError, Io, DecodeError, IllegalState, FramingError}
-use Rattle.sasl_gate.specs.declared.gate.exchange.Turn.TheVariants.{Refuse}
-use Rattle.sasl_gate.specs.declared.gate.init_server.InitCheck.{InitCheck}
-use Rattle.sasl_gate.specs.declared.gate.init_server.InitCheck.TheVariants as init_check
-use Rattle.sasl_gate.specs.declared.gate.init_server.InitServerStage.{InitServerStage}
-use Rattle.sasl_gate.specs.declared.gate.init_server.InitServerStage.TheVariants as server_stage
-use Rattle.sasl_gate.specs.Credentials.{Credentials, anonymous, plain, scram, IsAllowedTexts}
-use Rattle.sasl_gate.specs.InitClient.{InitClientEnd, init_client_holds}
-use Rattle.sasl_gate.specs.InitServer.{InitServerEnd, check_name, init_server_holds, init_server_turn}
-use Rattle.sasl_gate.specs.InitTexts.{anonymous_name, plain_name, plain_of}
-use Rattle.sasl_gate.specs.ScramBodies.{outcome_body}
-use Rattle.sasl_gate.specs.States.{Account}
+use Rattle.sasl_exchange.specs.declared.error.NegotiationError.{NegotiationError}
+use Rattle.sasl_exchange.specs.declared.error.NegotiationError.TheVariants.{Memory, ProtocolHeaderMismatch, NotImplemented, SaslError, ScramError, Io, DecodeError, IllegalState, FramingError}
+use Rattle.sasl_exchange.specs.declared.exchange.Turn.TheVariants.{Refuse}
+use Rattle.sasl_exchange.specs.declared.init_server.InitCheck.{InitCheck}
+use Rattle.sasl_exchange.specs.declared.init_server.InitCheck.TheVariants as init_check
+use Rattle.sasl_exchange.specs.declared.init_server.InitServerStage.{InitServerStage}
+use Rattle.sasl_exchange.specs.declared.init_server.InitServerStage.TheVariants as server_stage
+use Rattle.sasl_exchange.specs.Credentials.{Credentials, anonymous, plain, scram, IsAllowedTexts}
+use Rattle.sasl_exchange.specs.InitClient.{InitClientEnd, init_client_holds}
+use Rattle.sasl_exchange.specs.InitServer.{InitServerEnd, check_name, init_server_holds, init_server_turn}
+use Rattle.sasl_exchange.specs.InitTexts.{anonymous_name, plain_name, plain_of}
+use Rattle.sasl_exchange.specs.ScramBodies.{outcome_body}
+use Rattle.sasl_scram.specs.States.{Account}
 
 -- a client that says these credentials in its init: with ANONYMOUS nothing (RFC 4505, section 2), with PLAIN its user and its password
 -- (RFC 4616, section 2)

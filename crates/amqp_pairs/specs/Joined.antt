@@ -3,14 +3,14 @@ use Rattle.std.specs.Prelude.{◌≡◌, ◌≢◌, ◌⊎◌, ℕ, List, ◌++�
 use Rattle.amqp_sasl_bodies.specs.declared.sasl_body.SaslBody.{SaslBody}
 use Rattle.base64.specs.GeneralPurpose.{IsBytes}
 use Rattle.amqp_opening.specs.Authentication.{stored_for}
-use Rattle.sasl_gate.specs.declared.gate.scram_server.ServerStage.{ServerStage}
-use Rattle.sasl_gate.specs.declared.gate.scram_server.ServerStage.TheVariants as server_stage
-use Rattle.sasl_gate.specs.Check.{stored_of}
-use Rattle.sasl_gate.specs.ClientGate.{ClientEnd, client_holds}
-use Rattle.sasl_gate.specs.Hashes.{digest_of, block_of, output_of}
-use Rattle.sasl_gate.specs.Profile.{IsAllowedUser, IsAllowedCount, IsNonce}
-use Rattle.sasl_gate.specs.ServerGate.{ServerEnd, server_holds}
-use Rattle.sasl_gate.specs.States.{Account}
+use Rattle.sasl_exchange.specs.declared.scram_server.ServerStage.{ServerStage}
+use Rattle.sasl_exchange.specs.declared.scram_server.ServerStage.TheVariants as server_stage
+use Rattle.sasl_scram.specs.Check.{stored_of}
+use Rattle.sasl_exchange.specs.ScramClient.{ClientEnd, client_holds}
+use Rattle.sasl_scram.specs.Hashes.{digest_of, block_of, output_of}
+use Rattle.sasl_scram.specs.Profile.{IsAllowedUser, IsAllowedCount, IsNonce}
+use Rattle.sasl_exchange.specs.ScramServer.{ServerEnd, server_holds}
+use Rattle.sasl_scram.specs.States.{Account}
 
 -- a client in the profile and a listener of the same mechanism with one user, of whose password it keeps what RFC 5802, section 3 says,
 -- with a salt and a count; and what each was given, and what it sent

@@ -4,16 +4,16 @@ use Rattle.amqp_sasl_bodies.specs.declared.sasl_body.SaslBody.{SaslBody}
 use Rattle.amqp_sasl_bodies.specs.declared.sasl_code.SaslCode.{SaslCode}
 use Rattle.amqp_sasl_bodies.specs.declared.sasl_code.SaslCode.TheVariants as sasl
 use Rattle.amqp_opening.specs.Authentication.{passwords_for, stored_for}
-use Rattle.sasl_gate.specs.declared.gate.client.ClientExchange.{ClientExchange}
-use Rattle.sasl_gate.specs.declared.gate.client.ClientExchange.TheVariants as client
-use Rattle.sasl_gate.specs.declared.gate.server.ServerExchange.{ServerExchange}
-use Rattle.sasl_gate.specs.declared.gate.server.ServerExchange.TheVariants as server
-use Rattle.sasl_gate.specs.AnyClient.{any_client_holds}
-use Rattle.sasl_gate.specs.AnyServer.{any_server_holds}
-use Rattle.sasl_gate.specs.Hashes.{mechanism_of}
-use Rattle.sasl_gate.specs.InitServer.{IsJudged, check_name}
-use Rattle.sasl_gate.specs.ServerGate.{IsRefusalCause}
-use Rattle.sasl_gate.specs.States.{Account}
+use Rattle.sasl_exchange.specs.declared.client.ClientExchange.{ClientExchange}
+use Rattle.sasl_exchange.specs.declared.client.ClientExchange.TheVariants as client
+use Rattle.sasl_exchange.specs.declared.server.ServerExchange.{ServerExchange}
+use Rattle.sasl_exchange.specs.declared.server.ServerExchange.TheVariants as server
+use Rattle.sasl_exchange.specs.AnyClient.{any_client_holds}
+use Rattle.sasl_exchange.specs.AnyServer.{any_server_holds}
+use Rattle.sasl_scram.specs.Hashes.{mechanism_of}
+use Rattle.sasl_exchange.specs.InitServer.{IsJudged, check_name}
+use Rattle.sasl_exchange.specs.ScramServer.{IsRefusalCause}
+use Rattle.sasl_scram.specs.States.{Account}
 
 -- a listener's end of any mechanism, with one user
 abbrev pub Listening : Type 0

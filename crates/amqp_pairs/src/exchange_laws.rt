@@ -4,12 +4,12 @@ ghost use Rattle.amqp_sasl_bodies.specs.declared.sasl_body.SaslBody.{SaslBody};
 ghost use Rattle.amqp_sasl_bodies.specs.declared.sasl_code.SaslCode.{SaslCode};
 ghost use Rattle.amqp_sasl_bodies.specs.declared.sasl_code.SaslCode.TheVariants as sasl;
 ghost use Rattle.amqp_opening.specs.Authentication.{stored_for};
-ghost use Rattle.sasl_gate.specs.declared.gate.error.NegotiationError.{NegotiationError};
-ghost use Rattle.sasl_gate.specs.declared.gate.exchange.Turn.TheVariants.{Send, Receive, Refuse, Pass};
-ghost use Rattle.sasl_gate.specs.ClientGate.{client_causes, client_turn};
-ghost use Rattle.sasl_gate.specs.Exchange.{refused_with};
-ghost use Rattle.sasl_gate.specs.ScramBodies.{outcome_body};
-ghost use Rattle.sasl_gate.specs.ServerGate.{IsRefusalCause, server_turn};
+ghost use Rattle.sasl_exchange.specs.declared.error.NegotiationError.{NegotiationError};
+ghost use Rattle.sasl_exchange.specs.declared.exchange.Turn.TheVariants.{Send, Receive, Refuse, Pass};
+ghost use Rattle.sasl_exchange.specs.ScramClient.{client_causes, client_turn};
+ghost use Rattle.sasl_exchange.specs.Exchange.{refused_with};
+ghost use Rattle.sasl_exchange.specs.ScramBodies.{outcome_body};
+ghost use Rattle.sasl_exchange.specs.ScramServer.{IsRefusalCause, server_turn};
 ghost use Rattle.amqp_pairs.specs.Joined.{ForJoined, IsSameAccount, IsOtherAccount, IsRefusing};
 ghost use Rattle.amqp_pairs.specs.Errors.{MayRefuse};
 

@@ -3,13 +3,13 @@ ghost use Rattle.std.specs.Prelude.{◌≡◌, ℕ, List, [], ◌∷◌, ◌++�
 ghost use Rattle.amqp_sasl_bodies.specs.declared.sasl_body.SaslBody.{SaslBody};
 ghost use Rattle.amqp_opening.specs.Authentication.{stored_for};
 ghost use Rattle.base64.specs.GeneralPurpose.{IsBytes};
-ghost use Rattle.sasl_gate.specs.declared.scram.hash.ScramHash.{ScramHash};
-ghost use Rattle.sasl_gate.specs.Check.{stored_of};
-ghost use Rattle.sasl_gate.specs.ClientGate.{ClientEnd, ClientSame, client_begun, client_holds};
-ghost use Rattle.sasl_gate.specs.Hashes.{digest_of, block_of, output_of};
-ghost use Rattle.sasl_gate.specs.Profile.{IsAllowedUser, IsAllowedCount, IsNonce};
-ghost use Rattle.sasl_gate.specs.ServerGate.{ServerEnd, ServerSame, server_begun, server_holds};
-ghost use Rattle.sasl_gate.specs.States.{Account};
+ghost use Rattle.sasl_scram.specs.declared.hash.ScramHash.{ScramHash};
+ghost use Rattle.sasl_scram.specs.Check.{stored_of};
+ghost use Rattle.sasl_exchange.specs.ScramClient.{ClientEnd, ClientSame, client_begun, client_holds};
+ghost use Rattle.sasl_scram.specs.Hashes.{digest_of, block_of, output_of};
+ghost use Rattle.sasl_scram.specs.Profile.{IsAllowedUser, IsAllowedCount, IsNonce};
+ghost use Rattle.sasl_exchange.specs.ScramServer.{ServerEnd, ServerSame, server_begun, server_holds};
+ghost use Rattle.sasl_scram.specs.States.{Account};
 ghost use Rattle.amqp_pairs.specs.Joined.{AreJoined};
 
 /// Two ends of the same mechanism that have read and written nothing are joined.

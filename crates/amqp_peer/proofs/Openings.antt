@@ -18,9 +18,9 @@ use Rattle.amqp_engine.specs.Settings.{open_of}
 use Rattle.amqp_engine.specs.State.{State, open_frame}
 use Rattle.amqp_engine.proofs.Runs.{within}
 use Rattle.amqp_engine.proofs.Says.{starts, starts_calm}
-use Rattle.sasl_gate.specs.declared.gate.error.NegotiationError.{NegotiationError}
-use Rattle.sasl_gate.specs.declared.gate.error.NegotiationError.TheVariants.{ScramError}
-use Rattle.sasl_gate.specs.declared.scram.error.ScramErrorKind.TheVariants.{TextNotAllowed}
+use Rattle.sasl_exchange.specs.declared.error.NegotiationError.{NegotiationError}
+use Rattle.sasl_exchange.specs.declared.error.NegotiationError.TheVariants.{ScramError}
+use Rattle.sasl_scram.specs.declared.error.ScramErrorKind.TheVariants.{TextNotAllowed}
 use Rattle.sasl_gate.specs.Negotiation.{IsHeldUp}
 use Rattle.amqp_opening.specs.declared.authentication.Authentication.{Authentication}
 use Rattle.amqp_opening.specs.declared.authentication.SaslCall.{SaslCall}

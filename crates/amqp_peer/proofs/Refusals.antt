@@ -4,20 +4,20 @@ use Rattle.amqp_sasl_bodies.specs.declared.sasl_body.SaslBody.{SaslBody}
 use Rattle.amqp_wire.specs.Events.{LinkEvent}
 use Rattle.amqp_engine.specs.declared.error.Error.{Error as ConnectionFault}
 use Rattle.amqp_engine.specs.declared.error.Error.TheVariants as connection
-use Rattle.sasl_gate.specs.declared.gate.client.ClientExchange.{ClientExchange}
-use Rattle.sasl_gate.specs.declared.gate.client.ClientExchange.TheVariants as client
-use Rattle.sasl_gate.specs.declared.gate.error.NegotiationError.{NegotiationError}
-use Rattle.sasl_gate.specs.declared.gate.error.NegotiationError.TheVariants.{ScramError}
-use Rattle.sasl_gate.specs.declared.gate.server.ServerExchange.{ServerExchange}
-use Rattle.sasl_gate.specs.declared.gate.server.ServerExchange.TheVariants as server
-use Rattle.sasl_gate.specs.declared.scram.error.ScramErrorKind.TheVariants.{TextNotAllowed}
-use Rattle.sasl_gate.specs.AnyClient.{any_client_causes}
-use Rattle.sasl_gate.specs.AnyServer.{any_server_causes}
-use Rattle.sasl_gate.specs.ClientGate.{ClientEnd, IsScramCause, by_challenge, by_final, by_no_signature}
-use Rattle.sasl_gate.specs.Credentials.{Credentials, credentials_of}
-use Rattle.sasl_gate.specs.Credentials as own
+use Rattle.sasl_exchange.specs.declared.client.ClientExchange.{ClientExchange}
+use Rattle.sasl_exchange.specs.declared.client.ClientExchange.TheVariants as client
+use Rattle.sasl_exchange.specs.declared.error.NegotiationError.{NegotiationError}
+use Rattle.sasl_exchange.specs.declared.error.NegotiationError.TheVariants.{ScramError}
+use Rattle.sasl_exchange.specs.declared.server.ServerExchange.{ServerExchange}
+use Rattle.sasl_exchange.specs.declared.server.ServerExchange.TheVariants as server
+use Rattle.sasl_scram.specs.declared.error.ScramErrorKind.TheVariants.{TextNotAllowed}
+use Rattle.sasl_exchange.specs.AnyClient.{any_client_causes}
+use Rattle.sasl_exchange.specs.AnyServer.{any_server_causes}
+use Rattle.sasl_exchange.specs.ScramClient.{ClientEnd, IsScramCause, by_challenge, by_final, by_no_signature}
+use Rattle.sasl_exchange.specs.Credentials.{Credentials, credentials_of}
+use Rattle.sasl_exchange.specs.Credentials as own
 use Rattle.sasl_gate.specs.Negotiation.{IsCaused, at_link, at_header, at_frame, by_body, too_long}
-use Rattle.sasl_gate.specs.States.{Account}
+use Rattle.sasl_scram.specs.States.{Account}
 use Rattle.amqp_opening.specs.declared.authentication.Authentication.{Authentication}
 use Rattle.amqp_opening.specs.declared.authentication.Authentication.TheVariants.{Idle, Client, Listener}
 use Rattle.amqp_opening.specs.declared.authentication.SaslCall.{SaslCall}

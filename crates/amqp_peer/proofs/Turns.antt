@@ -12,7 +12,7 @@ use Rattle.amqp_engine.specs.Calls.{Steps}
 use Rattle.amqp_engine.specs.Outcomes.{Stepped as EngineStepped, HasClosed as EngineClosed}
 use Rattle.amqp_engine.specs.Phases.{is_stopped, has_failed}
 use Rattle.amqp_engine.specs.State.{State}
-use Rattle.sasl_gate.specs.declared.gate.error.NegotiationError.{NegotiationError}
+use Rattle.sasl_exchange.specs.declared.error.NegotiationError.{NegotiationError}
 use Rattle.amqp_opening.specs.declared.authentication.Authentication.{Authentication}
 use Rattle.amqp_opening.specs.declared.authentication.SaslCall.{SaslCall}
 use Rattle.amqp_opening.specs.declared.opening.OpeningPoll.{OpeningPoll}

@@ -13,8 +13,7 @@ use Rattle.amqp_transport.proofs.Streams.{joined_more}
 use Rattle.amqp_engine.specs.Sentence.{bytes_of_all}
 use Rattle.amqp_engine.specs.State.{State}
 use Rattle.amqp_engine.proofs.Said.{said_form}
-use Rattle.sasl_gate.specs.Frames.{Carries, HasSaslFrame, said, sasl_header}
-use Rattle.sasl_gate.specs.ScramBodies.{IsOnlySasl}
+use Rattle.sasl_gate.specs.Frames.{Carries, HasSaslFrame, said, sasl_header, IsOnlySasl}
 use Rattle.amqp_opening.specs.declared.authentication.Authentication.{Authentication}
 use Rattle.amqp_opening.specs.declared.authentication.SaslCall.{SaslCall}
 use Rattle.amqp_opening.specs.Authentication.{peer_mechanism}

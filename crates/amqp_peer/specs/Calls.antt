@@ -1,6 +1,6 @@
 -- Which calls may be made (docs/SPECIFICATION.md, "Valid steps").
 use Rattle.std.specs.Prelude.{ℕ, List, [], ◌∷◌, Option, Some, None}
-use Rattle.sasl_gate.specs.declared.gate.profile.SaslProfile.{SaslProfile}
+use Rattle.sasl_exchange.specs.declared.profile.SaslProfile.{SaslProfile}
 use Rattle.amqp_opening.specs.declared.acceptor.AcceptSasl.{AcceptSasl}
 use Rattle.amqp_opening.specs.declared.authentication.SaslCall.{SaslCall}
 use Rattle.amqp_opening.specs.Permission.{IsAllowedProfile, IsAllowedSasl, IsAllowedSaslCall}

@@ -25,9 +25,9 @@ use Rattle.amqp_engine.specs.Phases.{kind_of, IsInner}
 use Rattle.amqp_engine.specs.Sentence.{bytes_of_all, size_of_frame, AllWithin, read_limit, write_limit}
 use Rattle.amqp_engine.specs.Settings.{open_of}
 use Rattle.amqp_engine.specs.State.{open_frame, close_frame, IsFramed}
-use Rattle.sasl_gate.specs.declared.gate.error.NegotiationError.{NegotiationError}
-use Rattle.sasl_gate.specs.declared.gate.error.NegotiationError.TheVariants.{ScramError}
-use Rattle.sasl_gate.specs.declared.scram.error.ScramErrorKind.TheVariants.{TextNotAllowed}
+use Rattle.sasl_exchange.specs.declared.error.NegotiationError.{NegotiationError}
+use Rattle.sasl_exchange.specs.declared.error.NegotiationError.TheVariants.{ScramError}
+use Rattle.sasl_scram.specs.declared.error.ScramErrorKind.TheVariants.{TextNotAllowed}
 use Rattle.sasl_gate.specs.Frames.{Heard, HasSaslFrame, said}
 use Rattle.amqp_opening.specs.declared.authentication.Authentication.{Authentication}
 use Rattle.amqp_opening.specs.declared.authentication.SaslCall.{SaslCall}

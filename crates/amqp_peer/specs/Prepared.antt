@@ -6,7 +6,7 @@ use Rattle.amqp_engine.specs.declared.connection.EndKind.TheVariants.{Client, Li
 use Rattle.amqp_opening.specs.declared.acceptor.AcceptSasl.{AcceptSasl}
 use Rattle.amqp_opening.specs.declared.authentication.SaslCall.{SaslCall}
 use Rattle.amqp_opening.specs.declared.authentication.SaslCall.TheVariants as layer
-use Rattle.sasl_gate.specs.declared.gate.profile.SaslProfile.{SaslProfile}
+use Rattle.sasl_exchange.specs.declared.profile.SaslProfile.{SaslProfile}
 use Rattle.amqp_words.specs.declared.call.Call.{Call}
 use Rattle.amqp_words.specs.declared.call.Call.TheVariants as call
 use Rattle.amqp_words.specs.declared.call.ConnectionSettings.{ConnectionSettings}

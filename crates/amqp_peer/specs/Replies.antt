@@ -1,7 +1,7 @@
 -- Which replies calls may have.
 use Rattle.std.specs.Prelude.{◌≡◌, ◌⊎◌, ℕ, List, [], ◌∷◌}
-use Rattle.sasl_gate.specs.declared.gate.error.NegotiationError.TheVariants.{ScramError}
-use Rattle.sasl_gate.specs.declared.scram.error.ScramErrorKind.TheVariants.{TextNotAllowed}
+use Rattle.sasl_exchange.specs.declared.error.NegotiationError.TheVariants.{ScramError}
+use Rattle.sasl_scram.specs.declared.error.ScramErrorKind.TheVariants.{TextNotAllowed}
 use Rattle.amqp_words.specs.declared.open_error.OpenError.{OpenError}
 use Rattle.amqp_words.specs.declared.open_error.OpenError.TheVariants as failed
 use Rattle.amqp_words.specs.declared.call.Call.{Call}

@@ -14,7 +14,7 @@ use Rattle.amqp_words.specs.declared.open_error.OpenError.{OpenError}
 use Rattle.amqp_words.specs.declared.open_error.OpenError.TheVariants as failed
 use Rattle.amqp_words.specs.declared.reply.Reply.{Reply}
 use Rattle.amqp_words.specs.declared.reply.Reply.TheVariants as reply
-use Rattle.sasl_gate.specs.declared.gate.error.NegotiationError.{NegotiationError}
+use Rattle.sasl_exchange.specs.declared.error.NegotiationError.{NegotiationError}
 use Rattle.amqp_opening.specs.declared.authentication.Authentication.{Authentication}
 use Rattle.amqp_opening.specs.Opening.{Opened}
 use Rattle.amqp_words.specs.declared.call.Call.{Call}

@@ -84,7 +84,6 @@ impl From<AllocError> for PeerError {
 }
 
 /// One end over a link.
-#[derive(Drop)]
 pub struct Peer<L: Link> {
     held: Held<L>,
     kind: PeerKind,
@@ -94,6 +93,25 @@ pub struct Peer<L: Link> {
     replies: ReplyList,
     failed: bool,
     alloc: Global,
+}
+
+// An end is let go by a call, so that no caller sees what it holds.
+impl<L: Link> Drop for Peer<L> {
+    fn drop(self) {
+        let Peer {
+            held,
+            kind: _,
+            progress: _,
+            name: _,
+            fault,
+            replies,
+            failed: _,
+            alloc: _,
+        } = self;
+        drop(held);
+        drop(fault);
+        drop(replies);
+    }
 }
 
 impl<L: Link> Model for Peer<L> {

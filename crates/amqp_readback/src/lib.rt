@@ -11,6 +11,4 @@ pub use value::value_read_back;
 pub mod body;
 pub mod message;
 pub mod spelling_laws;
-#[cfg(test)]
-mod tests;
 pub mod value;

@@ -4,10 +4,10 @@ use Rattle.amqp_sasl_bodies.specs.SaslCode.{sasl_code_number}
 use Rattle.amqp_composites.specs.declared.error.Error.{Error}
 use Rattle.amqp_wire.specs.declared.link.IoKind.{IoKind}
 use Rattle.amqp_wire.specs.declared.link.IoKind.TheVariants as io
-use Rattle.sasl_gate.specs.declared.scram.error.ScramErrorKind.{ScramErrorKind}
-use Rattle.sasl_gate.specs.declared.scram.error.ScramErrorKind.TheVariants as scram
-use Rattle.sasl_gate.specs.declared.gate.error.NegotiationError.{NegotiationError}
-use Rattle.sasl_gate.specs.declared.gate.error.NegotiationError.TheVariants as negotiation
+use Rattle.sasl_scram.specs.declared.error.ScramErrorKind.{ScramErrorKind}
+use Rattle.sasl_scram.specs.declared.error.ScramErrorKind.TheVariants as scram
+use Rattle.sasl_exchange.specs.declared.error.NegotiationError.{NegotiationError}
+use Rattle.sasl_exchange.specs.declared.error.NegotiationError.TheVariants as negotiation
 use Rattle.amqp_transport.specs.declared.transport.Error.{Error as TransportError}
 use Rattle.amqp_transport.specs.declared.transport.Error.TheVariants as transport
 use Rattle.amqp_engine.specs.declared.error.Error.{Error as ConnectionError}

@@ -1,6 +1,6 @@
 -- What a line of a script says.
 use Rattle.std.specs.Prelude.{List, ℕ, [], ◌∷◌, ◌-◌, ◌^◌, if◌then◌else◌, Option, Some, None, option_map, option_and_then, codes, bytes_eq}
-use Rattle.sasl_gate.specs.declared.gate.profile.SaslProfile.{SaslProfile}
+use Rattle.sasl_exchange.specs.declared.profile.SaslProfile.{SaslProfile}
 use Rattle.amqp_words.specs.declared.call.ConnectionSettings.{ConnectionSettings}
 use Rattle.amqp_opening.specs.declared.acceptor.AcceptSasl.{AcceptSasl}
 use Rattle.amqp_words.specs.declared.call.Call.TheVariants.{Open, Accept, Close}

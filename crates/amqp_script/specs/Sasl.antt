@@ -1,9 +1,9 @@
 -- What a line says of the SASL layer.
 use Rattle.std.specs.Prelude.{List, ℕ, [], ◌∷◌, ◌-◌, ◌^◌, if◌then◌else◌, Option, Some, None, option_map, codes, bytes_eq}
-use Rattle.sasl_gate.specs.declared.gate.profile.SaslProfile.{SaslProfile}
-use Rattle.sasl_gate.specs.declared.gate.profile.SaslProfile.TheVariants as profile
-use Rattle.sasl_gate.specs.declared.scram.hash.ScramHash.{ScramHash}
-use Rattle.sasl_gate.specs.declared.scram.hash.ScramHash.TheVariants.{Sha1, Sha256, Sha512}
+use Rattle.sasl_exchange.specs.declared.profile.SaslProfile.{SaslProfile}
+use Rattle.sasl_exchange.specs.declared.profile.SaslProfile.TheVariants as profile
+use Rattle.sasl_scram.specs.declared.hash.ScramHash.{ScramHash}
+use Rattle.sasl_scram.specs.declared.hash.ScramHash.TheVariants.{Sha1, Sha256, Sha512}
 use Rattle.amqp_opening.specs.declared.acceptor.AcceptSasl.{AcceptSasl}
 use Rattle.amqp_opening.specs.declared.acceptor.AcceptSasl.TheVariants as acceptor
 use Rattle.amqp_opening.specs.Admission.{scram_acceptor}

@@ -2,11 +2,10 @@
 #![tactic(auto)]
 
 pub use binary::Binary;
-pub use symbol::{Symbol, SymbolList};
-pub use text::Text;
+pub use symbol::{Symbol, SymbolError, SymbolList};
+pub use text::{Text, TextError};
 
 pub mod binary;
+mod compared;
 pub mod symbol;
-#[cfg(test)]
-mod tests;
 pub mod text;

@@ -5,7 +5,8 @@ ghost use Rattle.amqp_text.specs.declared.text.TextError.TheVariants.{Memory, No
 
 use smallvec::SmallVec;
 use std::alloc::{AllocError, Global};
-use std::fmt::{self, Debug, Formatter};
+use std::convert::{AsSlice, AsStr};
+use std::fmt::{self, Debug, Display, Formatter};
 use std::marker::Model;
 use std::str;
 use thiserror::Error;
@@ -124,6 +125,13 @@ impl Text {
         self.bytes.len()
     }
 
+    /// Whether there are none.
+    pub fn is_empty(&self) -> bool
+        ensures { IsTrue result ↔ (self.now ≡ []) }
+    {
+        self.bytes.as_slice().is_empty()
+    }
+
     /// A copy; the one error is want of memory.
     pub fn try_clone(&self, alloc: Global) -> Result<Self, AllocError>
         ensures { IfOk result (λ t. t ≡ self.now) }
@@ -132,8 +140,34 @@ impl Text {
     }
 }
 
+impl AsStr for Text {
+    ghost text = { λ t. t };
+
+    fn as_str(&self) -> &str {
+        Text::as_str(self)
+    }
+}
+
+impl AsSlice<u8> for Text {
+    ghost items = { λ t. t };
+
+    fn as_slice(&self) -> &[u8] {
+        self.bytes.as_slice()
+    }
+}
+
 impl Debug for Text {
     fn fmt<W: fmt::Write>(&self, f: &mut Formatter<W>) -> fmt::Result {
-        self.as_str().fmt(f)
+        Debug::fmt(&self.as_str(), f)
+    }
+}
+
+impl Display for Text {
+    ghost use Rattle.std.specs.Prelude.{Some};
+
+    ghost output = { λ t. Some t };
+
+    fn fmt<W: fmt::Write>(&self, f: &mut Formatter<W>) -> fmt::Result {
+        Display::fmt(&self.as_str(), f)
     }
 }

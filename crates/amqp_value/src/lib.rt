@@ -17,12 +17,8 @@ pub mod error;
 pub mod laws;
 mod octets;
 pub mod payload;
-#[cfg(test)]
-mod payload_tests;
 pub mod reading;
 mod scalars;
 pub mod size;
-#[cfg(test)]
-mod tests;
 mod width;
 pub mod writing;

@@ -13,8 +13,6 @@ use std::alloc::Global;
 mod blocks;
 mod compounds;
 mod scalars;
-#[cfg(test)]
-mod tests;
 
 /// How deep a value that is read may be nested.
 const MAX_DEPTH: u8 = 32;

@@ -5,7 +5,7 @@ use sasl_gate::NegotiationError;
 use thiserror::Error;
 
 /// Why a connection is not opened.
-#[derive(Debug, Drop, Error)]
+#[derive(Debug, Error)]
 pub enum OpenError {
     /// The negotiation of headers and of the SASL layer failed (part 2, section 2.2; part 5, section 5.3).
     #[error("Negotiation")]
@@ -22,4 +22,16 @@ pub enum OpenError {
     /// Another frame than Open or Close came first.
     #[error("IllegalState")]
     IllegalState,
+}
+
+// The error is let go by a call, so that no caller sees the parts of what it tells.
+impl Drop for OpenError {
+    fn drop(self) {
+        match self {
+            OpenError::Negotiation(error) => drop(error),
+            OpenError::TransportError(error) => drop(error),
+            OpenError::RemoteClosedWithError(error) => drop(error),
+            OpenError::RemoteClosed | OpenError::IllegalState => {}
+        }
+    }
 }

@@ -7,7 +7,7 @@ use std::alloc::{AllocError, Global};
 use std::marker::Model;
 
 /// The answer to a call.
-#[derive(Debug, Drop)]
+#[derive(Debug)]
 pub enum Reply {
     /// Not yet; another answer may follow in a later step.
     Pending,
@@ -21,6 +21,17 @@ pub enum Reply {
     ConnectionError(ConnectionError),
 }
 
+// An answer is let go by a call, so that no caller sees the parts of errors.
+impl Drop for Reply {
+    fn drop(self) {
+        match self {
+            Reply::Pending | Reply::Connection | Reply::Closed => {}
+            Reply::OpenError(error) => drop(error),
+            Reply::ConnectionError(error) => drop(error),
+        }
+    }
+}
+
 /// The answer to the call of a name.
 #[derive(Debug, Drop)]
 pub struct NamedReply {
@@ -31,9 +42,17 @@ pub struct NamedReply {
 }
 
 /// Answers in the order in which they came, seen as the list of them.
-#[derive(Debug, Drop)]
+#[derive(Debug)]
 pub struct ReplyList {
     replies: Vec<NamedReply>,
+}
+
+// The list is let go by a call, so that no caller sees what it holds.
+impl Drop for ReplyList {
+    fn drop(self) {
+        let ReplyList { replies } = self;
+        drop(replies);
+    }
 }
 
 impl Model for ReplyList {

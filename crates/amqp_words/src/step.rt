@@ -26,7 +26,7 @@ pub enum Act {
 }
 
 /// A step of one end.
-#[derive(Debug, Drop)]
+#[derive(Debug)]
 pub struct Step {
     /// The end.
     pub end: End,
@@ -34,6 +34,14 @@ pub struct Step {
     pub at: u64,
     /// What is done.
     pub act: Act,
+}
+
+// A step is let go by a call, so that no caller sees the parts of its act.
+impl Drop for Step {
+    fn drop(self) {
+        let Step { end: _, at: _, act } = self;
+        drop(act);
+    }
 }
 
 impl Act {
@@ -67,9 +75,17 @@ impl Step {
 }
 
 /// Steps in order, seen as the list of them.
-#[derive(Debug, Drop)]
+#[derive(Debug)]
 pub struct StepList {
     steps: Vec<Step>,
+}
+
+// The list is let go by a call, so that no caller sees what it holds.
+impl Drop for StepList {
+    fn drop(self) {
+        let StepList { steps } = self;
+        drop(steps);
+    }
 }
 
 impl Model for StepList {

@@ -7,7 +7,7 @@ use std::alloc::{AllocError, Global};
 use std::marker::Model;
 
 /// What one step came to.
-#[derive(Debug, Drop)]
+#[derive(Debug)]
 pub struct Entry {
     /// The answers that the step brought, in the order in which they came.
     pub replies: ReplyList,
@@ -15,10 +15,27 @@ pub struct Entry {
     pub wrote: Binary,
 }
 
+// An entry is let go by a call, so that no caller sees its parts.
+impl Drop for Entry {
+    fn drop(self) {
+        let Entry { replies, wrote } = self;
+        drop(replies);
+        drop(wrote);
+    }
+}
+
 /// Entries in order, seen as the list of them.
-#[derive(Debug, Drop)]
+#[derive(Debug)]
 pub struct EntryList {
     entries: Vec<Entry>,
+}
+
+// The list is let go by a call, so that no caller sees what it holds.
+impl Drop for EntryList {
+    fn drop(self) {
+        let EntryList { entries } = self;
+        drop(entries);
+    }
 }
 
 impl Model for EntryList {

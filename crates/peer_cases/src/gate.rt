@@ -1,7 +1,7 @@
 //! The gates that calls ask for.
 ghost use Rattle.std.specs.Prelude.{IfOk};
-ghost use Rattle.sasl_gate.specs.AnyServer.{HasMechanism};
-ghost use Rattle.sasl_gate.specs.Profile.{IsNonce};
+ghost use Rattle.sasl_exchange.specs.AnyServer.{HasMechanism};
+ghost use Rattle.sasl_scram.specs.Profile.{IsNonce};
 
 use crate::error::CaseError;
 use amqp_opening::permission::is_allowed_profile;
@@ -9,7 +9,7 @@ use amqp_text::{Binary, Text};
 use amqp_wire::codec::FramedCodec;
 use amqp_wire::faulty_pipe::FaultyPipe;
 use amqp_words::AcceptSasl;
-use sasl_gate::scram::profile::is_nonce;
+use sasl_scram::profile::is_nonce;
 use sasl_gate::{
     ClientGate, OneUser, SaslAcceptor, SaslProfile, ScramHash, ServerGate, StoredPassword,
 };

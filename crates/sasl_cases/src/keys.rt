@@ -8,7 +8,7 @@ ghost use Rattle.std.specs.Prelude.{◌≤◌, length};
 use crate::error::CaseError;
 use case_files::read_bytes;
 use kdf_core::{HashFn, Hmac, Prf, Sha1Fn, Sha256Fn, Sha512Fn, pbkdf2_hmac};
-use sasl_gate::ScramHash;
+use sasl_scram::ScramHash;
 use std::alloc::Global;
 
 const LONGEST_KEY: u16 = 4096;

@@ -9,8 +9,8 @@ use crate::error::CaseError;
 use crate::keys::read_hash;
 use amqp_text::Text;
 use case_files::read_bytes;
-use sasl_gate::scram::profile::is_nonce;
-use sasl_gate::{AnyScramClient, AnyScramServer, OneUser, ScramErrorKind, ScramHash, StoredPassword};
+use sasl_scram::profile::is_nonce;
+use sasl_scram::{AnyScramClient, AnyScramServer, OneUser, ScramErrorKind, ScramHash, StoredPassword};
 use std::alloc::{AllocError, Global};
 use std::str;
 

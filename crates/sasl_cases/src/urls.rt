@@ -1,6 +1,6 @@
 //! What a client authenticates with by a URL: `URL => plain USER PASSWORD`, in hexadecimal, or `URL => none`.
 use crate::error::CaseError;
-use sasl_gate::SaslProfile;
+use sasl_exchange::SaslProfile;
 use std::alloc::Global;
 use url::Url;
 

@@ -1,288 +1,52 @@
--- The client's end with SCRAM: what it reads, and what it passes on.
-use Rattle.std.proofs.Common.{◌≡◌, ◌≢◌, ◌<◌, ◌≤◌, inl, inr, arith, ℕ, List, [], ◌∷◌, ◌++◌, length, Option, Some, None, Result, Ok, Err, refl, sym, ap, ◌∙◌, subst}
+-- The client's gate: what it wrote, and what it passes on.
+use Rattle.std.proofs.Common.{◌≡◌, ℕ, List, [], ◌∷◌, ◌++◌, Option, Result, refl, sym, ap, ◌∙◌, subst}
 use Rattle.std.proofs.lemmas.List.{append-nil}
-use Rattle.std.specs.Prelude.{⊤}
 use Rattle.std.specs.declared.alloc.AllocError.{AllocError}
 use Rattle.amqp_sasl_bodies.specs.declared.sasl_body.SaslBody.{SaslBody}
-use Rattle.amqp_sasl_bodies.specs.declared.sasl_body.SaslBody.TheVariants.{Outcome}
-use Rattle.amqp_sasl_bodies.specs.declared.sasl.SaslOutcome.{SaslOutcome}
-use Rattle.amqp_sasl_bodies.specs.declared.sasl_code.SaslCode.{SaslCode}
-use Rattle.amqp_sasl_bodies.specs.declared.sasl_code.SaslCode.TheVariants as sasl
+use Rattle.amqp_wire.specs.declared.link.Link.{Ghosts}
 use Rattle.amqp_wire.specs.Events.{LinkEvent, read_of, wrote_of}
-use Rattle.sasl_gate.specs.declared.gate.scram_client.ClientStage.{ClientStage}
-use Rattle.sasl_gate.specs.declared.gate.scram_client.ClientStage.TheVariants.{AwaitsMechanisms, OwesInit, AwaitsChallenge, OwesResponse, AwaitsOutcome, OwesEmptyResponse, AwaitsEnd, Passed}
-use Rattle.sasl_gate.specs.declared.gate.error.NegotiationError.{NegotiationError}
-use Rattle.sasl_gate.specs.declared.gate.error.NegotiationError.TheVariants.{SaslError, ScramError}
-use Rattle.sasl_gate.specs.declared.gate.exchange.Turn.{Turn}
-use Rattle.sasl_gate.specs.declared.gate.exchange.Turn.TheVariants.{Send, Receive, Refuse, Pass}
-use Rattle.sasl_gate.specs.declared.gate.exchange.Verdict.{Verdict}
-use Rattle.sasl_gate.specs.declared.gate.exchange.Verdict.TheVariants.{Taken, Refused}
-use Rattle.sasl_gate.specs.declared.scram.client.ClientPhase.{ClientPhase}
-use Rattle.sasl_gate.specs.declared.scram.client.ClientPhase.TheVariants.{Unanswered, Answered, Verified}
-use Rattle.sasl_gate.specs.declared.scram.error.ScramErrorKind.{ScramErrorKind}
-use Rattle.sasl_gate.specs.declared.scram.error.ScramErrorKind.TheVariants.{Signature}
-use Rattle.sasl_gate.specs.declared.scram.hash.ScramHash.{ScramHash}
-use Rattle.sasl_gate.specs.Check.{ClientAnswers, ClientCheck}
-use Rattle.sasl_gate.specs.ClientEnds.{HasMechanisms}
-use Rattle.sasl_gate.specs.ClientGate.{ClientEnd, turn_in, left_in, client_init, client_causes, owes_in, client_owes, holds_in, client_holds, IsTextAnswer, HasAnswer, HasChecked, HasPassed, IsFinal, in_outcome, in_challenge, ClientSame, HasFinal, IsScramCause, by_challenge, by_final, by_no_signature, client_mechanism, ClientPassed, HasClientPassed}
+use Rattle.sasl_scram.specs.declared.error.ScramErrorKind.{ScramErrorKind}
+use Rattle.sasl_scram.specs.declared.error.ScramErrorKind.TheVariants.{Memory, TextNotAllowed, Malformed, NonceMismatch, Iterations, Base64, Signature, UserUnknown, ProofMismatch}
+use Rattle.sasl_scram.specs.declared.hash.ScramHash.{ScramHash}
+use Rattle.sasl_scram.specs.Refusals.{IsTextRefusal}
+use Rattle.sasl_exchange.specs.declared.client.ClientExchange.{ClientExchange}
+use Rattle.sasl_exchange.specs.declared.client.ClientExchange.TheVariants.{Scram, Init}
+use Rattle.sasl_exchange.specs.declared.error.NegotiationError.{NegotiationError}
+use Rattle.sasl_exchange.specs.declared.error.NegotiationError.TheVariants.{ScramError}
+use Rattle.sasl_exchange.specs.AnyClient.{any_client_same, any_client_mechanism, any_client_begun}
+use Rattle.sasl_exchange.specs.Credentials.{Credentials, anonymous, plain, scram}
+use Rattle.sasl_exchange.specs.InitClient.{InitClientEnd, own_init, HasPassed as HasInitPassed, InitClientSame, init_client_mechanism}
+use Rattle.sasl_exchange.specs.ScramBodies.{response_body}
+use Rattle.sasl_exchange.specs.ScramClient.{ClientEnd, client_init, HasPassed, ClientSame, client_mechanism}
+use Rattle.sasl_exchange.proofs.InitClients.{init_client_passes}
+use Rattle.sasl_exchange.proofs.ScramClients.{client_passes}
+use Rattle.sasl_gate.specs.declared.gate.negotiation.GatePoll.{GatePoll}
+use Rattle.sasl_gate.specs.ClientGate.{ClientPassed, HasClientPassed, InitClientPassed, IsStartRefusal, HasAnyClientPassed, AnyClientPassed, ClientPolled}
 use Rattle.sasl_gate.specs.Frames.{Heard, said}
-use Rattle.sasl_gate.specs.Hashes.{digest_of, block_of, output_of, mechanism_of}
-use Rattle.sasl_gate.specs.Refusals.{IsServerFirstRefusal, IsServerFinalRefusal}
-use Rattle.sasl_gate.specs.ScramBodies.{challenge_body, outcome_body, response_body, Received}
-use Rattle.sasl_gate.specs.States.{ForAnswered, client_verified}
-use Rattle.sasl_gate.specs.Texts.{client_first_of}
-use Rattle.sasl_gate.proofs.Gates.{Whole}
+use Rattle.sasl_gate.specs.Negotiation.{Negotiating, Has, IsPassed, IsPollAnswer, Polled}
+use Rattle.sasl_gate.proofs.Gates.{only_sasl, Whole, passed_whole}
 
--- ---- how many bodies a client sends
+-- ---- gates that are not made
 
-few_answered : (p : ClientPhase) (x : ClientEnd) (text : List ℕ) (given sent : List SaslBody)
-    → ForAnswered p (λ a. (a.client_final ≡ text) × HasAnswer x a given sent (client_init x ∷ [])) → length sent ≤ 3
-few_answered Unanswered x text given sent h = absurd h
-few_answered (Answered a) x text given sent h = let e = ap (λ (u : List SaslBody). length u) h.1.sent_is in omega (arith, e)
-few_answered Verified x text given sent h = absurd h
+-- a refused text, as an error of a gate
+pub start_refused : (Allowed : Type 0) (kind : ScramErrorKind) → ((a : AllocError) → kind ≡ Memory a → ⊥) → IsTextRefusal Allowed kind → IsStartRefusal Allowed (ScramError kind)
+start_refused Allowed (Memory a) other r = absurd (other a refl)
+start_refused Allowed TextNotAllowed other r = (refl, r)
+start_refused Allowed Malformed other r = absurd r
+start_refused Allowed NonceMismatch other r = absurd r
+start_refused Allowed Iterations other r = absurd r
+start_refused Allowed Base64 other r = absurd r
+start_refused Allowed Signature other r = absurd r
+start_refused Allowed UserUnknown other r = absurd r
+start_refused Allowed ProofMismatch other r = absurd r
 
-few_sent : (p : ClientPhase) (x : ClientEnd) (given sent : List SaslBody)
-    → ForAnswered p (λ a. HasAnswer x a given sent (client_init x ∷ response_body a.client_final ∷ [])) → length sent ≤ 3
-few_sent Unanswered x given sent h = absurd h
-few_sent (Answered a) x given sent h = let e = ap (λ (u : List SaslBody). length u) h.sent_is in omega (arith, e)
-few_sent Verified x given sent h = absurd h
-
-few_replied : (server_final : List ℕ) (told replied : List SaslBody) → IsFinal server_final told replied → length replied ≤ 1
-few_replied server_final told replied (in_outcome t r) = let e = ap (λ (u : List SaslBody). length u) r in omega (arith, e)
-few_replied server_final told replied (in_challenge payload t r) = let e = ap (λ (u : List SaslBody). length u) r in omega (arith, e)
-
-few_in : (stage : ClientStage) (x : ClientEnd) (given sent : List SaslBody) → holds_in stage x given sent → length sent ≤ 3
-few_in AwaitsMechanisms x given sent h = let e = ap (λ (u : List SaslBody). length u) h.1 in omega (arith, e)
-few_in OwesInit x given sent h = let e = ap (λ (u : List SaslBody). length u) h.sent_is in omega (arith, e)
-few_in AwaitsChallenge x given sent h = let e = ap (λ (u : List SaslBody). length u) h.sent_is in omega (arith, e)
-few_in (OwesResponse text) x given sent h = few_answered x.client.phase x text given sent h
-few_in AwaitsOutcome x given sent h = few_sent x.client.phase x given sent h
-few_in OwesEmptyResponse x given sent h = let e = ap (λ (u : List SaslBody). length u) h.sent_is in omega (arith, e)
-few_in AwaitsEnd x given sent h = let e = ap (λ (u : List SaslBody). length u) h.sent_is in omega (arith, e)
-few_in Passed x given sent h =
-    let few : length h.replied ≤ 1 = few_replied h.server_final h.told h.replied h.final in
-    let e = ap (λ (u : List SaslBody). length u) h.sent_is in omega (arith, e, few)
-
--- a client sends three bodies at most
-pub client_few : (x : ClientEnd) (given sent : List SaslBody) → client_holds x given sent → length sent ≤ 3
-client_few x given sent h = few_in x.stage x given sent h
-
--- ---- bodies that a client reads
-
--- an outcome other than `Ok`
-pub received_refusal : (x : ClientEnd) (o : SaslOutcome) → o.code ≢ sasl.Ok → Received client_mechanism x (Outcome o) (Ok (Refused (SaslError o.code o.additional_data))) x
-received_refusal x o ne = record { taken = tt; less = tt; same = tt; refused = λ given sent h. (given, refl, ne); kept = refl; err = tt }
-
--- an outcome by its parts
-pub received_outcome : (x new : ClientEnd) (o : SaslOutcome) (payload : Option (List ℕ)) (result : Result Verdict AllocError) → o.code ≡ sasl.Ok → o.additional_data ≡ payload
-    → Received client_mechanism x (outcome_body sasl.Ok payload) result new → Received client_mechanism x (Outcome o) result new
-received_outcome x new o payload result e f r =
-    subst (λ (d : Option (List ℕ)). Received client_mechanism x (outcome_body o.code d) result new) (sym f)
-    (subst (λ (k : SaslCode). Received client_mechanism x (outcome_body k payload) result new) (sym e) r)
-
--- a server first that is refused, or for which memory was wanting
-pub received_challenge : (x : ClientEnd) (text : List ℕ) (kind : ScramErrorKind) (result : Result Verdict AllocError) → x.stage ≡ AwaitsChallenge
-    → IsServerFirstRefusal x.client.nonce text kind → IsTextAnswer kind result → Received client_mechanism x (challenge_body text) result x
-received_challenge x text kind (Ok Taken) stage r answer = absurd answer
-received_challenge x text kind (Ok (Refused e)) stage r answer = record {
-  taken = tt;
-  less = tt;
-  same = tt;
-  kept = refl;
-  err = tt;
-  refused = λ given sent h.
-      let k : HasMechanisms (mechanism_of x.hash) given sent (client_init x ∷ []) = subst (λ (s : ClientStage). holds_in s x given sent) stage h in
-      subst (λ (e : NegotiationError). client_causes x e (given ++ challenge_body text ∷ []) sent) (sym answer.0)
-      (by_challenge k.names text (ap (λ (u : List SaslBody). u ++ challenge_body text ∷ []) k.given_is) answer.1 r);
-}
-received_challenge x text kind (Err e) stage r answer = record { taken = tt; less = tt; same = tt; refused = tt; kept = tt; err = refl }
-
-no_signature_in : (p : ClientPhase) (x : ClientEnd) (given sent : List SaslBody) → ForAnswered p (λ a. HasAnswer x a given sent (client_init x ∷ response_body a.client_final ∷ []))
-    → IsScramCause x Signature (given ++ outcome_body sasl.Ok None ∷ []) sent
-no_signature_in Unanswered x given sent h = absurd h
-no_signature_in (Answered a) x given sent h = by_no_signature h.names a.server_first (ap (λ (u : List SaslBody). u ++ outcome_body sasl.Ok None ∷ []) h.given_is) refl
-no_signature_in Verified x given sent h = absurd h
-
--- outcome `Ok` without a signature
-pub received_no_signature : (x : ClientEnd) → x.stage ≡ AwaitsOutcome → Received client_mechanism x (outcome_body sasl.Ok None) (Ok (Refused (ScramError Signature))) x
-received_no_signature x stage = record {
-  taken = tt;
-  less = tt;
-  same = tt;
-  kept = refl;
-  err = tt;
-  refused = λ given sent h. no_signature_in x.client.phase x given sent (subst (λ (s : ClientStage). holds_in s x given sent) stage h);
-}
-
-refused_final_in : (p : ClientPhase) (x : ClientEnd) (text : List ℕ) (body : SaslBody) (kind : ScramErrorKind) (given sent : List SaslBody) → HasFinal text body
-    → ForAnswered p (λ a. ClientAnswers (digest_of x.hash) (block_of x.hash) (output_of x.hash) x.client.user x.client.password x.client.nonce a.server_first a.client_final a.signature × IsServerFinalRefusal (output_of x.hash) a.signature text kind)
-    → ForAnswered p (λ a. HasAnswer x a given sent (client_init x ∷ response_body a.client_final ∷ []))
-    → IsScramCause x kind (given ++ body ∷ []) sent
-refused_final_in Unanswered x text body kind given sent f r h = absurd h
-refused_final_in (Answered a) x text body kind given sent f r h =
-    by_final h.names a.server_first a.client_final a.signature text body f (ap (λ (u : List SaslBody). u ++ body ∷ []) h.given_is) h.sent_is r.0 r.1
-refused_final_in Verified x text body kind given sent f r h = absurd h
-
--- a server final that is refused, in either body
-pub received_final_refused : (x : ClientEnd) (text : List ℕ) (body : SaslBody) (kind : ScramErrorKind) → HasFinal text body → x.stage ≡ AwaitsOutcome
-    → ForAnswered x.client.phase (λ a. ClientAnswers (digest_of x.hash) (block_of x.hash) (output_of x.hash) x.client.user x.client.password x.client.nonce a.server_first a.client_final a.signature × IsServerFinalRefusal (output_of x.hash) a.signature text kind)
-    → Received client_mechanism x body (Ok (Refused (ScramError kind))) x
-received_final_refused x text body kind f stage r = record {
-  taken = tt;
-  less = tt;
-  same = tt;
-  kept = refl;
-  err = tt;
-  refused = λ given sent h. refused_final_in x.client.phase x text body kind given sent f r (subst (λ (s : ClientStage). holds_in s x given sent) stage h);
-}
-
--- the fact that the server final was the one that was waited for
-abbrev HasCheck : ClientEnd → List ℕ → Type 0
-HasCheck x text = ForAnswered x.client.phase (λ a.
-    ClientCheck (digest_of x.hash) (block_of x.hash) (output_of x.hash) x.client.user x.client.password x.client.nonce (client_first_of x.client.user x.client.nonce) a.server_first a.client_final text)
-
--- the end after the server final
-abbrev verified : ClientEnd → ClientStage → ClientEnd
-verified x stage = record { hash = x.hash; client = client_verified x.client; stage = stage; hostname = x.hostname }
-
-checked_in : (p : ClientPhase) (x : ClientEnd) (text : List ℕ) (stage : ClientStage) (given sent : List SaslBody)
-    → ForAnswered p (λ a. ClientCheck (digest_of x.hash) (block_of x.hash) (output_of x.hash) x.client.user x.client.password x.client.nonce (client_first_of x.client.user x.client.nonce) a.server_first a.client_final text)
-    → ForAnswered p (λ a. HasAnswer x a given sent (client_init x ∷ response_body a.client_final ∷ []))
-    → HasChecked (verified x stage) [] (given ++ challenge_body text ∷ []) sent
-checked_in Unanswered x text stage given sent check h = absurd h
-checked_in (Answered a) x text stage given sent check h = record {
-  names = h.names;
-  server_first = a.server_first;
-  client_final = a.client_final;
-  server_final = text;
-  given_is = ap (λ (u : List SaslBody). u ++ challenge_body text ∷ []) h.given_is;
-  listed = h.listed;
-  sent_is = h.sent_is;
-  check = check;
-}
-checked_in Verified x text stage given sent check h = absurd h
-
-passed_in : (p : ClientPhase) (x : ClientEnd) (text : List ℕ) (stage : ClientStage) (given sent : List SaslBody)
-    → ForAnswered p (λ a. ClientCheck (digest_of x.hash) (block_of x.hash) (output_of x.hash) x.client.user x.client.password x.client.nonce (client_first_of x.client.user x.client.nonce) a.server_first a.client_final text)
-    → ForAnswered p (λ a. HasAnswer x a given sent (client_init x ∷ response_body a.client_final ∷ []))
-    → HasPassed (verified x stage) (given ++ outcome_body sasl.Ok (Some text) ∷ []) sent
-passed_in Unanswered x text stage given sent check h = absurd h
-passed_in (Answered a) x text stage given sent check h = record {
-  names = h.names;
-  server_first = a.server_first;
-  client_final = a.client_final;
-  server_final = text;
-  told = outcome_body sasl.Ok (Some text) ∷ [];
-  replied = [];
-  given_is = ap (λ (u : List SaslBody). u ++ outcome_body sasl.Ok (Some text) ∷ []) h.given_is;
-  sent_is = h.sent_is;
-  final = in_outcome refl refl;
-  listed = h.listed;
-  check = check;
-}
-passed_in Verified x text stage given sent check h = absurd h
-
-less_final : (stage : ClientStage) → stage ≡ AwaitsOutcome → 0 < left_in stage
-less_final stage e = subst (λ (s : ClientStage). 0 < left_in s) (sym e) (omega arith)
-
--- outcome `Ok` with the server final that was waited for
-pub received_final : (x : ClientEnd) (text : List ℕ) → x.stage ≡ AwaitsOutcome → HasCheck x text
-    → Received client_mechanism x (outcome_body sasl.Ok (Some text)) (Ok Taken) (verified x Passed)
-received_final x text stage check = record {
-  taken = λ given sent h. passed_in x.client.phase x text Passed given sent check (subst (λ (s : ClientStage). holds_in s x given sent) stage h);
-  less = less_final x.stage stage;
-  same = record { hash = refl; user = refl; password = refl; nonce = refl; hostname = refl };
-  refused = tt;
-  kept = tt;
-  err = tt;
-}
-
-less_checked : (stage : ClientStage) → stage ≡ AwaitsOutcome → 2 < left_in stage
-less_checked stage e = subst (λ (s : ClientStage). 2 < left_in s) (sym e) (omega arith)
-
--- a challenge with the server final that was waited for
-pub received_checked : (x : ClientEnd) (text : List ℕ) → x.stage ≡ AwaitsOutcome → HasCheck x text
-    → Received client_mechanism x (challenge_body text) (Ok Taken) (verified x OwesEmptyResponse)
-received_checked x text stage check = record {
-  taken = λ given sent h. checked_in x.client.phase x text OwesEmptyResponse given sent check (subst (λ (s : ClientStage). holds_in s x given sent) stage h);
-  less = less_checked x.stage stage;
-  same = record { hash = refl; user = refl; password = refl; nonce = refl; hostname = refl };
-  refused = tt;
-  kept = tt;
-  err = tt;
-}
-
-less_end : (stage : ClientStage) → stage ≡ AwaitsEnd → 0 < left_in stage
-less_end stage e = subst (λ (s : ClientStage). 0 < left_in s) (sym e) (omega arith)
-
-ended : (x : ClientEnd) (o : SaslOutcome) (given sent : List SaslBody) → o.code ≡ sasl.Ok → HasChecked x (response_body [] ∷ []) given sent
-    → HasPassed (record x { stage = Passed }) (given ++ Outcome o ∷ []) sent
-ended x o given sent ok h = record {
-  names = h.names;
-  server_first = h.server_first;
-  client_final = h.client_final;
-  server_final = h.server_final;
-  told = challenge_body h.server_final ∷ Outcome o ∷ [];
-  replied = response_body [] ∷ [];
-  given_is = ap (λ (u : List SaslBody). u ++ Outcome o ∷ []) h.given_is;
-  sent_is = h.sent_is;
-  final = in_challenge o.additional_data (ap (λ (code : SaslCode). challenge_body h.server_final ∷ outcome_body code o.additional_data ∷ []) ok) refl;
-  listed = h.listed;
-  check = h.check;
-}
-
--- outcome `Ok` after the empty response
-pub received_end : (x : ClientEnd) (o : SaslOutcome) → x.stage ≡ AwaitsEnd → o.code ≡ sasl.Ok
-    → Received client_mechanism x (Outcome o) (Ok Taken) (record x { stage = Passed })
-received_end x o stage ok = record {
-  taken = λ given sent h. ended x o given sent ok (subst (λ (s : ClientStage). holds_in s x given sent) stage h);
-  less = less_end x.stage stage;
-  same = record { hash = refl; user = refl; password = refl; nonce = refl; hostname = refl };
-  refused = tt;
-  kept = tt;
-  err = tt;
-}
-
--- the empty response was sent
-pub sent_empty : (x : ClientEnd) → x.stage ≡ OwesEmptyResponse → (body : SaslBody) (given sent : List SaslBody) → client_owes x body → client_holds x given sent
-    → HasChecked (record x { stage = AwaitsEnd }) (response_body [] ∷ []) given (sent ++ body ∷ [])
-sent_empty x stage body given sent owed held =
-    let h : HasChecked x [] given sent = subst (λ (s : ClientStage). holds_in s x given sent) stage held in
-    let told : body ≡ response_body [] = subst (λ (s : ClientStage). owes_in s x body) stage owed in
-    record {
-      names = h.names;
-      server_first = h.server_first;
-      client_final = h.client_final;
-      server_final = h.server_final;
-      given_is = h.given_is;
-      listed = h.listed;
-      sent_is = ap (λ (u : List SaslBody). u ++ body ∷ []) h.sent_is ∙ ap (λ (b : SaslBody). client_init x ∷ response_body h.client_final ∷ b ∷ []) told;
-      check = h.check;
-    }
-
--- ---- an end that has passed
-
-abbrev Passes : Turn → Type 0
-Passes Send = ⊥
-Passes Receive = ⊥
-Passes (Refuse code) = ⊥
-Passes Pass = ⊤
-
-passed_stage : (stage : ClientStage) (x : ClientEnd) (given sent : List SaslBody) → Passes (turn_in stage) → holds_in stage x given sent → HasPassed x given sent
-passed_stage AwaitsMechanisms x given sent t h = absurd t
-passed_stage OwesInit x given sent t h = absurd t
-passed_stage AwaitsChallenge x given sent t h = absurd t
-passed_stage (OwesResponse text) x given sent t h = absurd t
-passed_stage AwaitsOutcome x given sent t h = absurd t
-passed_stage OwesEmptyResponse x given sent t h = absurd t
-passed_stage AwaitsEnd x given sent t h = absurd t
-passed_stage Passed x given sent t h = h
+-- ---- with SCRAM
 
 -- the exchange is whole, and its check holds
 pub client_passed : (x : ClientEnd) (rest wrote read : List ℕ) → Whole client_mechanism x rest wrote read
     → ClientPassed x.hash x.client.user x.client.password x.client.nonce x.hostname wrote read
 client_passed x rest wrote read w =
-    let k : HasPassed x w.given w.sent = passed_stage x.stage x w.given w.sent (subst Passes (sym w.turn) tt) w.held in
+    let k : HasPassed x w.given w.sent = client_passes x w.given w.sent w.turn w.held in
     record {
       names = k.names;
       server_first = k.server_first;
@@ -299,10 +63,74 @@ client_passed x rest wrote read w =
       check = k.check;
     }
 
-pub passed_same : (x y : ClientEnd) (events : List LinkEvent) → ClientSame x y → HasClientPassed y events → HasClientPassed x events
-passed_same x y events s h =
+client_same : (x y : ClientEnd) (events : List LinkEvent) → ClientSame x y → HasClientPassed y events → HasClientPassed x events
+client_same x y events s h =
     subst (λ (k : ScramHash). ClientPassed k x.client.user x.client.password x.client.nonce x.hostname (wrote_of events) (read_of events)) (sym s.hash)
     (subst (λ (u : List ℕ). ClientPassed y.hash u x.client.password x.client.nonce x.hostname (wrote_of events) (read_of events)) (sym s.user)
     (subst (λ (u : List ℕ). ClientPassed y.hash y.client.user u x.client.nonce x.hostname (wrote_of events) (read_of events)) (sym s.password)
     (subst (λ (u : List ℕ). ClientPassed y.hash y.client.user y.client.password u x.hostname (wrote_of events) (read_of events)) (sym s.nonce)
     (subst (λ (u : Option (List ℕ)). ClientPassed y.hash y.client.user y.client.password y.client.nonce u (wrote_of events) (read_of events)) (sym s.hostname) h))))
+
+-- ---- with a mechanism whose client says all in its init
+
+-- the exchange is whole
+pub init_client_passed : (x : InitClientEnd) (rest wrote read : List ℕ) → Whole init_client_mechanism x rest wrote read
+    → InitClientPassed x.mechanism x.response x.hostname wrote read
+init_client_passed x rest wrote read w =
+    let k : HasInitPassed x w.given w.sent = init_client_passes x w.given w.sent w.turn w.held in
+    record {
+      names = k.names;
+      payload = k.payload;
+      more = [];
+      rest = rest;
+      wrote_is = w.wrote_is ∙ ap said k.sent_is ∙ sym (append-nil (said (own_init x ∷ [])));
+      read_is = subst (λ (u : List SaslBody). Heard read u rest) k.given_is w.heard;
+      listed = k.listed;
+    }
+
+init_client_same : (x y : InitClientEnd) (wrote read : List ℕ) → InitClientSame x y → InitClientPassed y.mechanism y.response y.hostname wrote read
+    → InitClientPassed x.mechanism x.response x.hostname wrote read
+init_client_same x y wrote read s h =
+    subst (λ (u : List ℕ). InitClientPassed u x.response x.hostname wrote read) (sym s.mechanism)
+    (subst (λ (u : Option (List ℕ)). InitClientPassed y.mechanism u x.hostname wrote read) (sym s.response)
+    (subst (λ (u : Option (List ℕ)). InitClientPassed y.mechanism y.response u wrote read) (sym s.hostname) h))
+
+-- ---- with any of the mechanisms
+
+any_passed : (x : ClientExchange) (rest : List ℕ) (events : List LinkEvent) → Whole any_client_mechanism x rest (wrote_of events) (read_of events) → HasAnyClientPassed x events
+any_passed (Scram x) rest events w = client_passed x rest (wrote_of events) (read_of events)
+    (record { given = w.given; sent = w.sent; heard = w.heard; wrote_is = w.wrote_is; held = w.held; turn = w.turn })
+any_passed (Init x) rest events w = init_client_passed x rest (wrote_of events) (read_of events)
+    (record { given = w.given; sent = w.sent; heard = w.heard; wrote_is = w.wrote_is; held = w.held; turn = w.turn })
+
+any_same : (x y : ClientExchange) (events : List LinkEvent) → any_client_same x y → HasAnyClientPassed y events → HasAnyClientPassed x events
+any_same (Scram x) (Scram y) events s h = client_same x y events s h
+any_same (Scram x) (Init y) events s h = absurd s
+any_same (Init x) (Scram y) events s h = absurd s
+any_same (Init x) (Init y) events s h = init_client_same x y (wrote_of events) (read_of events) s h
+
+-- a gate that passed: the exchange is whole, and its check holds
+pub any_client_passed : {L : Type 0} (n : Negotiating L ClientExchange) (events : List LinkEvent) → Has any_client_mechanism n events → IsPassed any_client_mechanism n
+    → HasAnyClientPassed n.exchange events
+any_client_passed n events h passed = any_passed n.exchange n.codec.input events (passed_whole any_client_mechanism n events h passed)
+
+-- what a poll says of the whole history
+pub client_polled : {L : Type 0} (link : Ghosts L) (old : Negotiating L ClientExchange) (left : ℕ) (result : Result GatePoll NegotiationError) (new : Negotiating L ClientExchange) (left' : ℕ)
+    → Polled link any_client_mechanism old left result new left' → ClientPolled link old left result new left'
+client_polled link old left result new left' p = record {
+  polled = p;
+  only_sasl = λ before h. only_sasl any_client_mechanism new (p.events ++ before) (p.goes.grows before h);
+  passed = λ e before h. any_same old.exchange new.exchange (p.events ++ before) p.goes.kept
+      (any_client_passed new (p.events ++ before) (p.goes.grows before h) (subst (λ (r : Result GatePoll NegotiationError). IsPollAnswer any_client_mechanism p.events new left' r) e p.answer));
+}
+
+begun_passed : (c : Credentials) (hostname : Option (List ℕ)) (events : List LinkEvent) → HasAnyClientPassed (any_client_begun c hostname) events
+    → AnyClientPassed c hostname (wrote_of events) (read_of events)
+begun_passed anonymous hostname events h = h
+begun_passed (plain user password) hostname events h = h
+begun_passed (scram hash user password nonce) hostname events h = h
+
+-- what an end says that has passed, in words of its credentials
+pub passed_for : (c : Credentials) (hostname : Option (List ℕ)) (x : ClientExchange) (events : List LinkEvent) → any_client_same (any_client_begun c hostname) x
+    → HasAnyClientPassed x events → AnyClientPassed c hostname (wrote_of events) (read_of events)
+passed_for c hostname x events s h = begun_passed c hostname events (any_same (any_client_begun c hostname) x events s h)

@@ -18,18 +18,18 @@ use Rattle.std.proofs.lemmas.List.{take-append-drop}
 use Rattle.amqp_wire.specs.Events.{LinkEvent, NotRead, read_of}
 use Rattle.amqp_wire.specs.Reading.{ReadOn, IsKnown}
 use Rattle.amqp_wire.proofs.Events.{includes_left}
-use Rattle.sasl_gate.specs.declared.gate.error.NegotiationError.{NegotiationError}
-use Rattle.sasl_gate.specs.declared.gate.error.NegotiationError.TheVariants.{Memory, ProtocolHeaderMismatch, Io, FramingError}
-use Rattle.sasl_gate.specs.declared.gate.exchange.Exchange.{Ghosts as Mechanism}
+use Rattle.sasl_exchange.specs.declared.error.NegotiationError.{NegotiationError}
+use Rattle.sasl_exchange.specs.declared.error.NegotiationError.TheVariants.{Memory, ProtocolHeaderMismatch, Io, FramingError}
+use Rattle.sasl_exchange.specs.declared.exchange.Exchange.{Ghosts as Mechanism}
 use Rattle.std.specs.declared.alloc.AllocError.{AllocError}
-use Rattle.sasl_gate.specs.declared.gate.exchange.Turn.TheVariants.{Receive}
+use Rattle.sasl_exchange.specs.declared.exchange.Turn.TheVariants.{Receive}
 use Rattle.sasl_gate.specs.declared.gate.negotiation.GatePoll.{GatePoll}
 use Rattle.sasl_gate.specs.declared.gate.negotiation.GatePoll.TheVariants.{Pending, Passed}
 use Rattle.sasl_gate.specs.declared.gate.negotiation.Phase.{Phase}
 use Rattle.sasl_gate.specs.declared.gate.negotiation.Phase.TheVariants.{Header, Frames, Failed}
 use Rattle.sasl_gate.specs.declared.gate.negotiation.Step.{Step}
 use Rattle.sasl_gate.specs.declared.gate.negotiation.Step.TheVariants.{Goes, Waits, Ends}
-use Rattle.sasl_gate.specs.Exchange.{refused_with}
+use Rattle.sasl_exchange.specs.Exchange.{refused_with}
 use Rattle.sasl_gate.specs.Frames.{sasl_header, HasSaslFrame, Heard, sasl_frame}
 use Rattle.sasl_gate.specs.Negotiation.{Negotiating, at_link, at_header, at_frame, by_body, too_long, HeaderCause, FrameCause, IsOverlong, HasHeader, HasFrames, HasIn, IsAtRestIn, IsAtRest, IsPollAnswer, Polled}
 use Rattle.sasl_gate.specs.Steps.{IsStepEnd, Stepped, IsAlive, IsStopAnswer, IsWaitAnswer, IsEndAnswer, ArrivesIn}

@@ -5,14 +5,13 @@ use Rattle.std.proofs.lemmas.List.Elements.{All-nil}
 use Rattle.amqp_sasl_bodies.specs.declared.sasl_body.SaslBody.{SaslBody}
 use Rattle.amqp_wire.specs.Codec.{Codec}
 use Rattle.amqp_wire.specs.Events.{LinkEvent, read_of, wrote_of}
-use Rattle.sasl_gate.specs.declared.gate.exchange.Exchange.{Ghosts as Mechanism}
-use Rattle.sasl_gate.specs.declared.gate.exchange.Turn.TheVariants.{Pass}
+use Rattle.sasl_exchange.specs.declared.exchange.Exchange.{Ghosts as Mechanism}
+use Rattle.sasl_exchange.specs.declared.exchange.Turn.TheVariants.{Pass}
 use Rattle.sasl_gate.specs.declared.gate.negotiation.Phase.{Phase}
 use Rattle.sasl_gate.specs.declared.gate.negotiation.Phase.TheVariants.{Header, Frames, Failed}
-use Rattle.sasl_gate.specs.Frames.{sasl_header, HasSaslFrame, Heard, said}
+use Rattle.sasl_gate.specs.Frames.{sasl_header, HasSaslFrame, Heard, said, IsOnlySasl}
 use Rattle.sasl_gate.specs.Gates.{started}
 use Rattle.sasl_gate.specs.Negotiation.{Negotiating, HasFrames, HasIn, Has, IsPassed}
-use Rattle.sasl_gate.specs.ScramBodies.{IsOnlySasl}
 
 only_sasl_in : {L X : Type 0} (m : Mechanism X) (p : Phase) (n : Negotiating L X) (events : List LinkEvent) → HasIn m p n events → IsOnlySasl (wrote_of events)
 only_sasl_in m Header n events h = record { bodies = []; rest = n.codec.output; frames = h.wrote; framed = All-nil HasSaslFrame }

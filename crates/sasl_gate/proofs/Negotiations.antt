@@ -16,8 +16,8 @@ use Rattle.amqp_wire.specs.Frame.{HasBody}
 use Rattle.amqp_wire.specs.Events.{LinkEvent, Wrote, NotWritten, Went, read_of, wrote_of, reads_in}
 use Rattle.amqp_wire.specs.Reading.{ReadOn}
 use Rattle.amqp_wire.proofs.Events.{went_then, read_of-append, wrote_of-append, reads_in-append, includes_left}
-use Rattle.sasl_gate.specs.declared.gate.error.NegotiationError.{NegotiationError}
-use Rattle.sasl_gate.specs.declared.gate.exchange.Exchange.{Ghosts as Mechanism}
+use Rattle.sasl_exchange.specs.declared.error.NegotiationError.{NegotiationError}
+use Rattle.sasl_exchange.specs.declared.exchange.Exchange.{Ghosts as Mechanism}
 use Rattle.sasl_gate.specs.declared.gate.negotiation.Phase.{Phase}
 use Rattle.sasl_gate.specs.declared.gate.negotiation.Phase.TheVariants.{Header, Frames, Failed}
 use Rattle.sasl_gate.specs.declared.gate.negotiation.Step.{Step}

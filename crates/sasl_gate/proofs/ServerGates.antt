@@ -1,260 +1,33 @@
--- The listener's end with SCRAM: what it reads, and what it passes on.
-use Rattle.std.proofs.Common.{◌≡◌, ◌≢◌, ◌<◌, ◌≤◌, ◌⊎◌, inl, inr, arith, ℕ, false, List, [], ◌∷◌, ◌++◌, length, Option, Some, None, Result, Ok, Err, refl, sym, ap, ◌∙◌, subst}
-use Rattle.std.proofs.lemmas.List.{append-nil, length-append}
-use Rattle.std.specs.Prelude.{⊤}
-use Rattle.std.specs.declared.alloc.AllocError.{AllocError}
+-- The listener's gate: what it wrote, and what it passes on.
+use Rattle.std.proofs.Common.{ℕ, List, [], ◌∷◌, ◌++◌, Option, Some, None, Result, Ok, sym, ap, ◌∙◌, subst}
+use Rattle.std.proofs.lemmas.List.{append-nil}
 use Rattle.amqp_sasl_bodies.specs.declared.sasl_body.SaslBody.{SaslBody}
-use Rattle.amqp_sasl_bodies.specs.declared.sasl_body.SaslBody.TheVariants.{Init, Response}
-use Rattle.amqp_sasl_bodies.specs.declared.sasl.SaslInit.{SaslInit}
-use Rattle.amqp_sasl_bodies.specs.declared.sasl.SaslResponse.{SaslResponse}
-use Rattle.amqp_sasl_bodies.specs.declared.sasl_code.SaslCode.{SaslCode}
 use Rattle.amqp_sasl_bodies.specs.declared.sasl_code.SaslCode.TheVariants as sasl
+use Rattle.amqp_wire.specs.declared.link.Link.{Ghosts}
 use Rattle.amqp_wire.specs.Events.{LinkEvent, read_of, wrote_of}
-use Rattle.sasl_gate.specs.declared.gate.exchange.Turn.{Turn}
-use Rattle.sasl_gate.specs.declared.gate.exchange.Turn.TheVariants.{Send, Receive, Refuse, Pass}
-use Rattle.sasl_gate.specs.declared.gate.exchange.Verdict.{Verdict}
-use Rattle.sasl_gate.specs.declared.gate.exchange.Verdict.TheVariants.{Taken, Refused as VerdictRefused}
-use Rattle.sasl_gate.specs.declared.gate.scram_server.ServerStage.{ServerStage}
-use Rattle.sasl_gate.specs.declared.gate.scram_server.ServerStage.TheVariants.{OwesMechanisms, AwaitsInit, OwesChallenge, AwaitsResponse, OwesOutcome, Passed, OwesRefusal, Refused}
-use Rattle.sasl_gate.specs.declared.scram.error.ScramErrorKind.{ScramErrorKind}
-use Rattle.sasl_gate.specs.declared.scram.hash.ScramHash.{ScramHash}
-use Rattle.sasl_gate.specs.declared.scram.server.ServerPhase.{ServerPhase}
-use Rattle.sasl_gate.specs.declared.scram.server.ServerPhase.TheVariants.{Unasked, Challenged, Proved}
-use Rattle.sasl_gate.specs.declared.scram.stored.StoredPassword.{StoredPassword}
-use Rattle.sasl_gate.specs.Check.{ServerAnswers}
+use Rattle.sasl_scram.specs.declared.hash.ScramHash.{ScramHash}
+use Rattle.sasl_scram.specs.declared.stored.StoredPassword.{StoredPassword}
+use Rattle.sasl_exchange.specs.declared.error.NegotiationError.{NegotiationError}
+use Rattle.sasl_exchange.specs.declared.init_server.InitCheck.{InitCheck}
+use Rattle.sasl_exchange.specs.declared.server.ServerExchange.{ServerExchange}
+use Rattle.sasl_exchange.specs.declared.server.ServerExchange.TheVariants.{Scram, Init}
+use Rattle.sasl_exchange.specs.AnyServer.{Passwords, StoredPasswords, any_server_same, any_server_mechanism}
+use Rattle.sasl_exchange.specs.InitServer.{InitServerEnd, check_mechanisms, HasJudged, InitServerSame, init_server_mechanism}
+use Rattle.sasl_exchange.specs.ScramBodies.{challenge_body, outcome_body}
+use Rattle.sasl_exchange.specs.ScramServer.{ServerEnd, own_mechanisms, HasProof, ServerSame, server_mechanism}
+use Rattle.sasl_exchange.proofs.InitServers.{init_server_passes}
+use Rattle.sasl_exchange.proofs.ScramServers.{server_passes}
+use Rattle.sasl_gate.specs.declared.gate.negotiation.GatePoll.{GatePoll}
 use Rattle.sasl_gate.specs.Frames.{Heard, said}
-use Rattle.sasl_gate.specs.Hashes.{digest_of, block_of, output_of, mechanism_of}
-use Rattle.sasl_gate.specs.Refusals.{IsMemory, IsClientFirstRefusal, IsClientFinalRefusal}
-use Rattle.sasl_gate.specs.ScramBodies.{init_body, challenge_body, outcome_body, Received}
-use Rattle.sasl_gate.specs.ServerGate.{ServerEnd, turn_in, server_turn, left_in, own_mechanisms, holds_in, server_holds, owes_in, server_owes, is_of_client, HasChallenge, HasProof, HasToRefuse, HasRefused, Waited, for_init, for_response, is_next, IsRefusalCause, by_client_first, by_client_final, by_mechanism, by_no_response, by_order, by_other_body, IsTextAnswer, ServerSame, server_mechanism, ServerPassed, HasServerPassed}
-use Rattle.sasl_gate.specs.States.{ServerState, ForChallenged}
-use Rattle.sasl_gate.proofs.Gates.{Whole}
+use Rattle.sasl_gate.specs.Negotiation.{Negotiating, Has, IsPassed, IsPollAnswer, Polled}
+use Rattle.sasl_gate.specs.ServerGate.{ServerPassed, HasServerPassed, InitServerPassed, HasAnyServerPassed, ServerPolled}
+use Rattle.sasl_gate.proofs.Gates.{only_sasl, Whole, passed_whole}
 
--- ---- bodies that a listener reads
-
--- it waits for a body
-abbrev Receives : Turn → Type 0
-Receives Send = ⊥
-Receives Receive = ⊤
-Receives (Refuse code) = ⊥
-Receives Pass = ⊥
-
-receives : (stage : ServerStage) → turn_in stage ≡ Receive → Receives (turn_in stage)
-receives stage e = subst Receives (sym e) tt
-
-less_in : (stage : ServerStage) → Receives (turn_in stage) → 1 < left_in stage
-less_in OwesMechanisms h = absurd h
-less_in AwaitsInit h = omega arith
-less_in (OwesChallenge text) h = absurd h
-less_in AwaitsResponse h = omega arith
-less_in (OwesOutcome text) h = absurd h
-less_in Passed h = absurd h
-less_in (OwesRefusal code) h = absurd h
-less_in (Refused code) h = absurd h
-
--- ---- how many bodies a listener sends
-
-few_waits : (hash : ScramHash) (stored : List ℕ → Option StoredPassword) (own : List ℕ) (p : ServerPhase) (given sent : List SaslBody)
-    → ForChallenged p (λ c. HasChallenge hash stored own c given sent (own_mechanisms hash ∷ challenge_body c.server_first ∷ [])) → length sent ≤ 2
-few_waits hash stored own Unasked given sent h = absurd h
-few_waits hash stored own (Challenged c) given sent h = let e = ap (λ (u : List SaslBody). length u) h.sent_is in omega (arith, e)
-few_waits hash stored own Proved given sent h = absurd h
-
-few_owes : (hash : ScramHash) (stored : List ℕ → Option StoredPassword) (own text : List ℕ) (p : ServerPhase) (given sent : List SaslBody)
-    → ForChallenged p (λ c. (c.server_first ≡ text) × HasChallenge hash stored own c given sent (own_mechanisms hash ∷ [])) → length sent ≤ 3
-few_owes hash stored own text Unasked given sent h = absurd h
-few_owes hash stored own text (Challenged c) given sent h = let e = ap (λ (u : List SaslBody). length u) h.1.sent_is in omega (arith, e)
-few_owes hash stored own text Proved given sent h = absurd h
+-- ---- with SCRAM
 
 module _ {P : Type 0} (stored : P → List ℕ → Option StoredPassword) where
-  -- two at most, while it waits for a body
-  few_in : (hash : ScramHash) (stage : ServerStage) (s : ServerState P) (given sent : List SaslBody) → Receives (turn_in stage) → holds_in hash stored stage s given sent → length sent ≤ 2
-  few_in hash OwesMechanisms s given sent t h = absurd t
-  few_in hash AwaitsInit s given sent t h = let e = ap (λ (u : List SaslBody). length u) h.1 in omega (arith, e)
-  few_in hash (OwesChallenge text) s given sent t h = absurd t
-  few_in hash AwaitsResponse s given sent t h = few_waits hash (stored s.provider) s.nonce s.phase given sent h
-  few_in hash (OwesOutcome text) s given sent t h = absurd t
-  few_in hash Passed s given sent t h = absurd t
-  few_in hash (OwesRefusal code) s given sent t h = absurd t
-  few_in hash (Refused code) s given sent t h = absurd t
-
-  server_few_in : (hash : ScramHash) (stage : ServerStage) (s : ServerState P) (given sent : List SaslBody) → holds_in hash stored stage s given sent → length sent ≤ 3
-  server_few_in hash OwesMechanisms s given sent h = let e = ap (λ (u : List SaslBody). length u) h.1 in omega (arith, e)
-  server_few_in hash AwaitsInit s given sent h = let e = ap (λ (u : List SaslBody). length u) h.1 in omega (arith, e)
-  server_few_in hash (OwesChallenge text) s given sent h = few_owes hash (stored s.provider) s.nonce text s.phase given sent h
-  server_few_in hash AwaitsResponse s given sent h = let few = few_waits hash (stored s.provider) s.nonce s.phase given sent h in omega (arith, few)
-  server_few_in hash (OwesOutcome text) s given sent h = let e = ap (λ (u : List SaslBody). length u) h.sent_is in omega (arith, e)
-  server_few_in hash Passed s given sent h = let e = ap (λ (u : List SaslBody). length u) h.1.sent_is in omega (arith, e)
-  server_few_in hash (OwesRefusal code) s given sent h = omega (arith, h.few)
-  server_few_in hash (Refused code) s given sent h =
-      let e = ap (λ (u : List SaslBody). length u) h.told ∙ length-append h.before (outcome_body code None ∷ []) in omega (arith, e, h.few)
-
-  -- a listener sends three bodies at most
-  pub server_few : (x : ServerEnd P) (given sent : List SaslBody) → server_holds stored x given sent → length sent ≤ 3
-  server_few x given sent h = server_few_in x.hash x.stage x.server given sent h
-
--- ---- bodies for which a listener waits
-
-response_awaited : (hash : ScramHash) (p : ServerPhase) (stored : List ℕ → Option StoredPassword) (own : List ℕ) (given sent : List SaslBody) (body : SaslBody)
-    → ForChallenged p (λ c. HasChallenge hash stored own c given sent (own_mechanisms hash ∷ challenge_body c.server_first ∷ [])) → Waited hash stored own (given ++ body ∷ []) sent
-response_awaited hash Unasked stored own given sent body h = absurd h
-response_awaited hash (Challenged c) stored own given sent body h = for_response c given body refl h
-response_awaited hash Proved stored own given sent body h = absurd h
-
-awaited_in : {P : Type 0} (hash : ScramHash) (stored : P → List ℕ → Option StoredPassword) (stage : ServerStage) (s : ServerState P) (given sent : List SaslBody) (body : SaslBody)
-    → Receives (turn_in stage) → holds_in hash stored stage s given sent → Waited hash (stored s.provider) s.nonce (given ++ body ∷ []) sent
-awaited_in hash stored OwesMechanisms s given sent body t h = absurd t
-awaited_in hash stored AwaitsInit s given sent body t h = for_init body (ap (λ (u : List SaslBody). u ++ body ∷ []) h.0) h.1
-awaited_in hash stored (OwesChallenge text) s given sent body t h = absurd t
-awaited_in hash stored AwaitsResponse s given sent body t h = response_awaited hash s.phase (stored s.provider) s.nonce given sent body h
-awaited_in hash stored (OwesOutcome text) s given sent body t h = absurd t
-awaited_in hash stored Passed s given sent body t h = absurd t
-awaited_in hash stored (OwesRefusal code) s given sent body t h = absurd t
-awaited_in hash stored (Refused code) s given sent body t h = absurd t
-
--- a listener that waits, and a body more
-pub awaited : {P : Type 0} (stored : P → List ℕ → Option StoredPassword) (x : ServerEnd P) (given sent : List SaslBody) (body : SaslBody) → server_turn x ≡ Receive
-    → server_holds stored x given sent → Waited x.hash (stored x.server.provider) x.server.nonce (given ++ body ∷ []) sent
-awaited stored x given sent body turn h = awaited_in x.hash stored x.stage x.server given sent body (receives x.stage turn) h
-
-module _ {P : Type 0} (stored : P → List ℕ → Option StoredPassword) (x : ServerEnd P) where
-  -- a body is not taken
-  pub received_refused : (body : SaslBody) (code : SaslCode) → server_turn x ≡ Receive
-      → ((given sent : List SaslBody) → server_holds stored x given sent → IsRefusalCause x.hash (stored x.server.provider) x.server.nonce code (given ++ body ∷ []))
-      → Received (server_mechanism stored) x body (Ok Taken) (record x { stage = OwesRefusal code })
-  received_refused body code turn cause = record {
-    taken = λ given sent h. record { few = few_in stored x.hash x.stage x.server given sent (receives x.stage turn) h; waited = awaited stored x given sent body turn h; cause = cause given sent h };
-    less = less_in x.stage (receives x.stage turn);
-    same = record { hash = refl; provider = refl; nonce = refl };
-    refused = tt;
-    kept = tt;
-    err = tt;
-  }
-
-  -- a text is not taken, or memory was wanting
-  pub received_text : (body : SaslBody) (kind : ScramErrorKind) (result : Result Verdict AllocError) (new : ServerEnd P) → server_turn x ≡ Receive
-      → IsTextAnswer kind x result new
-      → (¬ IsMemory kind → (given sent : List SaslBody) → server_holds stored x given sent → IsRefusalCause x.hash (stored x.server.provider) x.server.nonce sasl.Auth (given ++ body ∷ []))
-      → Received (server_mechanism stored) x body result new
-  received_text body kind (Ok Taken) new turn answer cause =
-      subst (λ (y : ServerEnd P). Received (server_mechanism stored) x body (Ok Taken) y) (sym answer.0) (received_refused body sasl.Auth turn (cause answer.1))
-  received_text body kind (Ok (VerdictRefused e)) new turn answer cause = absurd answer
-  received_text body kind (Err e) new turn answer cause = record { taken = tt; less = tt; same = tt; refused = tt; kept = tt; err = answer }
-
-  -- a body that no client sends
-  pub received_other : (body : SaslBody) → is_of_client body ≡ false → server_turn x ≡ Receive
-      → Received (server_mechanism stored) x body (Ok Taken) (record x { stage = OwesRefusal sasl.Sys })
-  received_other body other turn = received_refused body sasl.Sys turn (λ given sent h. by_other_body given body refl other refl)
-
-  init_order_in : (stage : ServerStage) (i : SaslInit) (given sent : List SaslBody) → Receives (turn_in stage) → (stage ≡ AwaitsInit → ⊥) → holds_in x.hash stored stage x.server given sent → is_next given (Init i) ≡ false
-  init_order_in OwesMechanisms i given sent t ne h = absurd t
-  init_order_in AwaitsInit i given sent t ne h = absurd (ne refl)
-  init_order_in (OwesChallenge text) i given sent t ne h = absurd t
-  init_order_in AwaitsResponse i given sent t ne h = init_late x.server.phase i given sent h
-    where
-      init_late : (p : ServerPhase) (i : SaslInit) (given sent : List SaslBody)
-          → ForChallenged p (λ c. HasChallenge x.hash (stored x.server.provider) x.server.nonce c given sent (own_mechanisms x.hash ∷ challenge_body c.server_first ∷ []))
-          → is_next given (Init i) ≡ false
-      init_late Unasked i given sent h = absurd h
-      init_late (Challenged c) i given sent h = subst (λ (u : List SaslBody). is_next u (Init i) ≡ false) (sym h.given_is) refl
-      init_late Proved i given sent h = absurd h
-  init_order_in (OwesOutcome text) i given sent t ne h = absurd t
-  init_order_in Passed i given sent t ne h = absurd t
-  init_order_in (OwesRefusal code) i given sent t ne h = absurd t
-  init_order_in (Refused code) i given sent t ne h = absurd t
-
-  -- an init out of order
-  pub received_late_init : (i : SaslInit) → server_turn x ≡ Receive → (x.stage ≡ AwaitsInit → ⊥)
-      → Received (server_mechanism stored) x (Init i) (Ok Taken) (record x { stage = OwesRefusal sasl.Auth })
-  received_late_init i turn ne = received_refused (Init i) sasl.Auth turn
-      (λ given sent h. by_order given (Init i) refl refl (init_order_in x.stage i given sent (receives x.stage turn) ne h) refl)
-
-  response_order_in : (stage : ServerStage) (r : SaslResponse) (given sent : List SaslBody) → Receives (turn_in stage) → (stage ≡ AwaitsResponse → ⊥) → holds_in x.hash stored stage x.server given sent → is_next given (Response r) ≡ false
-  response_order_in OwesMechanisms r given sent t ne h = absurd t
-  response_order_in AwaitsInit r given sent t ne h = subst (λ (u : List SaslBody). is_next u (Response r) ≡ false) (sym h.0) refl
-  response_order_in (OwesChallenge text) r given sent t ne h = absurd t
-  response_order_in AwaitsResponse r given sent t ne h = absurd (ne refl)
-  response_order_in (OwesOutcome text) r given sent t ne h = absurd t
-  response_order_in Passed r given sent t ne h = absurd t
-  response_order_in (OwesRefusal code) r given sent t ne h = absurd t
-  response_order_in (Refused code) r given sent t ne h = absurd t
-
-  -- a response out of order
-  pub received_early_response : (r : SaslResponse) → server_turn x ≡ Receive → (x.stage ≡ AwaitsResponse → ⊥)
-      → Received (server_mechanism stored) x (Response r) (Ok Taken) (record x { stage = OwesRefusal sasl.Auth })
-  received_early_response r turn ne = received_refused (Response r) sasl.Auth turn
-      (λ given sent h. by_order given (Response r) refl refl (response_order_in x.stage r given sent (receives x.stage turn) ne h) refl)
-
-  -- an init of another mechanism, or without a response
-  pub received_other_init : (i : SaslInit) → x.stage ≡ AwaitsInit → (i.mechanism ≢ mechanism_of x.hash) ⊎ (i.initial_response ≡ None)
-      → Received (server_mechanism stored) x (Init i) (Ok Taken) (record x { stage = OwesRefusal sasl.Auth })
-  received_other_init i stage why = received_refused (Init i) sasl.Auth (ap turn_in stage) (λ given sent h. cause why given (subst (λ (s : ServerStage). holds_in x.hash stored s x.server given sent) stage h).0)
-    where
-      cause : (i.mechanism ≢ mechanism_of x.hash) ⊎ (i.initial_response ≡ None) → (given : List SaslBody) → given ≡ [] → IsRefusalCause x.hash (stored x.server.provider) x.server.nonce sasl.Auth (given ++ Init i ∷ [])
-      cause (inl ne) given e = by_mechanism i.mechanism i.initial_response i.hostname (ap (λ (u : List SaslBody). u ++ Init i ∷ []) e) ne refl
-      cause (inr none) given e = by_no_response i.mechanism i.hostname (ap (λ (u : List SaslBody). u ++ Init i ∷ []) e ∙ ap (λ (r : Option (List ℕ)). init_body i.mechanism r i.hostname ∷ []) none) refl
-
-  -- a client first that is refused
-  pub received_first : (text : List ℕ) (hostname : Option (List ℕ)) (kind : ScramErrorKind) (result : Result Verdict AllocError) (new : ServerEnd P) → x.stage ≡ AwaitsInit
-      → IsClientFirstRefusal (stored x.server.provider) text kind → IsTextAnswer kind x result new
-      → Received (server_mechanism stored) x (init_body (mechanism_of x.hash) (Some text) hostname) result new
-  received_first text hostname kind result new stage r answer = received_text (init_body (mechanism_of x.hash) (Some text) hostname) kind result new (ap turn_in stage) answer
-      (λ other given sent h. let k : (given ≡ []) × (sent ≡ own_mechanisms x.hash ∷ []) = subst (λ (s : ServerStage). holds_in x.hash stored s x.server given sent) stage h in
-      by_client_first text hostname kind (ap (λ (u : List SaslBody). u ++ init_body (mechanism_of x.hash) (Some text) hostname ∷ []) k.0) other r refl)
-
-  final_in : (p : ServerPhase) (r : SaslResponse) (kind : ScramErrorKind) (given sent : List SaslBody) → ¬ IsMemory kind
-      → ForChallenged p (λ c. (keys : StoredPassword) × (answers : ServerAnswers (stored x.server.provider) x.server.nonce c.client_first c.user c.nonce c.server_first keys)
-      × IsClientFinalRefusal (digest_of x.hash) (block_of x.hash) (output_of x.hash) keys.stored_key answers.header answers.bare c.server_first c.nonce r.response kind)
-      → ForChallenged p (λ c. HasChallenge x.hash (stored x.server.provider) x.server.nonce c given sent (own_mechanisms x.hash ∷ challenge_body c.server_first ∷ []))
-      → IsRefusalCause x.hash (stored x.server.provider) x.server.nonce sasl.Auth (given ++ Response r ∷ [])
-  final_in Unasked r kind given sent other why h = absurd h
-  final_in (Challenged c) r kind given sent other why h =
-      by_client_final c.client_first c.user c.nonce c.server_first r.response h.hostname why.0 why.1 kind (ap (λ (u : List SaslBody). u ++ Response r ∷ []) h.given_is) other why.2 refl
-  final_in Proved r kind given sent other why h = absurd h
-
-  -- a client final that is refused
-  pub received_final : (r : SaslResponse) (kind : ScramErrorKind) (result : Result Verdict AllocError) (new : ServerEnd P) → x.stage ≡ AwaitsResponse
-      → ForChallenged x.server.phase (λ c. (keys : StoredPassword) × (answers : ServerAnswers (stored x.server.provider) x.server.nonce c.client_first c.user c.nonce c.server_first keys)
-      × IsClientFinalRefusal (digest_of x.hash) (block_of x.hash) (output_of x.hash) keys.stored_key answers.header answers.bare c.server_first c.nonce r.response kind)
-      → IsTextAnswer kind x result new → Received (server_mechanism stored) x (Response r) result new
-  received_final r kind result new stage why answer = received_text (Response r) kind result new (ap turn_in stage) answer
-      (λ other given sent h. final_in x.server.phase r kind given sent other why (subst (λ (s : ServerStage). holds_in x.hash stored s x.server given sent) stage h))
-
-  -- an outcome that refuses was sent
-  pub sent_refusal : (code : SaslCode) → x.stage ≡ OwesRefusal code → (body : SaslBody) (given sent : List SaslBody) → server_owes x body → server_holds stored x given sent
-      → HasRefused x.hash (stored x.server.provider) x.server.nonce code given (sent ++ body ∷ [])
-  sent_refusal code stage body given sent owed held =
-      let h : HasToRefuse x.hash (stored x.server.provider) x.server.nonce code given sent = subst (λ (s : ServerStage). holds_in x.hash stored s x.server given sent) stage held in
-      record {
-        before = sent;
-        few = h.few;
-        waited = h.waited;
-        told = ap (λ (b : SaslBody). sent ++ b ∷ []) (subst (λ (s : ServerStage). owes_in x.hash s body) stage owed);
-        cause = h.cause;
-      }
-
--- ---- an end that has passed
-
-abbrev Passes : Turn → Type 0
-Passes Send = ⊥
-Passes Receive = ⊥
-Passes (Refuse code) = ⊥
-Passes Pass = ⊤
-
-module _ {P : Type 0} (stored : P → List ℕ → Option StoredPassword) where
-  passed_stage : (hash : ScramHash) (stage : ServerStage) (s : ServerState P) (given sent : List SaslBody) → Passes (turn_in stage) → holds_in hash stored stage s given sent
-      → (text : List ℕ) × HasProof hash (stored s.provider) s.nonce text given sent (outcome_body sasl.Ok (Some text) ∷ [])
-  passed_stage hash OwesMechanisms s given sent t h = absurd t
-  passed_stage hash AwaitsInit s given sent t h = absurd t
-  passed_stage hash (OwesChallenge text) s given sent t h = absurd t
-  passed_stage hash AwaitsResponse s given sent t h = absurd t
-  passed_stage hash (OwesOutcome text) s given sent t h = absurd t
-  passed_stage hash Passed s given sent t h = h
-  passed_stage hash (OwesRefusal code) s given sent t h = absurd t
-  passed_stage hash (Refused code) s given sent t h = absurd t
-
-  pub passed_same : (x y : ServerEnd P) (events : List LinkEvent) → ServerSame x y → HasServerPassed stored y events → HasServerPassed stored x events
-  passed_same x y events s h =
+  server_same : (x y : ServerEnd P) (events : List LinkEvent) → ServerSame x y → HasServerPassed stored y events → HasServerPassed stored x events
+  server_same x y events s h =
       subst (λ (k : ScramHash). ServerPassed k (stored x.server.provider) x.server.nonce (wrote_of events) (read_of events)) (sym s.hash)
       (subst (λ (p : P). ServerPassed y.hash (stored p) x.server.nonce (wrote_of events) (read_of events)) (sym s.provider)
       (subst (λ (u : List ℕ). ServerPassed y.hash (stored y.server.provider) u (wrote_of events) (read_of events)) (sym s.nonce) h))
@@ -265,7 +38,7 @@ module _ {P : Type 0} (stored : P → List ℕ → Option StoredPassword) where
       → ServerPassed x.hash (stored x.server.provider) x.server.nonce wrote read
   server_passed x rest wrote read w =
       let both : (text : List ℕ) × HasProof x.hash (stored x.server.provider) x.server.nonce text w.given w.sent (outcome_body sasl.Ok (Some text) ∷ []) =
-      passed_stage stored x.hash x.stage x.server w.given w.sent (subst Passes (sym w.turn) tt) w.held in
+      server_passes stored x w.given w.sent w.turn w.held in
       let k : HasProof x.hash (stored x.server.provider) x.server.nonce both.0 w.given w.sent (outcome_body sasl.Ok (Some both.0) ∷ []) = both.1 in
       record {
         user = k.user;
@@ -280,3 +53,58 @@ module _ {P : Type 0} (stored : P → List ℕ → Option StoredPassword) where
         read_is = subst (λ (u : List SaslBody). Heard read u rest) k.given_is w.heard;
         check = k.check;
       }
+
+-- ---- with a mechanism whose client says all in its init
+
+module _ {Q : Type 0} (passwords : Q → List ℕ → Option (List ℕ)) where
+  -- the exchange is whole, and the body that was read passes
+  pub init_server_passed : (x : InitServerEnd Q) (rest wrote read : List ℕ) → Whole (init_server_mechanism passwords) x rest wrote read
+      → InitServerPassed passwords x.check wrote read
+  init_server_passed x rest wrote read w =
+      let k : HasJudged passwords x.check sasl.Ok w.given w.sent (check_mechanisms x.check ∷ outcome_body sasl.Ok None ∷ []) =
+      init_server_passes passwords x w.given w.sent w.turn w.held in
+      record {
+        body = k.body;
+        more = [];
+        rest = rest;
+        wrote_is = w.wrote_is ∙ ap said k.sent_is ∙ sym (append-nil (said (check_mechanisms x.check ∷ outcome_body sasl.Ok None ∷ [])));
+        read_is = subst (λ (u : List SaslBody). Heard read u rest) k.given_is w.heard;
+        passing = k.judged;
+      }
+
+  init_server_same : (x y : InitServerEnd Q) (wrote read : List ℕ) → InitServerSame x y → InitServerPassed passwords y.check wrote read → InitServerPassed passwords x.check wrote read
+  init_server_same x y wrote read s h = subst (λ (c : InitCheck Q). InitServerPassed passwords c wrote read) (sym s.check) h
+
+-- ---- with any of the mechanisms
+
+module _ {Q P : Type 0} (passwords : Passwords Q) (stored : StoredPasswords P) where
+  any_passed : (x : ServerExchange Q P) (rest : List ℕ) (events : List LinkEvent) → Whole (any_server_mechanism passwords stored) x rest (wrote_of events) (read_of events)
+      → HasAnyServerPassed passwords stored x events
+  any_passed (Scram x) rest events w = server_passed stored x rest (wrote_of events) (read_of events)
+      (record { given = w.given; sent = w.sent; heard = w.heard; wrote_is = w.wrote_is; held = w.held; turn = w.turn })
+  any_passed (Init x) rest events w = init_server_passed passwords x rest (wrote_of events) (read_of events)
+      (record { given = w.given; sent = w.sent; heard = w.heard; wrote_is = w.wrote_is; held = w.held; turn = w.turn })
+
+  any_same : (x y : ServerExchange Q P) (events : List LinkEvent) → any_server_same x y → HasAnyServerPassed passwords stored y events → HasAnyServerPassed passwords stored x events
+  any_same (Scram x) (Scram y) events s h = server_same stored x y events s h
+  any_same (Scram x) (Init y) events s h = absurd s
+  any_same (Init x) (Scram y) events s h = absurd s
+  any_same (Init x) (Init y) events s h = init_server_same passwords x y (wrote_of events) (read_of events) s h
+
+module _ {L Q P : Type 0} (passwords : Passwords Q) (stored : StoredPasswords P) where
+  -- a gate that passed: the exchange is whole, and its check holds
+  pub any_server_passed : (n : Negotiating L (ServerExchange Q P)) (events : List LinkEvent) → Has (any_server_mechanism passwords stored) n events
+      → IsPassed (any_server_mechanism passwords stored) n → HasAnyServerPassed passwords stored n.exchange events
+  any_server_passed n events h passed =
+      any_passed passwords stored n.exchange n.codec.input events (passed_whole (any_server_mechanism passwords stored) n events h passed)
+
+  -- what a poll says of the whole history
+  pub server_polled : (link : Ghosts L) (old : Negotiating L (ServerExchange Q P)) (left : ℕ) (result : Result GatePoll NegotiationError) (new : Negotiating L (ServerExchange Q P)) (left' : ℕ)
+      → Polled link (any_server_mechanism passwords stored) old left result new left' → ServerPolled link passwords stored old left result new left'
+  server_polled link old left result new left' p = record {
+    polled = p;
+    only_sasl = λ before h. only_sasl (any_server_mechanism passwords stored) new (p.events ++ before) (p.goes.grows before h);
+    passed = λ e before h. any_same passwords stored old.exchange new.exchange (p.events ++ before) p.goes.kept
+        (any_server_passed new (p.events ++ before) (p.goes.grows before h)
+        (subst (λ (r : Result GatePoll NegotiationError). IsPollAnswer (any_server_mechanism passwords stored) p.events new left' r) e p.answer));
+  }

@@ -1,267 +1,29 @@
--- The client's end of a SASL negotiation with SCRAM.
-use Rattle.std.specs.Prelude.{◌≡◌, ◌++◌, ◌⊎◌, ℕ, Bool, true, false, List, [], ◌∷◌, Option, Some, None, Result, Ok, Err, Contains, ⊤}
-use Rattle.std.specs.declared.alloc.AllocError.{AllocError}
-use Rattle.std.proofs.Common.{refl, sym, subst, ◌∙◌}
+-- The client's gate: what was read and written where it passes (OASIS AMQP 1.0, part 5, section 5.3).
+use Rattle.std.specs.Prelude.{◌≡◌, ◌++◌, ℕ, List, [], ◌∷◌, Option, Some, None, Result, Ok, Contains}
 use Rattle.amqp_sasl_bodies.specs.declared.sasl_body.SaslBody.{SaslBody}
-use Rattle.amqp_sasl_bodies.specs.declared.sasl_body.SaslBody.TheVariants.{Mechanisms, Challenge, Outcome}
-use Rattle.amqp_sasl_bodies.specs.declared.sasl_code.SaslCode.{SaslCode}
 use Rattle.amqp_sasl_bodies.specs.declared.sasl_code.SaslCode.TheVariants as sasl
+use Rattle.amqp_wire.specs.declared.link.Link.{Ghosts}
 use Rattle.amqp_wire.specs.Events.{LinkEvent, read_of, wrote_of}
-use Rattle.sasl_gate.specs.declared.gate.scram_client.ClientStage.{ClientStage}
-use Rattle.sasl_gate.specs.declared.gate.scram_client.ClientStage.TheVariants.{AwaitsMechanisms, OwesInit, AwaitsChallenge, OwesResponse, AwaitsOutcome, OwesEmptyResponse, AwaitsEnd, Passed}
-use Rattle.sasl_gate.specs.declared.gate.error.NegotiationError.{NegotiationError}
-use Rattle.sasl_gate.specs.declared.gate.error.NegotiationError.TheVariants.{Memory, ProtocolHeaderMismatch, NotImplemented, SaslError, ScramError, Io, DecodeError, IllegalState, FramingError}
-use Rattle.sasl_gate.specs.declared.gate.exchange.Exchange.{Ghosts as Mechanism}
-use Rattle.sasl_gate.specs.declared.gate.exchange.Turn.{Turn}
-use Rattle.sasl_gate.specs.declared.gate.exchange.Turn.TheVariants.{Send, Receive, Refuse, Pass}
-use Rattle.sasl_gate.specs.declared.gate.exchange.Verdict.{Verdict}
-use Rattle.sasl_gate.specs.declared.gate.exchange.Verdict.TheVariants.{Taken, Refused}
-use Rattle.sasl_gate.specs.declared.scram.client.ClientAnswer.{ClientAnswer}
-use Rattle.sasl_gate.specs.declared.scram.client.ClientPhase.{ClientPhase}
-use Rattle.sasl_gate.specs.declared.scram.client.ClientPhase.TheVariants.{Unanswered}
-use Rattle.sasl_gate.specs.declared.scram.error.ScramErrorKind.{ScramErrorKind}
-use Rattle.sasl_gate.specs.declared.scram.error.ScramErrorKind.TheVariants.{Signature}
-use Rattle.sasl_gate.specs.declared.scram.hash.ScramHash.{ScramHash}
-use Rattle.sasl_gate.specs.Check.{ClientAnswers, ClientCheck}
-use Rattle.sasl_gate.specs.ClientEnds.{is_refusal, HasMechanisms, IsUnlisted, EndsInRefusal, IsOutOfOrder}
-use Rattle.sasl_gate.specs.Exchange.{refused_with}
-use Rattle.sasl_gate.specs.Frames.{Heard, said}
-use Rattle.sasl_gate.specs.Hashes.{digest_of, block_of, output_of, mechanism_of}
-use Rattle.sasl_gate.specs.Refusals.{IsMemory, IsServerFirstRefusal, IsServerFinalRefusal}
-use Rattle.sasl_gate.specs.ScramBodies.{mechanisms_body, init_body, challenge_body, response_body, outcome_body}
-use Rattle.sasl_gate.specs.States.{ClientState, ForAnswered}
-use Rattle.sasl_gate.specs.Texts.{client_first_of}
+use Rattle.sasl_scram.specs.declared.error.ScramErrorKind.TheVariants.{TextNotAllowed}
+use Rattle.sasl_scram.specs.declared.hash.ScramHash.{ScramHash}
+use Rattle.sasl_scram.specs.Check.{ClientCheck}
+use Rattle.sasl_scram.specs.Hashes.{digest_of, block_of, output_of, mechanism_of}
+use Rattle.sasl_scram.specs.Texts.{client_first_of}
+use Rattle.sasl_exchange.specs.declared.client.ClientExchange.{ClientExchange}
+use Rattle.sasl_exchange.specs.declared.client.ClientExchange.TheVariants.{Scram, Init}
+use Rattle.sasl_exchange.specs.declared.error.NegotiationError.{NegotiationError}
+use Rattle.sasl_exchange.specs.declared.error.NegotiationError.TheVariants.{Memory, ProtocolHeaderMismatch, NotImplemented, SaslError, ScramError, Io, DecodeError, IllegalState, FramingError}
+use Rattle.sasl_exchange.specs.AnyClient.{any_client_mechanism}
+use Rattle.sasl_exchange.specs.Credentials.{Credentials, anonymous, plain, scram}
+use Rattle.sasl_exchange.specs.InitTexts.{anonymous_name, plain_name, plain_of}
+use Rattle.sasl_exchange.specs.ScramBodies.{mechanisms_body, init_body, challenge_body, response_body, outcome_body}
+use Rattle.sasl_exchange.specs.ScramClient.{ClientEnd, IsFinal}
+use Rattle.sasl_gate.specs.declared.gate.negotiation.GatePoll.{GatePoll}
+use Rattle.sasl_gate.specs.declared.gate.negotiation.GatePoll.TheVariants as poll
+use Rattle.sasl_gate.specs.Frames.{Heard, said, IsOnlySasl}
+use Rattle.sasl_gate.specs.Negotiation.{Negotiating, Has, Polled}
 
--- a client's end of an exchange: its hash function and SCRAM client, how far it is, and the host that it means to reach
-pub record ClientEnd : Type 0 where
-  pub hash : ScramHash
-  pub client : ClientState
-  pub stage : ClientStage
-  pub hostname : Option (List ℕ)
-
--- the SCRAM client of an end that is so far
-abbrev pub IsClientStage : ClientStage → ClientPhase → Type 0
-IsClientStage AwaitsMechanisms phase = phase ≡ Unanswered
-IsClientStage OwesInit phase = phase ≡ Unanswered
-IsClientStage AwaitsChallenge phase = phase ≡ Unanswered
-IsClientStage (OwesResponse text) phase = ForAnswered phase (λ _. Unit {0})
-IsClientStage AwaitsOutcome phase = ForAnswered phase (λ _. Unit {0})
-IsClientStage OwesEmptyResponse phase = Unit {0}
-IsClientStage AwaitsEnd phase = Unit {0}
-IsClientStage Passed phase = Unit {0}
-
-abbrev pub turn_in : ClientStage → Turn
-turn_in AwaitsMechanisms = Receive
-turn_in OwesInit = Send
-turn_in AwaitsChallenge = Receive
-turn_in (OwesResponse text) = Send
-turn_in AwaitsOutcome = Receive
-turn_in OwesEmptyResponse = Send
-turn_in AwaitsEnd = Receive
-turn_in Passed = Pass
-
-abbrev pub client_turn : ClientEnd → Turn
-client_turn x = turn_in x.stage
-
-abbrev pub left_in : ClientStage → ℕ
-left_in AwaitsMechanisms = 7
-left_in OwesInit = 6
-left_in AwaitsChallenge = 5
-left_in (OwesResponse text) = 4
-left_in AwaitsOutcome = 3
-left_in OwesEmptyResponse = 2
-left_in AwaitsEnd = 1
-left_in Passed = 0
-
-abbrev pub client_left : ClientEnd → ℕ
-client_left x = left_in x.stage
-
--- the init of an end
-abbrev pub client_init : ClientEnd → SaslBody
-client_init x = init_body (mechanism_of x.hash) (Some (client_first_of x.client.user x.client.nonce)) x.hostname
-
-abbrev pub owes_in : ClientStage → ClientEnd → SaslBody → Type 0
-owes_in AwaitsMechanisms x body = ⊥
-owes_in OwesInit x body = body ≡ client_init x
-owes_in AwaitsChallenge x body = ⊥
-owes_in (OwesResponse text) x body = body ≡ response_body text
-owes_in AwaitsOutcome x body = ⊥
-owes_in OwesEmptyResponse x body = body ≡ response_body []
-owes_in AwaitsEnd x body = ⊥
-owes_in Passed x body = ⊥
-
--- the body that an end owes
-abbrev pub client_owes : ClientEnd → SaslBody → Type 0
-client_owes x body = owes_in x.stage x body
-
--- an end that read a challenge too, has this answer to it, and sent this
-pub record HasAnswer (x : ClientEnd) (a : ClientAnswer) (given sent now : List SaslBody) : Type 0 where
-  pub names : List (List ℕ)
-  pub given_is : given ≡ mechanisms_body names ∷ challenge_body a.server_first ∷ []
-  pub listed : Contains names (mechanism_of x.hash)
-  pub answers : ClientAnswers (digest_of x.hash) (block_of x.hash) (output_of x.hash) x.client.user x.client.password x.client.nonce a.server_first a.client_final a.signature
-  pub sent_is : sent ≡ now
-
--- an end whose check holds, by a server final that was read as a challenge (OASIS AMQP 1.0, part 5, section 5.3.3.3), and that
--- answered this so far
-pub record HasChecked (x : ClientEnd) (replied given sent : List SaslBody) : Type 0 where
-  pub names : List (List ℕ)
-  pub server_first : List ℕ
-  pub client_final : List ℕ
-  pub server_final : List ℕ
-  pub given_is : given ≡ mechanisms_body names ∷ challenge_body server_first ∷ challenge_body server_final ∷ []
-  pub listed : Contains names (mechanism_of x.hash)
-  pub sent_is : sent ≡ client_init x ∷ response_body client_final ∷ replied
-  pub check : ClientCheck (digest_of x.hash) (block_of x.hash) (output_of x.hash) x.client.user x.client.password x.client.nonce (client_first_of x.client.user x.client.nonce) server_first client_final server_final
-
--- the server final came with outcome `Ok`, or as a challenge that was answered by an empty response (RFC 5802, section 5; OASIS AMQP
--- 1.0, part 5, section 5.3.2)
-pub data IsFinal (server_final : List ℕ) (told replied : List SaslBody) : Type 0 where
-  in_outcome : told ≡ outcome_body sasl.Ok (Some server_final) ∷ [] → replied ≡ [] → IsFinal server_final told replied
-  in_challenge : (payload : Option (List ℕ)) → told ≡ challenge_body server_final ∷ outcome_body sasl.Ok payload ∷ []
-      → replied ≡ response_body [] ∷ [] → IsFinal server_final told replied
-
--- an end that has passed: its check holds, and the outcome is `Ok`
-pub record HasPassed (x : ClientEnd) (given sent : List SaslBody) : Type 0 where
-  pub names : List (List ℕ)
-  pub server_first : List ℕ
-  pub client_final : List ℕ
-  pub server_final : List ℕ
-  pub told : List SaslBody
-  pub replied : List SaslBody
-  pub given_is : given ≡ mechanisms_body names ∷ challenge_body server_first ∷ told
-  pub sent_is : sent ≡ client_init x ∷ response_body client_final ∷ replied
-  pub final : IsFinal server_final told replied
-  pub listed : Contains names (mechanism_of x.hash)
-  pub check : ClientCheck (digest_of x.hash) (block_of x.hash) (output_of x.hash) x.client.user x.client.password x.client.nonce (client_first_of x.client.user x.client.nonce) server_first client_final server_final
-
-abbrev pub holds_in : ClientStage → ClientEnd → List SaslBody → List SaslBody → Type 0
-holds_in AwaitsMechanisms x given sent = (given ≡ []) × (sent ≡ [])
-holds_in OwesInit x given sent = HasMechanisms (mechanism_of x.hash) given sent []
-holds_in AwaitsChallenge x given sent = HasMechanisms (mechanism_of x.hash) given sent (client_init x ∷ [])
-holds_in (OwesResponse text) x given sent = ForAnswered x.client.phase (λ a. (a.client_final ≡ text) × HasAnswer x a given sent (client_init x ∷ []))
-holds_in AwaitsOutcome x given sent = ForAnswered x.client.phase (λ a. HasAnswer x a given sent (client_init x ∷ response_body a.client_final ∷ []))
-holds_in OwesEmptyResponse x given sent = HasChecked x [] given sent
-holds_in AwaitsEnd x given sent = HasChecked x (response_body [] ∷ []) given sent
-holds_in Passed x given sent = HasPassed x given sent
-
--- the bodies that an end was given and those that it sent
-abbrev pub client_holds : ClientEnd → List SaslBody → List SaslBody → Type 0
-client_holds x given sent = holds_in x.stage x given sent
-
--- two ends were made for the same hash function, user, password, nonce and host
-pub record ClientSame (x y : ClientEnd) : Type 0 where
-  pub hash : x.hash ≡ y.hash
-  pub user : x.client.user ≡ y.client.user
-  pub password : x.client.password ≡ y.client.password
-  pub nonce : x.client.nonce ≡ y.client.nonce
-  pub hostname : x.hostname ≡ y.hostname
-
--- whether a body may be the next one for a client that was given those before: mechanisms, challenge, outcome, or mechanisms, challenge,
--- challenge, outcome; and at any time an outcome other than `Ok` (OASIS AMQP 1.0, part 5, sections 5.3.2 and 5.3.3.6)
-abbrev pub is_next : List SaslBody → SaslBody → Bool
-is_next [] (Mechanisms m) = true
-is_next (a ∷ []) (Challenge c) = true
-is_next (a ∷ b ∷ []) (Challenge c) = true
-is_next (a ∷ b ∷ []) (Outcome o) = true
-is_next (a ∷ b ∷ c ∷ []) (Outcome o) = true
-is_next before (Outcome o) = is_refusal o.code
-is_next before body = false
-
--- the last body given is out of order
-abbrev pub IsDisorder : List SaslBody → Type 0
-IsDisorder given = IsOutOfOrder is_next given
-
--- a body that brings a server final (RFC 5802, section 5): outcome `Ok`, or a challenge
-abbrev pub HasFinal : List ℕ → SaslBody → Type 0
-HasFinal text body = (body ≡ outcome_body sasl.Ok (Some text)) ⊎ (body ≡ challenge_body text)
-
--- why a client fails with a kind of SCRAM
-pub data IsScramCause (x : ClientEnd) (kind : ScramErrorKind) (given sent : List SaslBody) : Type 0 where
-  by_challenge : (names : List (List ℕ)) (text : List ℕ) → given ≡ mechanisms_body names ∷ challenge_body text ∷ [] → ¬ IsMemory kind
-      → IsServerFirstRefusal x.client.nonce text kind → IsScramCause x kind given sent
-  by_final : (names : List (List ℕ)) (server_first client_final signature text : List ℕ) (body : SaslBody) → HasFinal text body
-      → given ≡ mechanisms_body names ∷ challenge_body server_first ∷ body ∷ []
-      → sent ≡ client_init x ∷ response_body client_final ∷ []
-      → ClientAnswers (digest_of x.hash) (block_of x.hash) (output_of x.hash) x.client.user x.client.password x.client.nonce server_first client_final signature
-      → IsServerFinalRefusal (output_of x.hash) signature text kind → IsScramCause x kind given sent
-  by_no_signature : (names : List (List ℕ)) (server_first : List ℕ)
-      → given ≡ mechanisms_body names ∷ challenge_body server_first ∷ outcome_body sasl.Ok None ∷ []
-      → kind ≡ Signature → IsScramCause x kind given sent
-
--- why a client fails, by what it was given and what it sent
-abbrev pub client_causes : ClientEnd → NegotiationError → List SaslBody → List SaslBody → Type 0
-client_causes x (Memory a) given sent = ⊥
-client_causes x (ProtocolHeaderMismatch h) given sent = ⊥
-client_causes x NotImplemented given sent = IsUnlisted (mechanism_of x.hash) given
-client_causes x (SaslError code payload) given sent = EndsInRefusal code payload given
-client_causes x (ScramError kind) given sent = IsScramCause x kind given sent
-client_causes x (Io kind) given sent = ⊥
-client_causes x DecodeError given sent = ⊥
-client_causes x IllegalState given sent = IsDisorder given
-client_causes x FramingError given sent = ⊥
-
--- the client's end as a mechanism
-abbrev pub client_mechanism : Mechanism ClientEnd
-client_mechanism = record {
-  holds = client_holds;
-  causes = client_causes;
-  owes = client_owes;
-  turn_of = client_turn;
-  left = client_left;
-  same = ClientSame;
-}
-
--- what comes of a text that is refused: want of memory is no refusal
-abbrev pub IsTextAnswer : ScramErrorKind → Result Verdict AllocError → Type 0
-IsTextAnswer kind (Ok Taken) = ⊥
-IsTextAnswer kind (Ok (Refused e)) = (e ≡ ScramError kind) × (¬ IsMemory kind)
-IsTextAnswer kind (Err e) = IsMemory kind
-
--- ---- the laws of the mechanism
-
--- it refuses
-abbrev Refuses : Turn → Type 0
-Refuses Send = ⊥
-Refuses Receive = ⊥
-Refuses (Refuse code) = ⊤
-Refuses Pass = ⊥
-
-never_refuses : (stage : ClientStage) → Refuses (turn_in stage) → ⊥
-never_refuses AwaitsMechanisms h = h
-never_refuses OwesInit h = h
-never_refuses AwaitsChallenge h = h
-never_refuses (OwesResponse text) h = h
-never_refuses AwaitsOutcome h = h
-never_refuses OwesEmptyResponse h = h
-never_refuses AwaitsEnd h = h
-never_refuses Passed h = h
-
-pub client_refusal : (x : ClientEnd) (code : SaslCode) (given sent : List SaslBody) → client_turn x ≡ Refuse code → client_holds x given sent → client_causes x (refused_with code) given sent
-client_refusal x code given sent h held = absurd (never_refuses x.stage (subst Refuses (sym h) tt))
-
-pub client_same_self : (x : ClientEnd) → ClientSame x x
-client_same_self x = record { hash = refl; user = refl; password = refl; nonce = refl; hostname = refl }
-
-pub client_same_then : (x y z : ClientEnd) → ClientSame x y → ClientSame y z → ClientSame x z
-client_same_then x y z a b = record {
-  hash = a.hash ∙ b.hash;
-  user = a.user ∙ b.user;
-  password = a.password ∙ b.password;
-  nonce = a.nonce ∙ b.nonce;
-  hostname = a.hostname ∙ b.hostname;
-}
-
--- ---- the ends of an exchange
-
--- an end that has read and written nothing
-abbrev pub client_begun : ScramHash → List ℕ → List ℕ → List ℕ → Option (List ℕ) → ClientEnd
-client_begun hash user password nonce hostname = record {
-  hash = hash;
-  client = record { user = user; password = password; nonce = nonce; phase = Unanswered };
-  stage = AwaitsMechanisms;
-  hostname = hostname;
-}
+-- ---- with SCRAM
 
 -- what was read and written says that the listener knows the password: the exchange is whole, and its check holds
 pub record ClientPassed (hash : ScramHash) (user password nonce : List ℕ) (hostname : Option (List ℕ)) (wrote read : List ℕ) : Type 0 where
@@ -282,3 +44,47 @@ pub record ClientPassed (hash : ScramHash) (user password nonce : List ℕ) (hos
 -- that of an end
 abbrev pub HasClientPassed : ClientEnd → List LinkEvent → Type 0
 HasClientPassed x events = ClientPassed x.hash x.client.user x.client.password x.client.nonce x.hostname (wrote_of events) (read_of events)
+
+-- ---- with a mechanism whose client says all in its init
+
+-- what was read and written: the client's init went out, and outcome `Ok` came back. It says nothing of the listener, which shows
+-- nothing in these mechanisms
+pub record InitClientPassed (mechanism : List ℕ) (response hostname : Option (List ℕ)) (wrote read : List ℕ) : Type 0 where
+  pub names : List (List ℕ)
+  pub payload : Option (List ℕ)
+  pub more : List ℕ
+  pub rest : List ℕ
+  pub wrote_is : wrote ≡ said (init_body mechanism response hostname ∷ []) ++ more
+  pub read_is : Heard read (mechanisms_body names ∷ outcome_body sasl.Ok payload ∷ []) rest
+  pub listed : Contains names mechanism
+
+-- ---- with any of the mechanisms
+
+-- why a gate is not made, by what would be true of allowed credentials
+abbrev pub IsStartRefusal : Type 0 → NegotiationError → Type 0
+IsStartRefusal Allowed (Memory a) = Allowed
+IsStartRefusal Allowed (ProtocolHeaderMismatch h) = ⊥
+IsStartRefusal Allowed NotImplemented = ⊥
+IsStartRefusal Allowed (SaslError code payload) = ⊥
+IsStartRefusal Allowed (ScramError kind) = (kind ≡ TextNotAllowed) × (¬ Allowed)
+IsStartRefusal Allowed (Io kind) = ⊥
+IsStartRefusal Allowed DecodeError = ⊥
+IsStartRefusal Allowed IllegalState = ⊥
+IsStartRefusal Allowed FramingError = ⊥
+
+-- what was read and written says what the mechanism of an end promises
+abbrev pub HasAnyClientPassed : ClientExchange → List LinkEvent → Type 0
+HasAnyClientPassed (Scram x) events = HasClientPassed x events
+HasAnyClientPassed (Init x) events = InitClientPassed x.mechanism x.response x.hostname (wrote_of events) (read_of events)
+
+-- the same of an end that was made for these credentials and this host
+abbrev pub AnyClientPassed : Credentials → Option (List ℕ) → List ℕ → List ℕ → Type 0
+AnyClientPassed anonymous hostname wrote read = InitClientPassed anonymous_name None hostname wrote read
+AnyClientPassed (plain user password) hostname wrote read = InitClientPassed plain_name (Some (plain_of user password)) hostname wrote read
+AnyClientPassed (scram hash user password nonce) hostname wrote read = ClientPassed hash user password nonce hostname wrote read
+
+-- a poll of a gate, and what it says of the whole history: only SASL was written, and where it passed, the check holds
+pub record ClientPolled {L : Type 0} (link : Ghosts L) (old : Negotiating L ClientExchange) (left : ℕ) (result : Result GatePoll NegotiationError) (new : Negotiating L ClientExchange) (left' : ℕ) : Type 0 where
+  pub polled : Polled link any_client_mechanism old left result new left'
+  pub only_sasl : (before : List LinkEvent) → Has any_client_mechanism old before → IsOnlySasl (wrote_of (polled.events ++ before))
+  pub passed : result ≡ Ok poll.Passed → (before : List LinkEvent) → Has any_client_mechanism old before → HasAnyClientPassed old.exchange (polled.events ++ before)

@@ -1,5 +1,5 @@
 -- The frames of a negotiation (OASIS AMQP 1.0, part 5, section 5.3.1; part 2, section 2.3).
-use Rattle.std.specs.Prelude.{◌≡◌, ℕ, List, [], ◌∷◌, ◌++◌, ◌≤◌, length, drop, flat_map}
+use Rattle.std.specs.Prelude.{◌≡◌, ℕ, List, [], ◌∷◌, ◌++◌, ◌≤◌, length, drop, flat_map, All}
 use Rattle.amqp_sasl_bodies.specs.declared.sasl_body.SaslBody.{SaslBody}
 use Rattle.amqp_sasl_bodies.specs.SaslBytes.{SpellsSasl}
 use Rattle.amqp_data.specs.Data.{item, no_items, items_depth}
@@ -49,3 +49,10 @@ sasl_frame x = frame_of 1 0 (canonical_of x)
 -- the SASL header and the frames of these bodies
 abbrev pub said : List SaslBody → List ℕ
 said bodies = sasl_header ++ flat_map sasl_frame bodies
+
+-- what was written is the SASL header and whole SASL frames of at most 512 bytes (part 5, section 5.3.1), the last of which may be cut off
+pub record IsOnlySasl (wrote : List ℕ) : Type 0 where
+  pub bodies : List SaslBody
+  pub rest : List ℕ
+  pub frames : wrote ++ rest ≡ said bodies
+  pub framed : All HasSaslFrame bodies

@@ -10,11 +10,11 @@ use Rattle.amqp_wire.specs.declared.frame.Front.TheVariants.{Partial, Refused, F
 use Rattle.amqp_wire.specs.Codec.{Codec}
 use Rattle.amqp_wire.specs.Events.{LinkEvent, NotRead, NotWritten, Went, read_of, wrote_of, reads_in, Includes, HasFailed}
 use Rattle.amqp_wire.specs.Frame.{IsFront, HasBody}
-use Rattle.sasl_gate.specs.declared.gate.error.NegotiationError.{NegotiationError}
-use Rattle.sasl_gate.specs.declared.gate.exchange.Exchange.{Ghosts as Mechanism}
-use Rattle.sasl_gate.specs.declared.gate.error.NegotiationError.TheVariants.{Memory, ProtocolHeaderMismatch, NotImplemented, SaslError, ScramError, Io, DecodeError, IllegalState, FramingError}
-use Rattle.sasl_gate.specs.declared.gate.exchange.Turn.{Turn}
-use Rattle.sasl_gate.specs.declared.gate.exchange.Turn.TheVariants.{Receive, Pass}
+use Rattle.sasl_exchange.specs.declared.error.NegotiationError.{NegotiationError}
+use Rattle.sasl_exchange.specs.declared.exchange.Exchange.{Ghosts as Mechanism}
+use Rattle.sasl_exchange.specs.declared.error.NegotiationError.TheVariants.{Memory, ProtocolHeaderMismatch, NotImplemented, SaslError, ScramError, Io, DecodeError, IllegalState, FramingError}
+use Rattle.sasl_exchange.specs.declared.exchange.Turn.{Turn}
+use Rattle.sasl_exchange.specs.declared.exchange.Turn.TheVariants.{Receive, Pass}
 use Rattle.sasl_gate.specs.declared.gate.negotiation.Phase.{Phase}
 use Rattle.sasl_gate.specs.declared.gate.negotiation.Phase.TheVariants.{Header, Frames, Failed}
 use Rattle.sasl_gate.specs.declared.gate.negotiation.GatePoll.{GatePoll}

@@ -5,7 +5,7 @@ use Rattle.amqp_sasl_bodies.specs.SaslBytes.{SpellsSasl}
 use Rattle.sasl_gate.specs.Frames.{HasSaslFrame, canonical_of}
 use Rattle.amqp_wire.specs.declared.link.Link.{Ghosts}
 use Rattle.amqp_wire.specs.Events.{LinkEvent}
-use Rattle.sasl_gate.specs.declared.gate.exchange.Exchange.{Ghosts as Mechanism}
+use Rattle.sasl_exchange.specs.declared.exchange.Exchange.{Ghosts as Mechanism}
 use Rattle.sasl_gate.specs.declared.gate.negotiation.Phase.{Phase}
 use Rattle.sasl_gate.specs.declared.gate.negotiation.Phase.TheVariants.{Header, Frames, Failed}
 use Rattle.sasl_gate.specs.declared.gate.negotiation.Step.{Step}
@@ -18,8 +18,8 @@ use Rattle.amqp_wire.specs.declared.link.Stop.TheVariants.{Empty, End, Failed as
 use Rattle.amqp_wire.specs.declared.link.IoKind.TheVariants.{Fault, End as InputEnd}
 use Rattle.amqp_wire.specs.declared.reading.Wait.{Wait}
 use Rattle.amqp_wire.specs.declared.reading.Wait.TheVariants.{Over, Stopped, Spent}
-use Rattle.sasl_gate.specs.declared.gate.error.NegotiationError.{NegotiationError}
-use Rattle.sasl_gate.specs.declared.gate.error.NegotiationError.TheVariants.{Io}
+use Rattle.sasl_exchange.specs.declared.error.NegotiationError.{NegotiationError}
+use Rattle.sasl_exchange.specs.declared.error.NegotiationError.TheVariants.{Io}
 use Rattle.sasl_gate.specs.declared.gate.negotiation.GatePoll.{GatePoll}
 use Rattle.sasl_gate.specs.declared.gate.negotiation.GatePoll.TheVariants.{Pending, Passed}
 use Rattle.sasl_gate.specs.Negotiation.{Negotiating, GoesOn, IsHeldUp, IsAtRestOrFull, IsPassed, IsMemoryOr, IsOverlong}

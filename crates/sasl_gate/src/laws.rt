@@ -1,38 +1,10 @@
-//! What follows of the contracts, over a whole exchange.
-ghost use Rattle.std.specs.Prelude.{ℕ, List, Option, length, ◌≤◌};
-ghost use Rattle.amqp_sasl_bodies.specs.declared.sasl_body.SaslBody.{SaslBody};
+//! What follows of the contracts, over a whole negotiation.
+ghost use Rattle.std.specs.Prelude.{ℕ, List, Option};
 ghost use Rattle.amqp_wire.specs.Events.{LinkEvent, read_of, wrote_of};
-ghost use Rattle.sasl_gate.specs.declared.gate.client.ClientExchange.{ClientExchange};
-ghost use Rattle.sasl_gate.specs.declared.gate.server.ServerExchange.{ServerExchange};
-ghost use Rattle.sasl_gate.specs.AnyClient.{any_client_holds, any_client_begun, any_client_same, HasAnyClientPassed, AnyClientPassed};
-ghost use Rattle.sasl_gate.specs.AnyServer.{any_server_holds};
-ghost use Rattle.sasl_gate.specs.ClientGate.{ClientEnd, client_holds};
-ghost use Rattle.sasl_gate.specs.Credentials.{Credentials};
-ghost use Rattle.sasl_gate.specs.ServerGate.{ServerEnd, server_holds};
-
-use crate::provider::{PlainCredentialProvider, ScramCredentialProvider};
-
-/// A client with SCRAM sends three bodies at most: the init, the response, and the empty response to a server final that
-/// came as a challenge (part 5, section 5.3.2).
-pub fn client_sends_few()
-    ensures { (x : ClientEnd) (given sent : List SaslBody) → client_holds x given sent → length sent ≤ 3 }
-{}
-
-/// So does a client with any of the mechanisms.
-pub fn any_client_sends_few()
-    ensures { (x : ClientExchange) (given sent : List SaslBody) → any_client_holds x given sent → length sent ≤ 3 }
-{}
-
-/// A listener with SCRAM sends three bodies at most: the mechanisms, the challenge and the outcome (part 5, section
-/// 5.3.2).
-pub fn listener_sends_few<P: ScramCredentialProvider>()
-    ensures { (x : ServerEnd P) (given sent : List SaslBody) → server_holds P.stored x given sent → length sent ≤ 3 }
-{}
-
-/// So does a listener with any of the mechanisms.
-pub fn any_listener_sends_few<Q: PlainCredentialProvider, P: ScramCredentialProvider>()
-    ensures { (x : ServerExchange Q P) (given sent : List SaslBody) → any_server_holds Q.passwords P.stored x given sent → length sent ≤ 3 }
-{}
+ghost use Rattle.sasl_exchange.specs.declared.client.ClientExchange.{ClientExchange};
+ghost use Rattle.sasl_exchange.specs.AnyClient.{any_client_begun, any_client_same};
+ghost use Rattle.sasl_exchange.specs.Credentials.{Credentials};
+ghost use Rattle.sasl_gate.specs.ClientGate.{HasAnyClientPassed, AnyClientPassed};
 
 /// What a client that has passed says, in words of what it was made for: its mechanism, user, password, nonce and host
 /// are those of its first state.

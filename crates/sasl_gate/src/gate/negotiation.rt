@@ -5,26 +5,26 @@ ghost use Rattle.amqp_wire.specs.declared.frame.Front.TheVariants.{Refused, Fore
 ghost use Rattle.amqp_wire.specs.declared.reading.Wait.{Wait};
 ghost use Rattle.amqp_wire.specs.Events.{LinkEvent};
 ghost use Rattle.amqp_sasl_bodies.specs.declared.sasl_body.SaslBody.{SaslBody};
-ghost use Rattle.sasl_gate.specs.Frames.{HasSaslFrame, canonical_of};
+ghost use Rattle.sasl_gate.specs.Frames.{HasSaslFrame, canonical_of, sasl_header};
 ghost use Rattle.amqp_sasl_bodies.specs.SaslBytes.{SpellsSasl};
 ghost use Rattle.amqp_wire.specs.Frame.{HasBody, IsFront};
 ghost use Rattle.amqp_wire.specs.contracts.codec.FramedCodec.{the_row as codec_row};
 ghost use Rattle.sasl_gate.specs.contracts.gate.negotiation.Negotiation.{the_row};
-ghost use Rattle.sasl_gate.specs.declared.gate.exchange.Turn.TheVariants.{Send, Receive};
+ghost use Rattle.sasl_exchange.specs.declared.exchange.Turn.TheVariants.{Send, Receive};
 ghost use Rattle.sasl_gate.specs.declared.gate.negotiation.Phase.TheVariants.{Header, Frames, Failed};
-ghost use Rattle.sasl_gate.specs.Frames.{sasl_header};
 ghost use Rattle.sasl_gate.specs.Negotiation.{Negotiating, GoesOn, IsPassed, Polled};
 ghost use Rattle.sasl_gate.specs.Steps.{Stepped, step_in, measure_of, HasEnded, IsAlive, IsFailed, IsStopAnswer, IsWaitAnswer, ArrivesAt, IsDecoded, IsOwed, IsEndAnswer};
 
-use crate::gate::error::NegotiationError;
-use crate::gate::exchange::{Exchange, Turn, Verdict};
-use amqp_sasl_bodies::{FRAME_TYPE_SASL, SaslBody, decode_sasl, encode_sasl};
 use amqp_fields::BaseError;
+use amqp_sasl_bodies::sasl_body::SaslBody;
+use amqp_sasl_bodies::{FRAME_TYPE_SASL, decode_sasl, encode_sasl};
 use amqp_text::Binary;
 use amqp_wire::codec::FramedCodec;
 use amqp_wire::frame::Front;
 use amqp_wire::link::{Held, IoKind, Link, Stop};
 use amqp_wire::reading::{Arrival, Wait, read_front, read_header};
+use sasl_exchange::error::NegotiationError;
+use sasl_exchange::exchange::{Exchange, Turn, Verdict};
 use std::alloc::{AllocError, Global};
 use std::marker::Model;
 

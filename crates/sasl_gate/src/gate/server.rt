@@ -1,108 +1,20 @@
-//! The listener's end of a SASL negotiation with any of the mechanisms, and its gate (OASIS AMQP 1.0, part 5, section 5.3).
+//! The listener's gate: a SASL negotiation over a link with any of the mechanisms (OASIS AMQP 1.0, part 5, section 5.3).
 ghost use Rattle.std.specs.Prelude.{◌≡◌, ◌^◌, ℕ, IfOk, IfErr};
 ghost use Rattle.std.specs.Borrow.{Lends, sem};
-ghost use Rattle.sasl_gate.specs.AnyServer.{any_server_holds, any_server_causes, any_server_owes, any_server_turn, any_server_left, any_server_same, any_server_mechanism, any_server_refusal, any_server_same_self, any_server_same_then, HasMechanism, IsServerBegun, IsServerStarted, ServerPolled};
+ghost use Rattle.sasl_exchange.specs.AnyServer.{any_server_mechanism, HasMechanism};
 ghost use Rattle.sasl_gate.specs.Negotiation.{IsPassed};
+ghost use Rattle.sasl_gate.specs.ServerGate.{IsServerStarted, ServerPolled};
 
-use crate::gate::acceptor::SaslAcceptor;
 use crate::gate::client::READS_OF_POLL;
-use crate::gate::error::NegotiationError;
-use crate::gate::exchange::{Exchange, Turn, Verdict};
-use crate::gate::init_server::{InitCheck, InitServer};
 use crate::gate::negotiation::{GatePoll, Negotiation};
-use crate::gate::scram_server::ScramServerExchange;
-use crate::provider::{PlainCredentialProvider, ScramCredentialProvider};
-use crate::scram::hash::ScramHash;
-use amqp_sasl_bodies::sasl_body::SaslBody;
 use amqp_wire::codec::FramedCodec;
 use amqp_wire::link::Link;
+use sasl_exchange::acceptor::SaslAcceptor;
+use sasl_exchange::error::NegotiationError;
+use sasl_exchange::server::ServerExchange;
+use sasl_scram::provider::{PlainCredentialProvider, ScramCredentialProvider};
 use std::alloc::{AllocError, Global};
 use std::marker::Model;
-
-/// The listener's end of an exchange, with the users of `Q` or `P`.
-#[derive(Drop)]
-pub enum ServerExchange<Q: PlainCredentialProvider, P: ScramCredentialProvider> {
-    /// With SCRAM.
-    Scram(ScramServerExchange<P>),
-    /// With a mechanism whose client says all in its init.
-    Init(InitServer<Q>),
-}
-
-impl<Q: PlainCredentialProvider, P: ScramCredentialProvider> ServerExchange<Q, P> {
-    /// An end that has read and written nothing, for an acceptor with a mechanism (part 5, section 5.3.2). A nonce is to
-    /// be new for each exchange (RFC 5802, section 5.1); takes no memory.
-    pub fn new(acceptor: SaslAcceptor<Q, P>) -> Self
-        requires { HasMechanism acceptor }
-        ensures { IsServerBegun acceptor result }
-    {
-        match acceptor {
-            SaslAcceptor::NoSasl => unreachable!(),
-            SaslAcceptor::Anonymous => {
-                ServerExchange::Init(InitServer::new(InitCheck::Anonymous))
-            }
-            SaslAcceptor::Plain(users) => {
-                ServerExchange::Init(InitServer::new(InitCheck::Plain(users)))
-            }
-            SaslAcceptor::ScramSha1(users, nonce) => {
-                ServerExchange::Scram(ScramServerExchange::new(ScramHash::Sha1, users, nonce))
-            }
-            SaslAcceptor::ScramSha256(users, nonce) => {
-                ServerExchange::Scram(ScramServerExchange::new(ScramHash::Sha256, users, nonce))
-            }
-            SaslAcceptor::ScramSha512(users, nonce) => {
-                ServerExchange::Scram(ScramServerExchange::new(ScramHash::Sha512, users, nonce))
-            }
-        }
-    }
-}
-
-impl<Q: PlainCredentialProvider, P: ScramCredentialProvider> Exchange for ServerExchange<Q, P> {
-    ghost holds = { any_server_holds Q.passwords P.stored };
-
-    ghost causes = { any_server_causes Q.passwords P.stored };
-
-    ghost owes = { any_server_owes };
-
-    ghost turn_of = { any_server_turn };
-
-    ghost left = { any_server_left };
-
-    ghost same = { any_server_same };
-
-    fn turn(&self) -> Turn {
-        match self {
-            ServerExchange::Scram(exchange) => exchange.turn(),
-            ServerExchange::Init(exchange) => exchange.turn(),
-        }
-    }
-
-    fn next_body(&self, alloc: Global) -> Result<SaslBody, AllocError> {
-        match self {
-            ServerExchange::Scram(exchange) => exchange.next_body(alloc),
-            ServerExchange::Init(exchange) => exchange.next_body(alloc),
-        }
-    }
-
-    fn on_sent(&mut self) {
-        match self {
-            ServerExchange::Scram(exchange) => exchange.on_sent(),
-            ServerExchange::Init(exchange) => exchange.on_sent(),
-        }
-    }
-
-    fn on_body(&mut self, alloc: Global, body: SaslBody) -> Result<Verdict, AllocError> {
-        match self {
-            ServerExchange::Scram(exchange) => exchange.on_body(alloc, body),
-            ServerExchange::Init(exchange) => exchange.on_body(alloc, body),
-        }
-    }
-
-    ghost refusal = { any_server_refusal Q.passwords P.stored };
-
-    ghost same_self = { any_server_same_self };
-
-    ghost same_then = { any_server_same_then };
-}
 
 /// The listener's gate: with SCRAM it passes where the client has shown that it knows the password of a user of `P`
 /// (RFC 5802, section 3), with PLAIN where the client has told the password of a user of `Q` (RFC 4616, section 2), and
@@ -114,7 +26,7 @@ pub struct ServerGate<L: Link, Q: PlainCredentialProvider, P: ScramCredentialPro
 
 impl<L: Link, Q: PlainCredentialProvider, P: ScramCredentialProvider> Model
     for ServerGate<L, Q, P> {
-    ghost use Rattle.sasl_gate.specs.declared.gate.server.ServerExchange.{ServerExchange};
+    ghost use Rattle.sasl_exchange.specs.declared.server.ServerExchange.{ServerExchange};
     ghost use Rattle.sasl_gate.specs.Negotiation.{Negotiating};
 
     ghost Value = { Negotiating L (ServerExchange Q P) };

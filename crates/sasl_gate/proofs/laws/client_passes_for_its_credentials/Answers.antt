@@ -1,4 +1,4 @@
-use Rattle.sasl_gate.proofs.AnyClients.{passed_for}
+use Rattle.sasl_gate.proofs.ClientGates.{passed_for}
 use Rattle.sasl_gate.proofs.laws.client_passes_for_its_credentials.Goals as goal
 
 pub returns : goal.returns

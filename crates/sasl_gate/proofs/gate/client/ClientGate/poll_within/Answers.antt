@@ -1,4 +1,4 @@
-use Rattle.sasl_gate.proofs.AnyClients.{client_polled}
+use Rattle.sasl_gate.proofs.ClientGates.{client_polled}
 use Rattle.sasl_gate.proofs.gate.client.ClientGate.poll_within.Goals as goal
 
 pub returns : goal.returns

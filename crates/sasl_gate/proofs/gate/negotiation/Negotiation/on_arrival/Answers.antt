@@ -1,4 +1,4 @@
-use Rattle.sasl_gate.specs.declared.gate.error.NegotiationError.TheVariants.{FramingError, NotImplemented}
+use Rattle.sasl_exchange.specs.declared.error.NegotiationError.TheVariants.{FramingError, NotImplemented}
 use Rattle.sasl_gate.proofs.GateSteps.{failed_front}
 use Rattle.sasl_gate.proofs.gate.negotiation.Negotiation.on_arrival.Goals as goal
 

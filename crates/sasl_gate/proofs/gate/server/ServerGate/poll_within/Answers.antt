@@ -1,4 +1,4 @@
-use Rattle.sasl_gate.proofs.AnyServers.{server_polled}
+use Rattle.sasl_gate.proofs.ServerGates.{server_polled}
 use Rattle.sasl_gate.proofs.gate.server.ServerGate.poll_within.Goals as goal
 
 pub returns : goal.returns

@@ -1,0 +1,9 @@
+pub mod AnyScram
+pub mod Check
+pub mod Hashes
+pub mod Keys
+pub mod Parts
+pub mod Profile
+pub mod Refusals
+pub mod States
+pub mod Texts
