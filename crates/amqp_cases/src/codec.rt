@@ -5,12 +5,13 @@ use amqp_frames::{decode_body, encode_body};
 use amqp_messages::{decode_message, encode_message};
 use amqp_sasl_bodies::{decode_sasl, encode_sasl};
 use amqp_text::Binary;
-use amqp_value::{read_value, read_value_within, read_values, to_vec};
-use std::alloc::Global;
+use amqp_value::{Value, read_value, read_value_within, read_values, to_vec};
+use std::alloc::{AllocError, Global};
+use std::hash::{DefaultHasher, Hash, Hasher};
 
 /// The bytes of the value, written again.
-fn value_again(alloc: Global, bytes: &[u8]) -> Result<Binary, Refusal> {
-    let (value, used) = read_value(alloc, bytes)?;
+fn value_again(alloc: Global, bytes: &[u8], levels: u8) -> Result<Binary, Refusal> {
+    let (value, used) = read_value_within(alloc, bytes, levels)?;
     if used < bytes.len() {
         return Err(Refusal::Rest);
     }
@@ -40,6 +41,25 @@ fn values_count(alloc: Global, bytes: &[u8], levels: u8) -> Result<usize, Refusa
     Ok(values.len())
 }
 
+/// The hash of a value.
+fn hash_of(value: &Value) -> u64 {
+    let mut state = DefaultHasher::new();
+    value.hash(&mut state);
+    state.finish()
+}
+
+/// How many different hashes the values have that fill the bytes.
+fn hashes_count(alloc: Global, bytes: &[u8], levels: u8) -> Result<usize, Refusal> {
+    let values = read_values(alloc, bytes, levels)?;
+    let mut hashes = Vec::new(alloc);
+    for value in values.as_slice() {
+        hashes.push(hash_of(value)).map_err(AllocError::from)?;
+    }
+    hashes.sort_unstable();
+    hashes.dedup();
+    Ok(hashes.len())
+}
+
 /// The bytes of a frame's body, written again.
 fn body_again(alloc: Global, bytes: &[u8]) -> Result<Binary, Refusal> {
     let body = decode_body(alloc, bytes)?;
@@ -64,10 +84,11 @@ fn message_again(alloc: Global, bytes: &[u8]) -> Result<Binary, Refusal> {
 /// What comes of bytes, with that many levels where the kind counts them.
 fn try_codec(alloc: Global, kind: Kind, bytes: &[u8], levels: u8) -> Result<Came, Refusal> {
     match kind {
-        Kind::Values => Ok(Came::Bytes(value_again(alloc, bytes)?)),
+        Kind::Values => Ok(Came::Bytes(value_again(alloc, bytes, levels)?)),
         Kind::Shown => Ok(Came::Text(value_shown(alloc, bytes)?)),
         Kind::Fronts => Ok(Came::Count(front_len(alloc, bytes, levels)?)),
         Kind::Sequences => Ok(Came::Count(values_count(alloc, bytes, levels)?)),
+        Kind::Hashes => Ok(Came::Count(hashes_count(alloc, bytes, levels)?)),
         Kind::Bodies => Ok(Came::Bytes(body_again(alloc, bytes)?)),
         Kind::Sasl => Ok(Came::Bytes(sasl_again(alloc, bytes)?)),
         Kind::Messages => Ok(Came::Bytes(message_again(alloc, bytes)?)),

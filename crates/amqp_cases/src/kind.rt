@@ -1,4 +1,8 @@
 //! What the cases of a file are about.
+//!
+//! A case is a line, `GIVEN => WANTED`; blank lines and lines that begin with `#` say nothing. GIVEN are bytes
+//! (`case_files::notation`), and before them may stand `levels=N`, the most levels that a value may be nested, else 32. WANTED is
+//! what is to come: bytes, or `same` where they are those that were given; a number; a text; or the name of an error, as `Decode`.
 
 /// What a file's cases are about, as the end of its name tells.
 #[derive(Clone, Copy, Debug, PartialEq, Eq)]
@@ -7,10 +11,12 @@ pub enum Kind {
     Values,
     /// `.shown`: bytes of one value, and how it prints.
     Shown,
-    /// `.fronts`: levels, a colon and bytes, and how many of them a value takes that is nested no deeper.
+    /// `.fronts`: bytes, and how many of them the value at their front takes.
     Fronts,
-    /// `.sequences`: levels, a colon and bytes, and how many values fill them that are nested no deeper.
+    /// `.sequences`: bytes, and how many values fill them.
     Sequences,
+    /// `.hashes`: bytes that values fill, and how many different hashes they have.
+    Hashes,
     /// `.bodies`: the body of a frame, and how it is written again.
     Bodies,
     /// `.sasl`: the body of a SASL frame, and how it is written again.
@@ -28,6 +34,7 @@ impl Kind {
             "shown" => Some(Kind::Shown),
             "fronts" => Some(Kind::Fronts),
             "sequences" => Some(Kind::Sequences),
+            "hashes" => Some(Kind::Hashes),
             "bodies" => Some(Kind::Bodies),
             "sasl" => Some(Kind::Sasl),
             "messages" => Some(Kind::Messages),

@@ -7,21 +7,25 @@ use std::alloc::{AllocError, Global};
 use std::rt::Files;
 use std::{fs, io};
 
-/// What a case gives: how many levels a value may have, where its kind counts them, and bytes.
+/// How many levels a value may have where a case does not say.
+const LEVELS: u8 = 32;
+
+/// What a case gives: how many levels a value may have, and bytes.
 #[derive(Drop)]
 struct Given {
     levels: u8,
     bytes: Vec<u8>,
 }
 
-/// Reads what a case gives.
+/// Reads what a case gives: `levels=N` may stand before the bytes.
 fn read_given(alloc: Global, text: &str) -> Result<Given, Refusal> {
-    let Some((levels, bytes)) = text.split_once(':') else {
+    let Some(rest) = text.strip_prefix("levels=") else {
         return Ok(Given {
-            levels: 0,
+            levels: LEVELS,
             bytes: read_bytes(alloc, text)?,
         });
     };
+    let (levels, bytes) = rest.split_once(' ').unwrap_or((rest, ""));
     match levels.parse::<u8>() {
         Ok(levels) => Ok(Given {
             levels,
@@ -55,7 +59,12 @@ fn line_difference(alloc: Global, kind: Kind, line: &str) -> Result<Option<Came>
 }
 
 /// Makes the cases of a text, and writes each that is not the same.
-fn run_text(rt: &(impl AllocGlobal + Print), kind: Kind, name: &str, text: &str) -> io::Result<Tally> {
+fn run_text(
+    rt: &(impl AllocGlobal + Print),
+    kind: Kind,
+    name: &str,
+    text: &str,
+) -> io::Result<Tally> {
     let mut tally = Tally::new();
     for (index, line) in text.lines().enumerate() {
         if is_comment(line) {

@@ -61,7 +61,12 @@ fn push_number(bytes: &mut Vec<u8>, number: u32, is_short: bool) -> Result<(), A
 }
 
 /// Adds the bytes around each number of `first..last`.
-fn count(bytes: &mut Vec<u8>, front: &[u8], back: &[u8], range: (u32, u32)) -> Result<(), AllocError> {
+fn count(
+    bytes: &mut Vec<u8>,
+    front: &[u8],
+    back: &[u8],
+    range: (u32, u32),
+) -> Result<(), AllocError> {
     let (first, last) = range;
     for number in first..last {
         bytes.extend_from_slice(front)?;
@@ -72,7 +77,12 @@ fn count(bytes: &mut Vec<u8>, front: &[u8], back: &[u8], range: (u32, u32)) -> R
 }
 
 /// Adds the bytes of what stands in parentheses and of the times or numbers behind it.
-fn push_group(alloc: Global, bytes: &mut Vec<u8>, group: &str, times: &str) -> Result<(), NotationError> {
+fn push_group(
+    alloc: Global,
+    bytes: &mut Vec<u8>,
+    group: &str,
+    times: &str,
+) -> Result<(), NotationError> {
     match group.split_once('#') {
         None => {
             let piece = hex::decode(alloc, group)?;

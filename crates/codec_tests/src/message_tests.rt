@@ -35,7 +35,12 @@ fn bodies_are_what_they_are(rt: HostRuntime) -> Result<(), Fail> {
     assert!(rt; Text::from_body(Body::Value(Value::Null)).is_err());
     let text = Text::from_str(rt.alloc(), "a")?;
     assert!(rt; Text::from_body(Body::Value(Value::String(text))).is_ok());
-    assert!(rt; matches!(Value::from_body(Body::Value(Value::Uint(1))), Ok(Value::Uint(1))));
+    assert!(rt;
+        matches!(
+            Value::from_body(Body::Value(Value::Uint(1))),
+            Ok(Value::Uint(1))
+        )
+    );
     assert!(rt; matches!(Value::from_body(Body::Empty), Err(Body::Empty)));
     assert!(rt; matches!(Body::from_body(Body::Empty), Ok(Body::Empty)));
     Ok(())

@@ -25,7 +25,10 @@ fn outcome_number(outcome: Outcome) -> u8 {
 fn accepted_or_else(rt: HostRuntime) {
     assert_eq!(rt; outcome_number(Outcome::Accepted(Accepted {})), 0);
     assert_eq!(rt; outcome_number(Outcome::Released(Released {})), 1);
-    assert_eq!(rt; outcome_number(Outcome::Rejected(Rejected { error: None })), 2);
+    assert_eq!(rt;
+        outcome_number(Outcome::Rejected(Rejected { error: None })),
+        2
+    );
 }
 
 fn ends_delivery(state: DeliveryState) -> bool {
