@@ -1,6 +1,6 @@
 -- What a run of the program did.
-use Rattle.std.specs.Prelude.{◌≡◌, ◌≤◌, ◌<◌, ◌↔◌, List, ℕ, length, take, Option, Some, None, ⊤}
-use Rattle.list_laws.specs.Told.{Loses, Gains, IsEmptyIfTold}
+use Rattle.std.specs.Prelude.{◌≡◌, List, ℕ, length, Option, Some, None, ⊤}
+use Rattle.list_laws.specs.Told.{Gains}
 use Rattle.amqp_wire.specs.declared.status.Status.{Status}
 use Rattle.amqp_wire.specs.declared.status.Status.TheVariants.{Done, Usage, BadScript, BadStep, Memory, ReadFault, WriteFault, TooLong}
 use Rattle.amqp_words.specs.declared.step.Step.{Step}
@@ -8,12 +8,8 @@ use Rattle.amqp_words.specs.declared.trace.Entry.{Entry}
 use Rattle.amqp_world.specs.Explains.{past_of, Explained, IsFirstInvalid}
 use Rattle.amqp_script.specs.Script.{Spells, IsFirstBad}
 use Rattle.amqp_script.specs.TraceText.{text_of}
-use Rattle.amqp_run.specs.Request.{Request, RunScript, DeriveKey, key_text}
-
--- a source was read to its end, and gave this script
-pub record ReadsScript (left left' : Option (List ℕ)) (script : List ℕ) : Type 0 where
-  pub gave : Loses left left' script
-  pub ended : IsEmptyIfTold left'
+use Rattle.amqp_streams.specs.Streams.{ReadsScript, WritesFront}
+use Rattle.amqp_requests.specs.Request.{Request, RunScript, DeriveKey, key_text}
 
 -- the text of a trace that explains the steps of the script that a source gave
 pub record IsRunText (left left' : Option (List ℕ)) (text : List ℕ) : Type 0 where
@@ -38,12 +34,6 @@ pub record WritesAll (IsText : List ℕ → Type 0) (written written' : Option (
   pub asked : IsText text
   pub wrote : Gains written written' text
 
--- a front of a text was written
-pub record WritesFront (text : List ℕ) (written written' : Option (List ℕ)) : Type 0 where
-  pub count : ℕ
-  pub within : count ≤ length text
-  pub wrote : Gains written written' (take count text)
-
 -- a front of a text of this kind was written
 pub record WritesSome (IsText : List ℕ → Type 0) (written written' : Option (List ℕ)) : Type 0 where
   pub text : List ℕ
@@ -63,12 +53,6 @@ pub record HasBadStep (left left' : Option (List ℕ)) (index : ℕ) : Type 0 wh
   pub read : ReadsScript left left' script
   pub spelled : Spells script steps
   pub bad : IsFirstInvalid steps index
-
--- a source gave bytes: more than the limit exactly where it was too long
-pub record ReadsUpTo (limit : ℕ) (left left' : Option (List ℕ)) (too_long : Type 0) : Type 0 where
-  pub bytes : List ℕ
-  pub gave : Loses left left' bytes
-  pub exact : too_long ↔ (limit < length bytes)
 
 -- the program ended before it wrote
 abbrev pub IsUnwritten : Status → Type 0

@@ -6,14 +6,10 @@
 //! line on standard error, and ends with the number of its status.
 #![tactic(auto)]
 
-pub mod command;
-pub mod key;
-pub mod outside;
 pub mod program;
-pub mod standard;
 
 use crate::program::run_program;
-use crate::standard::{StandardInput, StandardOutput};
+use amqp_streams::standard::{StandardInput, StandardOutput};
 use amqp_text::Text;
 use amqp_wire::status::Status;
 use std::process::ExitCode;

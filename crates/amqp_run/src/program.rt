@@ -1,13 +1,14 @@
 //! The program over any source and sink.
 ghost use Rattle.std.specs.Prelude.{◌≡◌, ◌≤◌, ◌↔◌, ◌⊎◌, ℕ, Some, None};
 ghost use Rattle.amqp_wire.specs.Link.{Rose};
-ghost use Rattle.amqp_run.specs.Request.{RunScript, request_in, text_of_key};
-ghost use Rattle.amqp_run.specs.Program.{IsRunText, IsAskedText, WritesAll, WritesSome, HasBadLine, HasBadStep, ReadsUpTo, IsUnwritten};
+ghost use Rattle.amqp_requests.specs.Request.{RunScript, request_in, text_of_key};
+ghost use Rattle.amqp_streams.specs.Streams.{ReadsUpTo};
+ghost use Rattle.amqp_run.specs.Program.{IsRunText, IsAskedText, WritesAll, WritesSome, HasBadLine, HasBadStep, IsUnwritten};
 
-use crate::command::{Command, read_command};
-use crate::key::{KeyRequest, key_line};
-use crate::outside::{ReadError, WriteError, read_all, write_all};
+use amqp_requests::command::{Command, read_command};
+use amqp_requests::key::{KeyRequest, key_line};
 use amqp_script::{ScriptError, parse, text};
+use amqp_streams::outside::{ReadError, WriteError, read_all, write_all};
 use amqp_text::Text;
 use amqp_wire::source::{Sink, Source};
 use amqp_wire::status::Status;

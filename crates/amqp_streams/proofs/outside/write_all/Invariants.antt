@@ -1,6 +1,6 @@
 use Rattle.std.proofs.Common.{◌≤◌, ◌-◌, length, take}
 use Rattle.list_laws.specs.Told.{Gains}
-use Rattle.amqp_run.proofs.outside.write_all.Given as goal
+use Rattle.amqp_streams.proofs.outside.write_all.Given as goal
 
 abbrev pub invariant-writes : goal.invariant-writes
 invariant-writes g l =

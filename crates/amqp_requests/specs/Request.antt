@@ -7,11 +7,11 @@ use Rattle.kdf_core.specs.Hmac.{hmac_of}
 use Rattle.kdf_core.specs.Pbkdf2.{pbkdf2_of}
 use Rattle.amqp_script.specs.Number.{number_in}
 use Rattle.amqp_script.specs.Hex.{hex_of}
-use Rattle.amqp_run.specs.declared.key.HashName.{HashName}
-use Rattle.amqp_run.specs.declared.key.HashName.TheVariants.{Sha1, Sha256, Sha512}
-use Rattle.amqp_run.specs.declared.key.KeyRequest.{KeyRequest}
-use Rattle.amqp_run.specs.declared.command.Command.{Command}
-use Rattle.amqp_run.specs.declared.command.Command.TheVariants as command
+use Rattle.amqp_requests.specs.declared.key.HashName.{HashName}
+use Rattle.amqp_requests.specs.declared.key.HashName.TheVariants.{Sha1, Sha256, Sha512}
+use Rattle.amqp_requests.specs.declared.key.KeyRequest.{KeyRequest}
+use Rattle.amqp_requests.specs.declared.command.Command.{Command}
+use Rattle.amqp_requests.specs.declared.command.Command.TheVariants as command
 
 -- a script is to be run, or a key derived by a hash function, rounds, length, password and salt
 pub data Request : Type 0 where

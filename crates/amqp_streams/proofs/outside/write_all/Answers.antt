@@ -1,7 +1,7 @@
 use Rattle.std.proofs.Common.{length, ap, arith, length-drop}
 use Rattle.std.proofs.lemmas.List.{take_rest}
-use Rattle.amqp_run.proofs.Told.{gains_more}
-use Rattle.amqp_run.proofs.outside.write_all.Goals as goal
+use Rattle.amqp_streams.proofs.Told.{gains_more}
+use Rattle.amqp_streams.proofs.outside.write_all.Goals as goal
 
 pub writes-preserved : goal.writes-preserved
 writes-preserved g c =

@@ -1,6 +1,6 @@
 use Rattle.std.proofs.Common.{◌≤◌, ◌-◌, ◌+◌, length}
 use Rattle.list_laws.specs.Told.{Loses}
-use Rattle.amqp_run.proofs.outside.read_all.Given as goal
+use Rattle.amqp_streams.proofs.outside.read_all.Given as goal
 
 abbrev pub invariant-reads : goal.invariant-reads
 invariant-reads g l =

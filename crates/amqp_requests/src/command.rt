@@ -1,6 +1,6 @@
 //! What the program is asked for.
 ghost use Rattle.std.specs.Prelude.{◌≡◌, Some, None, MatchOption, codes};
-ghost use Rattle.amqp_run.specs.Request.{key_in, request_in, request_of};
+ghost use Rattle.amqp_requests.specs.Request.{key_in, request_in, request_of};
 
 use crate::key::{HashName, KeyRequest};
 use amqp_script::script::number::number;

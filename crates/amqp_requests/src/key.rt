@@ -1,6 +1,6 @@
 //! Keys from passwords.
 ghost use Rattle.std.specs.Prelude.{◌≡◌, ◌≤◌, length, IfOk};
-ghost use Rattle.amqp_run.specs.Request.{hash_in, key_of, text_of_key};
+ghost use Rattle.amqp_requests.specs.Request.{hash_in, key_of, text_of_key};
 
 use amqp_script::script::words::is_text;
 use amqp_script::trace_text::hex::push_hex;

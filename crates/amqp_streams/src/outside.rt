@@ -2,8 +2,8 @@
 ghost use Rattle.std.specs.Prelude.{◌≡◌, ◌≤◌, ◌<◌, length, IfOk, OnOk, IsErrOf};
 ghost use Rattle.list_laws.specs.Told.{Gains};
 ghost use Rattle.amqp_wire.specs.Link.{Rose};
-ghost use Rattle.amqp_run.specs.Program.{ReadsScript, ReadsUpTo, WritesFront};
-ghost use Rattle.amqp_run.specs.declared.outside.ReadError.TheVariants.{Memory};
+ghost use Rattle.amqp_streams.specs.Streams.{ReadsScript, ReadsUpTo, WritesFront};
+ghost use Rattle.amqp_streams.specs.declared.outside.ReadError.TheVariants.{Memory};
 
 use amqp_wire::source::{Sink, SinkWrite, Source, SourceRead};
 use bytes::BytesMut;
