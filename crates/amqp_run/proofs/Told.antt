@@ -1,5 +1,5 @@
 -- A source of which nothing was read.
-use Rattle.std.proofs.Common.{◌+◌, List, ℕ, Option, Some, None, [], refl, arith}
+use Rattle.std.proofs.Common.{List, ℕ, Option, Some, None, [], refl, arith}
 use Rattle.list_laws.specs.Told.{Loses}
 use Rattle.amqp_streams.specs.Streams.{ReadsUpTo}
 

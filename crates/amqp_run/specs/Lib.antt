@@ -1,3 +1,1 @@
-pub use Rattle.amqp_streams.specs.Streams
-pub use Rattle.amqp_requests.specs.Request
 pub mod Program

@@ -1,5 +1,5 @@
 -- Bytes gained piece by piece.
-use Rattle.std.proofs.Common.{◌+◌, ◌-◌, ◌∙◌, List, ℕ, ◌++◌, Option, Some, None, [], refl, arith, length, take, drop, ap, sym, subst, append_assoc}
+use Rattle.std.proofs.Common.{◌+◌, ◌-◌, ◌∙◌, List, ℕ, ◌++◌, Option, Some, None, length, take, drop, ap, sym, subst, append_assoc}
 use Rattle.std.proofs.lemmas.List.{take_rest}
 use Rattle.std.proofs.Math.Seq.{take-add}
 use Rattle.list_laws.specs.Told.{Gains}
