@@ -2,10 +2,10 @@
 ghost use Rattle.std.specs.Prelude.{◌≡◌};
 ghost use Rattle.amqp_peer.specs.Prepared.{half_of, own_open, client_prepared, listener_prepared, client_sasl, listener_sasl};
 
-use amqp_performatives::open::Open;
 use amqp_engine::{Connection, EndKind, ListenerConnection};
 use amqp_opening::AcceptSasl;
 use amqp_opening::authentication::SaslCall;
+use amqp_performatives::open::Open;
 use amqp_text::Text;
 use amqp_words::ConnectionSettings;
 use sasl_gate::SaslProfile;

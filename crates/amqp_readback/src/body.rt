@@ -4,9 +4,9 @@ ghost use Rattle.amqp_data.specs.Data.{item, no_items};
 ghost use Rattle.amqp_frames.specs.Body.{body_values, read_again_body};
 ghost use Rattle.amqp_readback.specs.Bodies.{ComesBack, FitFrames};
 
-use amqp_sasl_bodies::sasl_body::SaslBody;
 use amqp_fields::BaseError;
 use amqp_frames::{FrameBody, decode_body, encode_body};
+use amqp_sasl_bodies::sasl_body::SaslBody;
 use amqp_sasl_bodies::{decode_sasl, encode_sasl};
 use std::alloc::Global;
 

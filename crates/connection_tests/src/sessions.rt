@@ -1,8 +1,8 @@
 //! The sessions that an engine takes in and hands out, which no script reaches.
-use amqp_performatives::open::Open;
 use amqp_engine::{
     AllocSessionError, Connection, ConnectionEngine, EndKind, EngineStep, Error, ListenerConnection,
 };
+use amqp_performatives::open::Open;
 use amqp_text::Text;
 use amqp_transport::{AmqpFrames, Transport};
 use amqp_wire::pipe::Pipe;

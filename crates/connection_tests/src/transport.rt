@@ -1,7 +1,7 @@
 //! Headers, clocks, and frames at the limit of a transport.
+use amqp_frames::ConnectionState;
 use amqp_sasl_bodies::sasl::SaslResponse;
 use amqp_sasl_bodies::sasl_body::SaslBody;
-use amqp_frames::ConnectionState;
 use amqp_text::Binary;
 use amqp_transport::{
     HeartBeat, IdleClock, Negotiated, Negotiating, ProtocolHeader, ProtocolId, SaslFrames,
@@ -88,7 +88,10 @@ fn headers_of_both_layers(rt: HostRuntime) -> Result<(), Fail> {
 }
 
 /// Sends a SASL response of 256 bytes or more, whose frame has 25 bytes more.
-fn sends_a_response(alloc: Global, text: &[u8]) -> Result<Result<(), transport::Error>, AllocError> {
+fn sends_a_response(
+    alloc: Global,
+    text: &[u8],
+) -> Result<Result<(), transport::Error>, AllocError> {
     let mut response = Binary::new(alloc);
     response.append(text)?;
     let body = SaslBody::Response(SaslResponse { response });

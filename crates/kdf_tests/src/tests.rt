@@ -7,8 +7,8 @@ ghost use Rattle.sha2.specs.Hashers.{Holds256};
 ghost use Rattle.sha2.specs.Sha256.{sha256};
 
 use kdf_core::{
-    Algorithm, HashFn, Hmac, InvalidLength, KdfError, Params, Pbkdf2, Prf, Sha1Fn, Sha256Fn, pbkdf2,
-    pbkdf2_array, pbkdf2_hmac, pbkdf2_hmac_array, pbkdf2_hmac_with_params,
+    Algorithm, HashFn, Hmac, InvalidLength, KdfError, Params, Pbkdf2, Prf, Sha1Fn, Sha256Fn,
+    pbkdf2, pbkdf2_array, pbkdf2_hmac, pbkdf2_hmac_array, pbkdf2_hmac_with_params,
 };
 use sha2::{Digest, Sha256};
 use std::convert::AsStr;

@@ -9,10 +9,10 @@ use amqp_text::{Binary, Text};
 use amqp_wire::codec::FramedCodec;
 use amqp_wire::faulty_pipe::FaultyPipe;
 use amqp_words::AcceptSasl;
-use sasl_scram::profile::is_nonce;
 use sasl_gate::{
     ClientGate, OneUser, SaslAcceptor, SaslProfile, ScramHash, ServerGate, StoredPassword,
 };
+use sasl_scram::profile::is_nonce;
 use std::alloc::Global;
 
 /// The largest frame of the SASL layer, in bytes (part 5, section 5.3.1).
@@ -101,10 +101,7 @@ fn scram_user(
 }
 
 /// The acceptor of a call.
-fn acceptor(
-    alloc: Global,
-    sasl: AcceptSasl,
-) -> Result<SaslAcceptor<OneUser, OneUser>, CaseError>
+fn acceptor(alloc: Global, sasl: AcceptSasl) -> Result<SaslAcceptor<OneUser, OneUser>, CaseError>
     ensures { IfOk result HasMechanism }
 {
     match sasl {
@@ -119,21 +116,45 @@ fn acceptor(
             salt,
             iterations,
             nonce,
-        } => scram_user(alloc, ScramHash::Sha1, username, password, salt, iterations, nonce),
+        } => scram_user(
+            alloc,
+            ScramHash::Sha1,
+            username,
+            password,
+            salt,
+            iterations,
+            nonce,
+        ),
         AcceptSasl::ScramSha256 {
             username,
             password,
             salt,
             iterations,
             nonce,
-        } => scram_user(alloc, ScramHash::Sha256, username, password, salt, iterations, nonce),
+        } => scram_user(
+            alloc,
+            ScramHash::Sha256,
+            username,
+            password,
+            salt,
+            iterations,
+            nonce,
+        ),
         AcceptSasl::ScramSha512 {
             username,
             password,
             salt,
             iterations,
             nonce,
-        } => scram_user(alloc, ScramHash::Sha512, username, password, salt, iterations, nonce),
+        } => scram_user(
+            alloc,
+            ScramHash::Sha512,
+            username,
+            password,
+            salt,
+            iterations,
+            nonce,
+        ),
     }
 }
 

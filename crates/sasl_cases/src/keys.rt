@@ -45,13 +45,11 @@ fn read_counts(rounds: &str, length: &str) -> Result<(u32, u16), CaseError> {
 /// The key of a case.
 pub fn key(alloc: Global, given: &str) -> Result<String, CaseError> {
     let mut parts = given.split(" | ");
-    let (Some(head), Some(password), Some(salt)) = (parts.next(), parts.next(), parts.next())
-    else {
+    let (Some(head), Some(password), Some(salt)) = (parts.next(), parts.next(), parts.next()) else {
         return Err(CaseError::Malformed);
     };
     let mut words = head.split_whitespace();
-    let (Some(hash), Some(rounds), Some(length)) = (words.next(), words.next(), words.next())
-    else {
+    let (Some(hash), Some(rounds), Some(length)) = (words.next(), words.next(), words.next()) else {
         return Err(CaseError::Malformed);
     };
     let hash = read_hash(hash)?;

@@ -53,11 +53,7 @@ impl Kind {
 }
 
 /// Makes the cases of a file, and writes what is to be said of it.
-fn run_file(
-    rt: &(impl Files + AllocGlobal + Print),
-    name: &str,
-    kind: Kind,
-) -> io::Result<()> {
+fn run_file(rt: &(impl Files + AllocGlobal + Print), name: &str, kind: Kind) -> io::Result<()> {
     let text = fs::read_to_string(rt, name)?;
     let mut tally = Tally::new();
     for line in text.lines() {

@@ -10,7 +10,9 @@ use crate::keys::read_hash;
 use amqp_text::Text;
 use case_files::read_bytes;
 use sasl_scram::profile::is_nonce;
-use sasl_scram::{AnyScramClient, AnyScramServer, OneUser, ScramErrorKind, ScramHash, StoredPassword};
+use sasl_scram::{
+    AnyScramClient, AnyScramServer, OneUser, ScramErrorKind, ScramHash, StoredPassword,
+};
 use std::alloc::{AllocError, Global};
 use std::str;
 

@@ -6,8 +6,8 @@ ghost use Rattle.amqp_script.specs.ErrorText.{io_word, scram_word, negotiation_t
 use crate::trace_text::fault::push_fault;
 use crate::trace_text::hex::{push_binary, push_named, push_word, push_words};
 use amqp_composites::error::Error as AmqpError;
-use amqp_sasl_bodies::sasl_code::SaslCode;
 use amqp_engine::error::Error as ConnectionError;
+use amqp_sasl_bodies::sasl_code::SaslCode;
 use amqp_text::Binary;
 use amqp_transport::transport;
 use amqp_wire::link::IoKind;
