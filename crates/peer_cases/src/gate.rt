@@ -84,32 +84,46 @@ fn scram(hash: ScramHash, user: OneUser, nonce: Text) -> SaslAcceptor<OneUser, O
 fn scram_user(
     alloc: Global,
     hash: ScramHash,
-    username: Text,
-    password: Text,
-    salt: Binary,
+    username: &Text,
+    password: &Text,
+    salt: &Binary,
     iterations: u32,
-    nonce: Text,
+    nonce: &Text,
 ) -> Result<SaslAcceptor<OneUser, OneUser>, CaseError>
     ensures { IfOk result HasMechanism }
 {
-    let stored = stored(alloc, hash, password.as_str(), &salt, iterations)?;
+    let stored = stored(alloc, hash, password.as_str(), salt, iterations)?;
+    let username = username.try_clone(alloc)?;
+    let password = password.try_clone(alloc)?;
     let user = one_user(username, password, Some(stored))?;
+    let nonce = nonce.try_clone(alloc)?;
     if !is_nonce(nonce.as_bytes()) {
         return Err(CaseError::Malformed);
     }
     Ok(scram(hash, user, nonce))
 }
 
+/// The acceptor of PLAIN with one user.
+fn plain_user(
+    alloc: Global,
+    username: &Text,
+    password: &Text,
+) -> Result<SaslAcceptor<OneUser, OneUser>, CaseError>
+    ensures { IfOk result HasMechanism }
+{
+    let username = username.try_clone(alloc)?;
+    let password = password.try_clone(alloc)?;
+    let user = one_user(username, password, None)?;
+    Ok(SaslAcceptor::Plain(user))
+}
+
 /// The acceptor of a call.
-fn acceptor(alloc: Global, sasl: AcceptSasl) -> Result<SaslAcceptor<OneUser, OneUser>, CaseError>
+fn acceptor(alloc: Global, sasl: &AcceptSasl) -> Result<SaslAcceptor<OneUser, OneUser>, CaseError>
     ensures { IfOk result HasMechanism }
 {
     match sasl {
         AcceptSasl::Anonymous => Ok(SaslAcceptor::Anonymous),
-        AcceptSasl::Plain { username, password } => {
-            let user = one_user(username, password, None)?;
-            Ok(SaslAcceptor::Plain(user))
-        }
+        AcceptSasl::Plain { username, password } => plain_user(alloc, username, password),
         AcceptSasl::ScramSha1 {
             username,
             password,
@@ -122,7 +136,7 @@ fn acceptor(alloc: Global, sasl: AcceptSasl) -> Result<SaslAcceptor<OneUser, One
             username,
             password,
             salt,
-            iterations,
+            *iterations,
             nonce,
         ),
         AcceptSasl::ScramSha256 {
@@ -137,7 +151,7 @@ fn acceptor(alloc: Global, sasl: AcceptSasl) -> Result<SaslAcceptor<OneUser, One
             username,
             password,
             salt,
-            iterations,
+            *iterations,
             nonce,
         ),
         AcceptSasl::ScramSha512 {
@@ -152,7 +166,7 @@ fn acceptor(alloc: Global, sasl: AcceptSasl) -> Result<SaslAcceptor<OneUser, One
             username,
             password,
             salt,
-            iterations,
+            *iterations,
             nonce,
         ),
     }
@@ -164,7 +178,7 @@ pub fn server_gate(
     link: FaultyPipe,
     sasl: AcceptSasl,
 ) -> Result<ServerGate<FaultyPipe, OneUser, OneUser>, CaseError> {
-    let acceptor = acceptor(alloc, sasl)?;
+    let acceptor = acceptor(alloc, &sasl)?;
     let codec = FramedCodec::new(alloc, link, LARGEST_FRAME, LARGEST_FRAME);
     match ServerGate::new(alloc, codec, acceptor) {
         Ok(gate) => Ok(gate),
