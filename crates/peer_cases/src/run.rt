@@ -6,12 +6,14 @@
 use crate::end::End;
 use crate::error::CaseError;
 use crate::gate::{client_gate, server_gate};
-use crate::line::{Line, read_line};
+use crate::line::read_line;
 use amqp_peer::Peer;
 use amqp_script::script::number::number;
 use amqp_script::text;
+use amqp_text::Text;
 use amqp_wire::faulty_pipe::FaultyPipe;
-use amqp_words::{Call, Entry, EntryList, Trace};
+use amqp_words::{AcceptSasl, Call, Entry, EntryList, Trace};
+use sasl_gate::SaslProfile;
 use std::alloc::{AllocError, Global};
 use std::mem;
 
@@ -117,33 +119,57 @@ fn peer_outcome(alloc: Global, link: FaultyPipe, lines: &str) -> Result<Vec<u8>,
     }
 }
 
-/// What a gate comes to, which the first line's call asks for.
-fn gate_outcome(alloc: Global, link: FaultyPipe, lines: &str) -> Result<Vec<u8>, CaseError> {
+/// The call of the first line.
+fn first_call(alloc: Global, lines: &str) -> Result<Call, CaseError> {
     let Some(first) = lines.lines().next() else {
         return Err(CaseError::Malformed);
     };
-    let Line { call, .. } = read_line(alloc, first)?;
-    match call {
-        Some(
-            Call::Open {
-                sasl_hostname,
-                sasl: Some(profile),
-                ..
-            },
-        ) => {
-            let gate = client_gate(alloc, link, profile, sasl_hostname)?;
-            outcome_of(alloc, gate, lines)
-        }
-        Some(
-            Call::Accept {
-                sasl: Some(sasl),
-                ..
-            },
-        ) => {
-            let gate = server_gate(alloc, link, sasl)?;
-            outcome_of(alloc, gate, lines)
-        }
-        _ => Err(CaseError::Malformed),
+    let line = read_line(alloc, first)?;
+    match line.call {
+        Some(call) => Ok(call),
+        None => Err(CaseError::Malformed),
+    }
+}
+
+/// What the gate of a client comes to.
+fn client_outcome(
+    alloc: Global,
+    link: FaultyPipe,
+    profile: SaslProfile,
+    hostname: Option<Text>,
+    lines: &str,
+) -> Result<Vec<u8>, CaseError> {
+    let gate = client_gate(alloc, link, profile, hostname)?;
+    outcome_of(alloc, gate, lines)
+}
+
+/// What the gate of a listener comes to.
+fn listener_outcome(
+    alloc: Global,
+    link: FaultyPipe,
+    sasl: AcceptSasl,
+    lines: &str,
+) -> Result<Vec<u8>, CaseError> {
+    let gate = server_gate(alloc, link, sasl)?;
+    outcome_of(alloc, gate, lines)
+}
+
+/// What a gate comes to, which the first line's call asks for.
+fn gate_outcome(alloc: Global, link: FaultyPipe, lines: &str) -> Result<Vec<u8>, CaseError> {
+    match first_call(alloc, lines)? {
+        Call::Open {
+            sasl_hostname,
+            sasl,
+            ..
+        } => match sasl {
+            Some(profile) => client_outcome(alloc, link, profile, sasl_hostname, lines),
+            None => Err(CaseError::Malformed),
+        },
+        Call::Accept { sasl, .. } => match sasl {
+            Some(sasl) => listener_outcome(alloc, link, sasl, lines),
+            None => Err(CaseError::Malformed),
+        },
+        Call::Close { .. } => Err(CaseError::Malformed),
     }
 }
 
