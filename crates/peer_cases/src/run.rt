@@ -6,7 +6,7 @@
 use crate::end::End;
 use crate::error::CaseError;
 use crate::gate::{client_gate, server_gate};
-use crate::line::read_line;
+use crate::line::{Line, read_line};
 use amqp_peer::Peer;
 use amqp_script::script::number::number;
 use amqp_script::text;
@@ -124,8 +124,8 @@ fn first_call(alloc: Global, lines: &str) -> Result<Call, CaseError> {
     let Some(first) = lines.lines().next() else {
         return Err(CaseError::Malformed);
     };
-    let line = read_line(alloc, first)?;
-    match line.call {
+    let Line { call, .. } = read_line(alloc, first)?;
+    match call {
         Some(call) => Ok(call),
         None => Err(CaseError::Malformed),
     }
