@@ -18,7 +18,7 @@ use Rattle.amqp_peer.specs.declared.peer.Progress.TheVariants as progress
 use Rattle.amqp_peer.specs.declared.prepared.Prepared.{Prepared}
 use Rattle.amqp_peer.specs.Causes.{BeginsWithOpen, IsBroken}
 use Rattle.amqp_peer.specs.Held.{IsActive, IsExchanged, IsMidway, IsSorted, IsStopped}
-use Rattle.amqp_peer.specs.History.{Local, made_in, link_in, given_in, sent_in, wrote_in}
+use Rattle.amqp_peer.specs.History.{Local, made_in, link_in, given_in, sent_in, wrote_in, moment_in}
 use Rattle.amqp_peer.specs.Peering.{Peering, Has, HasIn, IsHeld, IsHeldAt, IsKnown, IsMadeIn}
 use Rattle.amqp_peer.specs.Rest.{OpenWaits, CloseWaits}
 use Rattle.amqp_peer.specs.Runs.{CallWaits, IsConcluded}
@@ -31,7 +31,7 @@ use Rattle.amqp_ends.specs.Standing.{IsVast, Stands, uncalled, in_headers, behin
 -- link that was never full
 pub record Leaves {L : Type 0} (p : Peering L) (h : List Local) (left : List ℕ) : Type 0 where
   pub begun : IsExchanged p.held → ⊥
-  pub sorted : IsActive p.held → ((left ≡ []) × IsSorted p.held) ⊎ IsVast h
+  pub sorted : IsActive p.held → ((left ≡ []) × IsSorted (moment_in h) p.held) ⊎ IsVast h
   pub events : List Local
   pub concluded : IsStopped p.held → IsConcluded p events
   pub unfilled : Includes (link_in events) (NotWritten Full) → ⊥
@@ -120,7 +120,7 @@ opens_not sent n o = absurd (cc (sym n ∙ o.is))
 -- an open or accept waits there where the exchange of headers goes on
 stands_waiting : {L : Type 0} (p : Peering L) (h : List Local) (left : List ℕ) (o : Opened L Authentication) (prepared : Option Prepared) → Has p h → p.held ≡ Early o prepared → OpenWaits h → Leaves p h left → IsActive p.held → Stands h left
 stands_waiting p h left o prepared x e w l a = elim (l.sorted a) [
-  | inl r ↦ elim (rest_law p h x a r.1) [ inl rests ↦ in_headers w rests r.0 | inr opens ↦ absurd (opens_not (sent_in h) (early_sent p.progress p h o prepared x e) opens) ]
+  | inl r ↦ elim (rest_law (moment_in h) p h x a r.1) [ inl rests ↦ in_headers w rests r.0 | inr opens ↦ absurd (opens_not (sent_in h) (early_sent p.progress p h o prepared x e) opens) ]
   | inr v ↦ vast v
 ]
 

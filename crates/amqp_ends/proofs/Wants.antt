@@ -15,17 +15,16 @@ use Rattle.amqp_words.specs.declared.reply.Reply.TheVariants as reply
 use Rattle.amqp_words.specs.declared.reply.NamedReply.{NamedReply}
 use Rattle.amqp_peer.specs.declared.peer.PeerKind.{PeerKind}
 use Rattle.amqp_peer.specs.declared.peer.PeerKind.TheVariants.{Client, Listener}
-use Rattle.amqp_peer.specs.declared.prepared.Prepared.{Prepared}
-use Rattle.amqp_peer.specs.Causes.{prepared_in, BeginsWithOpen, EndsWithClose, HasHeader, IsReadTo, HasCause, AllCaused}
-use Rattle.amqp_peer.specs.History.{Local, Made, Polled, AtLink, Exchanged, Got, Put, Replied, made_in, given_in, sent_in, replied_in, read_in}
+use Rattle.amqp_peer.specs.Causes.{BeginsWithOpen, EndsWithClose, HasHeader, IsReadTo, IsTied, HasCause, AllCaused, prepared_in}
+use Rattle.amqp_peer.specs.History.{Local, Made, Polled, AtLink, Exchanged, Got, Put, Replied, made_in, given_in, sent_in, replied_in, read_in, wrote_in}
 use Rattle.amqp_peer.specs.Layers.{layer_in, IsResting}
 use Rattle.amqp_peer.specs.Replies.{IsConnected, IsOpenRefusal, pending, AreReplies}
 use Rattle.amqp_peer.specs.Rest.{OpenWaits, CloseWaits, HasWaiting, IsAllOut, RestsBehind}
-use Rattle.amqp_peer.specs.Said.{IsPlain, HasSaid, HasClose, CloseCause, called, answers, mistaken, rejected}
+use Rattle.amqp_peer.specs.Said.{HasSaid, CloseCause, called, answers, mistaken, rejected}
 use Rattle.amqp_ends.specs.Joined.{Meets}
 use Rattle.amqp_ends.specs.Quiet.{Begins, BeginsIn, AreOpposite, IsQuiet}
 use Rattle.amqp_ends.specs.Standing.{Stands, uncalled, in_headers, behind, parted, refused, broken, vast}
-use Rattle.amqp_ends.specs.Wants.{IsAnswered, AreStill, LastCloses, HasRefused, HasFailed, own, other, many, IsEnded, failed, closed, Wants}
+use Rattle.amqp_ends.specs.Wants.{IsAnswered, AreStill, LastCloses, HasRefused, HasFailed, own, other, many, IsEnded, failed, Wants}
 use Rattle.amqp_ends.specs.Wants.{refused as was_refused}
 use Rattle.amqp_ends.proofs.Closes.{closed_not, plain_unclosed, unclosed_given}
 use Rattle.amqp_ends.proofs.Hearing.{hears}
@@ -77,20 +76,6 @@ far_refused h far a s w = elim (refused_by (made_in far) (replied_in far) a.repl
   | inr r ↦ inr (was_refused r)
 ]
 
--- an open or accept that waits is the one call
-one_call : (calls : List (ℕ × Call)) (replied : List NamedReply) (n : ℕ) → AreReplies calls replied → replied ≡ pending n ∷ [] → (first : ℕ × Call) × (calls ≡ first ∷ [])
-one_call [] replied n r e = absurd (cc (sym r ∙ e))
-one_call (first ∷ []) replied n r e = (first, refl)
-one_call (close ∷ first ∷ []) replied n (inl r) e = absurd (cc (sym r ∙ e))
-one_call (close ∷ first ∷ []) replied n (inr (x, i, inl r)) e = absurd (cc (sym r ∙ e))
-one_call (close ∷ first ∷ []) replied n (inr (x, i, inr r)) e = absurd (cc (sym r ∙ e))
-one_call (call ∷ close ∷ first ∷ calls) replied n r e = absurd r
-
-no_close_first : (p : Option Prepared) (calls : List (ℕ × Call)) (first : ℕ × Call) (name : ℕ) (condition : Option (List ℕ)) (earlier : List (ℕ × Call)) (sent : List Frame)
-    → calls ≡ first ∷ [] → calls ≡ (name, CloseCall condition) ∷ earlier → p ≡ prepared_in calls → IsPlain p sent → ⊥
-no_close_first p calls first name condition [] sent e c q s = absurd (cc (sym s.is_own ∙ q ∙ ap prepared_in c))
-no_close_first p calls first name condition (x ∷ earlier) sent e c q s = absurd (cc (sym e ∙ c))
-
 -- ---- two ends
 
 pub quiet : (h far : List Local) (left far_left : List ℕ) → AreStill h far left far_left → left ≡ [] → far_left ≡ [] → IsQuiet h far
@@ -129,101 +114,7 @@ parted_called h far m u e (inl none) = absurd (ends_closed (sent_in far) e (subs
 parted_called h far m u e (inr (inl s)) = absurd (ends_closed (sent_in far) e (plain_unclosed (prepared_in (made_in far)) (sent_in far) s))
 parted_called h far m u e (inr (inr (front, error, s, is, cause))) = cause_called h far error m u cause
 
--- an end whose open or accept waits says no Close, to an end from which it read none
-cause_waits_not : (h far : List Local) (error : Option AmqpError) (front : List Frame) → OpenWaits h → IsAnswered h → Meets h far → (HasClose (given_in h) → ⊥) → IsPlain (prepared_in (made_in h)) front → CloseCause (made_in h) (given_in h) error → ⊥
-cause_waits_not h far error front w a m n s (called name condition earlier is e) =
-    let one = one_call (made_in h) (replied_in h) w.0 a.replies w.1 in
-    no_close_first (prepared_in (made_in h)) (made_in h) one.0 name condition earlier front one.1 is refl s
-cause_waits_not h far error front w a m n s (answers c e) = n c
-cause_waits_not h far error front w a m n s (mistaken o e) = other_first_not (given_in h) (tidy_given h far m) o
-cause_waits_not h far error front w a m n s (rejected x) = stray_not (given_in h) (tidy_given h far m) x
-
-waits_unclosed : (h far : List Local) → OpenWaits h → IsAnswered h → Meets h far → (HasClose (given_in h) → ⊥) → HasSaid h → AllUnclosed (sent_in h)
-waits_unclosed h far w a m n (inl none) = subst AllUnclosed (sym none) tt
-waits_unclosed h far w a m n (inr (inl s)) = plain_unclosed (prepared_in (made_in h)) (sent_in h) s
-waits_unclosed h far w a m n (inr (inr (front, error, s, is, cause))) = absurd (cause_waits_not h far error front w a m n s cause)
-
--- ---- an open or accept
-
-opening_headers : (h far : List Local) (left far_left : List ℕ) → AreStill h far left far_left → OpenWaits h → IsResting (layer_in (made_in h)) h → left ≡ [] → sent_in h ≡ [] → Stands far far_left → (made_in far ≡ []) ⊎ IsEnded h far
-opening_headers h far left far_left a w r l u (uncalled m n) = inl m
-opening_headers h far left far_left a w r l u (in_headers v s f) = absurd (headers_do_not_wait h far (quiet h far left far_left a l f) r (inl s))
-opening_headers h far left far_left a w r l u (behind s c f) = absurd (headers_do_not_wait h far (quiet h far left far_left a l f) r (inr s))
-opening_headers h far left far_left a w r l u (parted c o n) = inr (closed (parted_called h far (meets_back h far left far_left a) (subst AllUnclosed (sym u) tt) c a.far_said))
-opening_headers h far left far_left a w r l u (refused s n) = far_refused h far a.far_answered s n
-opening_headers h far left far_left a w r l u (broken b) = inr (failed (other b))
-opening_headers h far left far_left a w r l u (vast v) = inr (failed (many (inr v)))
-
-opening_behind : (h far : List Local) (left far_left : List ℕ) → AreStill h far left far_left → OpenWaits h → RestsBehind h → left ≡ [] → Stands far far_left → (made_in far ≡ []) ⊎ IsEnded h far
-opening_behind h far left far_left a w r l (uncalled m n) = inl m
-opening_behind h far left far_left a w r l (in_headers v s f) = absurd (openings_do_not_wait h far (quiet h far left far_left a l f) r w (inr s))
-opening_behind h far left far_left a w r l (behind s c f) = absurd (openings_do_not_wait h far (quiet h far left far_left a l f) r w (inl s))
-opening_behind h far left far_left a w r l (parted c o n) =
-    inr (closed (parted_called h far (meets_back h far left far_left a) (waits_unclosed h far w a.answered (meets h far left far_left a) r.unclosed a.said) c a.far_said))
-opening_behind h far left far_left a w r l (refused s n) = far_refused h far a.far_answered s n
-opening_behind h far left far_left a w r l (broken b) = inr (failed (other b))
-opening_behind h far left far_left a w r l (vast v) = inr (failed (many (inr v)))
-
-uncalled_waits_not : (h : List Local) → made_in h ≡ [] → IsAnswered h → HasWaiting h → ⊥
-uncalled_waits_not h m a (inl w) = absurd (cc (sym (subst (λ (cs : List (ℕ × Call)). AreReplies cs (replied_in h)) m a.replies) ∙ w.1))
-uncalled_waits_not h m a (inr w) = absurd (cc (sym (subst (λ (cs : List (ℕ × Call)). AreReplies cs (replied_in h)) m a.replies) ∙ w.2))
-
-resting_unsent : (c : Option SaslCall) (h : List Local) → IsResting c h → sent_in h ≡ []
-resting_unsent None h r = r.unopened
-resting_unsent (Some c) h r = r.unopened
-
-opening_in : (h far : List Local) (left far_left : List ℕ) → AreStill h far left far_left → OpenWaits h → Stands h left → (made_in far ≡ []) ⊎ IsEnded h far
-opening_in h far left far_left a w (uncalled m n) = absurd (uncalled_waits_not h m a.answered (inl w))
-opening_in h far left far_left a w (in_headers v r l) = opening_headers h far left far_left a w r l (resting_unsent (layer_in (made_in h)) h r) a.far_stands
-opening_in h far left far_left a w (behind r c l) = opening_behind h far left far_left a w r l a.far_stands
-opening_in h far left far_left a w (parted c o n) = absurd (n (inl w))
-opening_in h far left far_left a w (refused s n) = absurd (n (inl w))
-opening_in h far left far_left a w (broken b) = inr (failed (own b))
-opening_in h far left far_left a w (vast v) = inr (failed (many (inl v)))
-
--- ---- a close
-
-header_inside : (head tail : List ℕ) → head ++ (amqp_header ++ tail) ≡ [] → ⊥
-header_inside [] tail e = absurd (cc e)
-header_inside (x ∷ head) tail e = absurd (cc e)
-
-nothing_first : (first others given : List Frame) → first ++ others ≡ [] → given ≡ map amqp_again first → BeginsWithOpen given → ⊥
-nothing_first [] others given e i o = absurd (cc (sym i ∙ o.is))
-nothing_first (x ∷ first) others given e i o = absurd (cc e)
-
--- an end that has read the AMQP header has a peer that wrote
-read_something : (h : List Local) (rest : List ℕ) → IsReadTo h rest → read_in h ≡ [] → ⊥
-read_something h rest r e = header_inside r.head r.behind (sym r.read ∙ e)
-
-heard_nothing : (h far : List Local) → Meets h far → sent_in far ≡ [] → BeginsWithOpen (given_in h) → ⊥
-heard_nothing h far m s o =
-    let k = hears h far m.left m.tied m.far_tied m.reads in
-    nothing_first k.first k.others (given_in h) (sym k.split ∙ s) k.items o
-
-closing_behind : (h far : List Local) (left far_left : List ℕ) → AreStill h far left far_left → CloseWaits h → RestsBehind h → BeginsWithOpen (given_in h) → left ≡ [] → Stands far far_left → HasFailed h far
-closing_behind h far left far_left a w r g l (uncalled m n) =
-    absurd (read_something h r.rest r.read (sym (append-nil (read_in h)) ∙ ap (λ (u : List ℕ). read_in h ++ u) (sym l) ∙ a.reads ∙ n))
-closing_behind h far left far_left a w r g l (in_headers v s f) = absurd (closes_do_not_wait h far (quiet h far left far_left a l f) r w (inr s))
-closing_behind h far left far_left a w r g l (behind s c f) = absurd (closes_do_not_wait h far (quiet h far left far_left a l f) r w (inl s))
-closing_behind h far left far_left a w r g l (parted c o n) =
-    absurd (r.unclosed (close_taken (given_in h) (sent_in far) c (all_taken h far r o a.far_tied (sym (append-nil (read_in h)) ∙ ap (λ (u : List ℕ). read_in h ++ u) (sym l) ∙ a.reads))))
-closing_behind h far left far_left a w r g l (refused s n) = absurd (heard_nothing h far (meets h far left far_left a) s g)
-closing_behind h far left far_left a w r g l (broken b) = other b
-closing_behind h far left far_left a w r g l (vast v) = many (inr v)
-
-closing_in : (h far : List Local) (left far_left : List ℕ) → AreStill h far left far_left → CloseWaits h → Stands h left → HasFailed h far
-closing_in h far left far_left a w (uncalled m n) = absurd (uncalled_waits_not h m a.answered (inr w))
-closing_in h far left far_left a w (in_headers v r l) = absurd (cc (sym v.1 ∙ w.2))
-closing_in h far left far_left a w (behind r c l) = closing_behind h far left far_left a w r (c w) l a.far_stands
-closing_in h far left far_left a w (parted c o n) = absurd (n (inr w))
-closing_in h far left far_left a w (refused s n) = absurd (n (inr w))
-closing_in h far left far_left a w (broken b) = own b
-closing_in h far left far_left a w (vast v) = many (inl v)
-
--- ---- the AMQP header
-
-pub header_out : (h : List Local) → IsAllOut h → HasHeader h
-header_out h o = record { head = o.queued.head; behind = bytes_of_all (sent_in h); layer = o.queued.layer; wrote = wrote_behind h o }
+-- ---- an end that is over by its Close
 
 -- an end that made its connection has read the Open of the other
 unheard_connects : (h : List Local) → AllCaused h → given_in h ≡ [] → IsConnected (replied_in h) → ⊥
@@ -269,6 +160,91 @@ parted_not h far left far_left a u c =
     let k = hears far h m.left m.tied m.far_tied m.reads in
     unheard_connects far a.far_answered.caused (none_of k.first k.others (given_in far) (sym k.split ∙ u) k.items)
     (far_connects h far a.kinds a.far_answered (parted_called h far m (subst AllUnclosed (sym u) tt) c a.far_said))
+
+-- nor where the other rests behind the headers, having read all
+closed_among : (h far : List Local) (left : List ℕ) → (r : RestsBehind h) → EndsWithClose (sent_in far) → IsAllOut far → IsTied far → left ≡ [] → read_in h ++ left ≡ wrote_in far → ⊥
+closed_among h far left r c o t l e =
+    r.unclosed (close_taken (given_in h) (sent_in far) c (all_taken h far r o t (sym (append-nil (read_in h)) ∙ ap (λ (u : List ℕ). read_in h ++ u) (sym l) ∙ e)))
+
+-- ---- an open or accept
+
+opening_headers : (h far : List Local) (left far_left : List ℕ) → AreStill h far left far_left → OpenWaits h → IsResting (layer_in (made_in h)) h → left ≡ [] → sent_in h ≡ [] → Stands far far_left → (made_in far ≡ []) ⊎ IsEnded h far
+opening_headers h far left far_left a w r l u (uncalled m n) = inl m
+opening_headers h far left far_left a w r l u (in_headers v s f) = absurd (headers_do_not_wait h far (quiet h far left far_left a l f) r (inl s))
+opening_headers h far left far_left a w r l u (behind s c f) = absurd (headers_do_not_wait h far (quiet h far left far_left a l f) r (inr s))
+opening_headers h far left far_left a w r l u (parted c o n) = absurd (parted_not h far left far_left a u c)
+opening_headers h far left far_left a w r l u (refused s n) = far_refused h far a.far_answered s n
+opening_headers h far left far_left a w r l u (broken b) = inr (failed (other b))
+opening_headers h far left far_left a w r l u (vast v) = inr (failed (many (inr v)))
+
+opening_behind : (h far : List Local) (left far_left : List ℕ) → AreStill h far left far_left → OpenWaits h → RestsBehind h → left ≡ [] → Stands far far_left → (made_in far ≡ []) ⊎ IsEnded h far
+opening_behind h far left far_left a w r l (uncalled m n) = inl m
+opening_behind h far left far_left a w r l (in_headers v s f) = absurd (openings_do_not_wait h far (quiet h far left far_left a l f) r w (inr s))
+opening_behind h far left far_left a w r l (behind s c f) = absurd (openings_do_not_wait h far (quiet h far left far_left a l f) r w (inl s))
+opening_behind h far left far_left a w r l (parted c o n) = absurd (closed_among h far left r c o a.far_tied l a.reads)
+opening_behind h far left far_left a w r l (refused s n) = far_refused h far a.far_answered s n
+opening_behind h far left far_left a w r l (broken b) = inr (failed (other b))
+opening_behind h far left far_left a w r l (vast v) = inr (failed (many (inr v)))
+
+uncalled_waits_not : (h : List Local) → made_in h ≡ [] → IsAnswered h → HasWaiting h → ⊥
+uncalled_waits_not h m a (inl w) = absurd (cc (sym (subst (λ (cs : List (ℕ × Call)). AreReplies cs (replied_in h)) m a.replies) ∙ w.1))
+uncalled_waits_not h m a (inr w) = absurd (cc (sym (subst (λ (cs : List (ℕ × Call)). AreReplies cs (replied_in h)) m a.replies) ∙ w.2))
+
+resting_unsent : (c : Option SaslCall) (h : List Local) → IsResting c h → sent_in h ≡ []
+resting_unsent None h r = r.unopened
+resting_unsent (Some c) h r = r.unopened
+
+opening_in : (h far : List Local) (left far_left : List ℕ) → AreStill h far left far_left → OpenWaits h → Stands h left → (made_in far ≡ []) ⊎ IsEnded h far
+opening_in h far left far_left a w (uncalled m n) = absurd (uncalled_waits_not h m a.answered (inl w))
+opening_in h far left far_left a w (in_headers v r l) = opening_headers h far left far_left a w r l (resting_unsent (layer_in (made_in h)) h r) a.far_stands
+opening_in h far left far_left a w (behind r c l) = opening_behind h far left far_left a w r l a.far_stands
+opening_in h far left far_left a w (parted c o n) = absurd (n (inl w))
+opening_in h far left far_left a w (refused s n) = absurd (n (inl w))
+opening_in h far left far_left a w (broken b) = inr (failed (own b))
+opening_in h far left far_left a w (vast v) = inr (failed (many (inl v)))
+
+-- ---- a close
+
+header_inside : (head tail : List ℕ) → head ++ (amqp_header ++ tail) ≡ [] → ⊥
+header_inside [] tail e = absurd (cc e)
+header_inside (x ∷ head) tail e = absurd (cc e)
+
+nothing_first : (first others given : List Frame) → first ++ others ≡ [] → given ≡ map amqp_again first → BeginsWithOpen given → ⊥
+nothing_first [] others given e i o = absurd (cc (sym i ∙ o.is))
+nothing_first (x ∷ first) others given e i o = absurd (cc e)
+
+-- an end that has read the AMQP header has a peer that wrote
+read_something : (h : List Local) (rest : List ℕ) → IsReadTo h rest → read_in h ≡ [] → ⊥
+read_something h rest r e = header_inside r.head r.behind (sym r.read ∙ e)
+
+heard_nothing : (h far : List Local) → Meets h far → sent_in far ≡ [] → BeginsWithOpen (given_in h) → ⊥
+heard_nothing h far m s o =
+    let k = hears h far m.left m.tied m.far_tied m.reads in
+    nothing_first k.first k.others (given_in h) (sym k.split ∙ s) k.items o
+
+closing_behind : (h far : List Local) (left far_left : List ℕ) → AreStill h far left far_left → CloseWaits h → RestsBehind h → BeginsWithOpen (given_in h) → left ≡ [] → Stands far far_left → HasFailed h far
+closing_behind h far left far_left a w r g l (uncalled m n) =
+    absurd (read_something h r.rest r.read (sym (append-nil (read_in h)) ∙ ap (λ (u : List ℕ). read_in h ++ u) (sym l) ∙ a.reads ∙ n))
+closing_behind h far left far_left a w r g l (in_headers v s f) = absurd (closes_do_not_wait h far (quiet h far left far_left a l f) r w (inr s))
+closing_behind h far left far_left a w r g l (behind s c f) = absurd (closes_do_not_wait h far (quiet h far left far_left a l f) r w (inl s))
+closing_behind h far left far_left a w r g l (parted c o n) = absurd (closed_among h far left r c o a.far_tied l a.reads)
+closing_behind h far left far_left a w r g l (refused s n) = absurd (heard_nothing h far (meets h far left far_left a) s g)
+closing_behind h far left far_left a w r g l (broken b) = other b
+closing_behind h far left far_left a w r g l (vast v) = many (inr v)
+
+closing_in : (h far : List Local) (left far_left : List ℕ) → AreStill h far left far_left → CloseWaits h → Stands h left → HasFailed h far
+closing_in h far left far_left a w (uncalled m n) = absurd (uncalled_waits_not h m a.answered (inr w))
+closing_in h far left far_left a w (in_headers v r l) = absurd (cc (sym v.1 ∙ w.2))
+closing_in h far left far_left a w (behind r c l) = closing_behind h far left far_left a w r (c w) l a.far_stands
+closing_in h far left far_left a w (parted c o n) = absurd (n (inr w))
+closing_in h far left far_left a w (refused s n) = absurd (n (inr w))
+closing_in h far left far_left a w (broken b) = own b
+closing_in h far left far_left a w (vast v) = many (inl v)
+
+-- ---- the AMQP header
+
+pub header_out : (h : List Local) → IsAllOut h → HasHeader h
+header_out h o = record { head = o.queued.head; behind = bytes_of_all (sent_in h); layer = o.queued.layer; wrote = wrote_behind h o }
 
 pub was_called : (calls : List (ℕ × Call)) → 1 ≤ length calls → calls ≡ [] → ⊥
 was_called calls l e = omega (arith, l, ap length e)

@@ -54,10 +54,9 @@ pub data HasFailed (h far : List Local) : Type 0 where
   other : IsBroken far → HasFailed h far
   many : IsVast h ⊎ IsVast far → HasFailed h far
 
--- the connection is at its end: it failed, close was called at the other end, or the open or accept of that end was refused
+-- the connection is at its end: it failed, or the open or accept of the other end was refused
 pub data IsEnded (h far : List Local) : Type 0 where
   failed : HasFailed h far → IsEnded h far
-  closed : LastCloses (made_in far) → IsEnded h far
   refused : HasRefused far → IsEnded h far
 
 -- An open or accept waits for the call of the other end, and a close for nothing but a failure. Where both ends were called, this one has

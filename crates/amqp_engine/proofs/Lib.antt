@@ -7,6 +7,9 @@ pub mod Runs
 pub mod Steps
 pub mod Says
 pub mod Seats
+pub mod Handed
+pub mod Beats
+pub mod Closers
 pub mod Outcomes
 pub mod Reasons
 pub mod Owed

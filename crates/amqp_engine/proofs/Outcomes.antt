@@ -23,7 +23,7 @@ use Rattle.amqp_transport.specs.declared.transport.Next.{Next}
 use Rattle.amqp_transport.specs.declared.transport.Next.TheVariants as next
 use Rattle.amqp_transport.specs.Causes.{IsUnspelled, Allows, IsLast}
 use Rattle.amqp_transport.proofs.Passing.{last_included, last_left}
-use Rattle.amqp_transport.specs.Clocks.{IsDue}
+use Rattle.amqp_transport.specs.Clocks.{IsDue, HasElapsed}
 use Rattle.amqp_transport.specs.Kinds.{amqp_spells, no_frame}
 use Rattle.amqp_transport.specs.Stream.{Grew, frames_of}
 use Rattle.amqp_transport.specs.Wire.{Wire, flush_of}
@@ -44,11 +44,17 @@ use Rattle.amqp_engine.specs.State.{State, failing, closing, close_frame, error_
 use Rattle.amqp_engine.specs.Calls.{Puts, IsMemory, Steps, Acts, ThenActs, Reads, After, Writes, FlushesIf, AfterFlush, Sends, SendsIf}
 use Rattle.amqp_engine.specs.Sentence.{IsCalm}
 use Rattle.amqp_engine.specs.Faults.{IsFault, IsOwed, AllOwed, input_of}
-use Rattle.amqp_engine.specs.Outcomes.{IsWritten, HasWaited, HasRested, IsRefusal, HasWorked, IsOnward, IsTold, IsMoment, Stepped, IsClosedBy, HasClosed}
+use Rattle.amqp_engine.specs.Beats.{beat_said, IsDueFor, IsBeat}
+use Rattle.amqp_engine.specs.Closers.{Closer, This, closer_by, IsCloser, KeepsCloser}
+use Rattle.amqp_engine.specs.Outcomes.{IsHanded, IsIdle, IsWritten, HasWaited, HasRested, IsRefusal, HasWorked, IsOnward, IsTold, IsMoment, Stepped, IsClosedBy, HasClosed}
 use Rattle.amqp_engine.proofs.Hearing.{IsListening, rejected_greeted}
 use Rattle.amqp_engine.proofs.Runs.{RanBy, CanFollow, alike_refl, alike_same, alike_failing, none_by, then_by, read_by, flushed_by}
 use Rattle.amqp_engine.proofs.Steps.{in_phase, heard_in, listening_holds, queued_of, puts_by, reached, beats_follow, answers_follow, closes_follow, open_follows, is_open_only}
 use Rattle.amqp_engine.proofs.Writes.{write_events}
+use Rattle.amqp_engine.specs.Phases.{hears}
+use Rattle.amqp_engine.proofs.Closers.{Reads as IsReading, keeps_same, keeps_failing, keeps_after, closing_keeps, keeps_answering, keeps_refusing, keeps_wire}
+use Rattle.amqp_engine.proofs.Beats.{beat_after, beat_wire, pending_unelapsed}
+use Rattle.amqp_engine.proofs.Handed.{Hands, idles_after, hands_same, hands_failing, hands_beside, hands_after, hands_wire}
 
 -- an answer to a frame that calls for a Close
 record Refuses (phase : Phase) (result : Result EngineStep Error) (next : Phase) : Type 0 where
@@ -181,8 +187,8 @@ written_then old new fs es h o (inl f) = absurd (cc (h, f))
 written_then old new fs es h o (inr (inl i)) = inl (includes_right fs es (NotWritten Full) i)
 written_then old new fs es h o (inr (inr e)) = inr (o ∙ e)
 
-told_pending : {L : Type 0} (link : Ghosts L) (at : ℕ) (old : State L) (wire : Wire L) (new : State L) (g : Grew link 0 amqp_spells old.wire at (Ok next.Pending) wire) (es : List LinkEvent) → IsListening old.phase → (old.phase ≡ p.Opened → IsDue old.beat at → ⊥) → IsWritten old.phase es old.wire.codec.output → new ≡ record old { wire = wire } → HasWaited at old (g.events ++ es) new
-told_pending {L} link at old wire new g es l u w n =
+told_pending : {L : Type 0} (link : Ghosts L) (at : ℕ) (old : State L) (wire : Wire L) (new : State L) (g : Grew link 0 amqp_spells old.wire at (Ok next.Pending) wire) (es : List LinkEvent) → IsListening old.phase → (old.phase ≡ p.Opened → IsDue old.beat at → ⊥) → (HasElapsed wire.clock at → ⊥) → IsWritten old.phase es old.wire.codec.output → new ≡ record old { wire = wire } → HasWaited at old (g.events ++ es) new
+told_pending {L} link at old wire new g es l u i w n =
     let phase : new.phase ≡ old.phase = ap (λ (t : State L). t.phase) n in
     record {
       last = last_left g.events es (NotRead Empty) (g.cause (fresh old.wire.kept next.Pending g.again));
@@ -191,10 +197,12 @@ told_pending {L} link at old wire new g es l u w n =
       phase = phase;
       live = ap is_stopped phase ∙ listening_live old.phase l;
       undue = u;
+      still = ap (λ (t : State L). t.beat) n;
+      unelapsed = subst (λ (t : State L). HasElapsed t.wire.clock at → ⊥) (sym n) i;
     }
 
-told_after : {L : Type 0} (link : Ghosts L) (at : ℕ) (old : State L) (wire : Wire L) (answer : Result (Next Frame) TransportFault) (result : Result EngineStep Error) (new : State L) (g : Grew link 0 amqp_spells old.wire at answer wire) (es : List LinkEvent) → IsListening old.phase → (old.phase ≡ p.Opened → IsDue old.beat at → ⊥) → read_of es ≡ [] → new.wire.codec.output ≡ old.wire.codec.output → IsWritten old.phase es old.wire.codec.output → After at (record old { wire = wire }) answer result new → IsTold at old (g.events ++ es) (frames_of answer) [] result new
-told_after {L} link at old wire (Ok (next.Frame x)) result new g es l u n o w a =
+told_after : {L : Type 0} (link : Ghosts L) (at : ℕ) (old : State L) (wire : Wire L) (answer : Result (Next Frame) TransportFault) (result : Result EngineStep Error) (new : State L) (g : Grew link 0 amqp_spells old.wire at answer wire) (es : List LinkEvent) → IsListening old.phase → (old.phase ≡ p.Opened → IsDue old.beat at → ⊥) → (answer ≡ Ok next.Pending → HasElapsed wire.clock at → ⊥) → read_of es ≡ [] → new.wire.codec.output ≡ old.wire.codec.output → IsWritten old.phase es old.wire.codec.output → After at (record old { wire = wire }) answer result new → IsTold at old (g.events ++ es) (frames_of answer) [] result new
+told_after {L} link at old wire (Ok (next.Frame x)) result new g es l u i n o w a =
     let s : State L = record old { wire = wire } in
     let live = listening_holds old.phase l in
     let worked : HasWorked (x ∷ []) [] = omega arith in
@@ -205,11 +213,11 @@ told_after {L} link at old wire (Ok (next.Frame x)) result new g es l u n o w a 
       | inr r ↦ told_is at old (g.events ++ es) (x ∷ []) [] result (Err (rejection_told r.why)) new (a.0 ∙ r.is)
           (told_refusal at old (g.events ++ es) (x ∷ []) [] r.why new worked (subst (λ (q : Phase). IsRefusal old.phase (rejection_told r.why) q) phase r.refusal))
     ]
-told_after link at old wire (Ok next.Pending) result new g es l u n o w a =
-    told_is at old (g.events ++ es) [] [] result (Ok step.Pending) new a.0 (told_pending link at old wire new g es l u w a.1)
-told_after link at old wire (Ok next.Ended) result new g es l u n o w a =
+told_after link at old wire (Ok next.Pending) result new g es l u i n o w a =
+    told_is at old (g.events ++ es) [] [] result (Ok step.Pending) new a.0 (told_pending link at old wire new g es l u (i refl) w a.1)
+told_after link at old wire (Ok next.Ended) result new g es l u i n o w a =
     told_fault at old (record old { wire = wire }) (g.events ++ es) (fault.Io End) result new a.0 a.1 (λ c. included g.events es (NotRead EndStop) (g.cause (fresh old.wire.kept next.Ended g.again)).0)
-told_after link at old wire (Err e) result new g es l u n o w a = told_err link at old wire e result new g es l n a
+told_after link at old wire (Err e) result new g es l u i n o w a = told_err link at old wire e result new g es l n a
 
 -- what is done after the flush, with what its answer says, whatever was written before
 record Acted {L : Type 0} (link : Ghosts L) (at : ℕ) (old : State L) (result : Result EngineStep Error) (new : State L) : Type 0 where
@@ -221,6 +229,10 @@ record Acted {L : Type 0} (link : Ghosts L) (at : ℕ) (old : State L) (result :
   pub moment : IsMoment at old given new
   pub told : (es : List LinkEvent) → read_of es ≡ [] → IsWritten old.phase es old.wire.codec.output → IsTold at old (events ++ es) given queued result new
   pub owed : AllOwed old.phase queued
+  pub hands : Hands old given new
+  pub idles : IsIdle result → given ≡ []
+  pub beat : IsBeat at old given queued new
+  pub closer : KeepsCloser old given queued new
 
 -- no frame is given
 moment_none : {L : Type 0} (link : Ghosts L) (at : ℕ) (old new : State L) (events : List LinkEvent) (queued : List Frame) → RanBy link old events [] queued new → IsMoment at old [] new
@@ -231,6 +243,17 @@ moment_after link at old wire (Ok (next.Frame x)) result new g a c r = inr (x, r
 moment_after link at old wire (Ok next.Pending) result new g a c r = moment_none link at old new g.events [] r
 moment_after link at old wire (Ok next.Ended) result new g a c r = moment_none link at old new g.events [] r
 moment_after link at old wire (Err e) result new g a c r = moment_none link at old new g.events [] r
+
+listening_reads : (q : Phase) → IsListening q → IsReading q
+listening_reads p.OpenSent l = tt
+listening_reads p.Opened l = tt
+listening_reads p.CloseReceived l = absurd l
+listening_reads p.Refused l = absurd l
+listening_reads (p.Rejected why) l = absurd l
+listening_reads p.CloseSent l = tt
+listening_reads p.Discarding l = tt
+listening_reads p.Ended l = absurd l
+listening_reads p.Failed l = absurd l
 
 acted_reads : {L : Type 0} (link : Ghosts L) (at : ℕ) (old : State L) (result : Result EngineStep Error) (new : State L) → IsListening old.phase → (old.phase ≡ p.Opened → IsDue old.beat at → ⊥) → Reads link at old result new → Acted link at old result new
 acted_reads link at old result new l u r =
@@ -243,19 +266,23 @@ acted_reads link at old result new l u r =
       by = by;
       few = r.joined.few;
       moment = moment_after link at old r.wire r.answer result new r.joined r.does k.beside.clock by;
-      told = λ es n w. told_after link at old r.wire r.answer result new r.joined es l u n (k.beside.output ∙ r.joined.output) w r.does;
+      told = λ es n w. told_after link at old r.wire r.answer result new r.joined es l u (λ e. pending_unelapsed link at old.wire r.wire r.answer e r.polled) n (k.beside.output ∙ r.joined.output) w r.does;
       owed = tt;
+      hands = hands_wire old r.wire (frames_of r.answer) new (hands_after at (record old { wire = r.wire }) r.answer result new r.does);
+      idles = λ i. idles_after at (record old { wire = r.wire }) r.answer result new r.does i;
+      beat = beat_wire at old r.wire (frames_of r.answer) [] new (beat_after at (record old { wire = r.wire }) r.answer result new (listening_holds old.phase l) r.does);
+      closer = keeps_wire old r.wire (frames_of r.answer) [] new (keeps_after at (record old { wire = r.wire }) r.answer result new (listening_reads old.phase l) r.does);
     }
 
 -- nothing was done
-acted_none : {L : Type 0} (link : Ghosts L) (at : ℕ) (old : State L) (result : Result EngineStep Error) (new : State L) → RanBy link old [] [] [] new → ((es : List LinkEvent) → IsWritten old.phase es old.wire.codec.output → IsTold at old es [] [] result new) → Acted link at old result new
-acted_none link at old result new r t =
-    record { events = []; given = []; queued = []; by = r; few = omega arith; moment = moment_none link at old new [] [] r; told = λ es n w. t es w; owed = tt }
+acted_none : {L : Type 0} (link : Ghosts L) (at : ℕ) (old : State L) (result : Result EngineStep Error) (new : State L) → RanBy link old [] [] [] new → ((es : List LinkEvent) → IsWritten old.phase es old.wire.codec.output → IsTold at old es [] [] result new) → new ≡ old → Acted link at old result new
+acted_none {L} link at old result new r t n =
+    record { events = []; given = []; queued = []; by = r; few = omega arith; moment = moment_none link at old new [] [] r; told = λ es k w. t es w; owed = tt; hands = hands_same old new n; idles = λ i. refl; beat = ap (λ (t : State L). t.beat) n; closer = keeps_same old new n }
 
 -- memory was wanting
 acted_wants : {L : Type 0} (link : Ghosts L) (at : ℕ) (old : State L) (result : Result EngineStep Error) (new : State L) → IsMemory result → new ≡ old → Acted link at old result new
 acted_wants link at old (Ok v) new m e = absurd m
-acted_wants link at old (Err (error.Memory a)) new m e = acted_none link at old (Err (error.Memory a)) new (none_by link old new (alike_same old new e)) (λ es w. tt)
+acted_wants link at old (Err (error.Memory a)) new m e = acted_none link at old (Err (error.Memory a)) new (none_by link old new (alike_same old new e)) (λ es w. tt) e
 acted_wants link at old (Err (error.TransportError f)) new m e = absurd m
 acted_wants link at old (Err error.IllegalState) new m e = absurd m
 acted_wants link at old (Err error.NotImplemented) new m e = absurd m
@@ -299,9 +326,61 @@ owed_of : {A : Type 0} (phase : Phase) (x : Frame) (result : Result A Error) →
 owed_of phase x (Ok v) o = o
 owed_of phase x (Err e) o = tt
 
+hands_puts : {L : Type 0} (old : State L) (x : Frame) (after : State L) (result : Result EngineStep Error) (new : State L) → after.channels ≡ old.channels → (hears after.phase ≡ true → hears old.phase ≡ true) → Puts old x after step.Worked result new → Hands old [] new
+hands_puts old x after (Ok v) new c l q = hands_beside old after new c l q.2
+hands_puts old x after (Err (error.Memory a)) new c l q = hands_same old new q
+hands_puts old x after (Err (error.TransportError fault.FramingError)) new c l q = hands_failing old new q.1
+hands_puts old x after (Err (error.TransportError (fault.Memory a))) new c l q = absurd q
+hands_puts old x after (Err (error.TransportError (fault.Io k))) new c l q = absurd q
+hands_puts old x after (Err (error.TransportError fault.IdleTimeoutElapsed)) new c l q = absurd q
+hands_puts old x after (Err (error.TransportError fault.DecodeError)) new c l q = absurd q
+hands_puts old x after (Err (error.TransportError fault.NotImplemented)) new c l q = absurd q
+hands_puts old x after (Err error.IllegalState) new c l q = absurd q
+hands_puts old x after (Err error.NotImplemented) new c l q = absurd q
+hands_puts old x after (Err error.NotFound) new c l q = absurd q
+hands_puts old x after (Err error.RemoteClosed) new c l q = absurd q
+hands_puts old x after (Err (error.RemoteClosedWithError y)) new c l q = absurd q
+
+beat_puts : {L : Type 0} (at : ℕ) (old : State L) (x : Frame) (after : State L) (result : Result EngineStep Error) (new : State L) → IsDueFor x.body at old.beat → after.beat ≡ beat_said x.body at old.beat → Puts old x after step.Worked result new → IsBeat at old [] (queued_of x result) new
+beat_puts {L} at old x after (Ok v) new d c q = (d, ap (λ (t : State L). t.beat) q.2 ∙ c)
+beat_puts {L} at old x after (Err (error.Memory a)) new d c q = ap (λ (t : State L). t.beat) q
+beat_puts {L} at old x after (Err (error.TransportError fault.FramingError)) new d c q = ap (λ (t : State L). t.beat) q.1
+beat_puts at old x after (Err (error.TransportError (fault.Memory a))) new d c q = absurd q
+beat_puts at old x after (Err (error.TransportError (fault.Io k))) new d c q = absurd q
+beat_puts at old x after (Err (error.TransportError fault.IdleTimeoutElapsed)) new d c q = absurd q
+beat_puts at old x after (Err (error.TransportError fault.DecodeError)) new d c q = absurd q
+beat_puts at old x after (Err (error.TransportError fault.NotImplemented)) new d c q = absurd q
+beat_puts at old x after (Err error.IllegalState) new d c q = absurd q
+beat_puts at old x after (Err error.NotImplemented) new d c q = absurd q
+beat_puts at old x after (Err error.NotFound) new d c q = absurd q
+beat_puts at old x after (Err error.RemoteClosed) new d c q = absurd q
+beat_puts at old x after (Err (error.RemoteClosedWithError y)) new d c q = absurd q
+
+-- what a frame that is queued makes of it
+abbrev KeepsBy : {L : Type 0} → State L → Frame → State L → Type 0
+KeepsBy old x after = (c : Closer) → IsCloser old.phase old.reason c → IsCloser after.phase after.reason (closer_by This x.body c)
+
+closer_puts : {L : Type 0} (old : State L) (x : Frame) (after : State L) (result : Result EngineStep Error) (new : State L) → KeepsBy old x after → Puts old x after step.Worked result new → KeepsCloser old [] (queued_of x result) new
+closer_puts {L} old x after (Ok v) new k q = λ c h. subst (λ (t : State L). IsCloser t.phase t.reason (closer_by This x.body c)) (sym q.2) (k c h)
+closer_puts old x after (Err (error.Memory a)) new k q = keeps_same old new q
+closer_puts old x after (Err (error.TransportError fault.FramingError)) new k q = keeps_failing old old new q.1
+closer_puts old x after (Err (error.TransportError (fault.Memory a))) new k q = absurd q
+closer_puts old x after (Err (error.TransportError (fault.Io z))) new k q = absurd q
+closer_puts old x after (Err (error.TransportError fault.IdleTimeoutElapsed)) new k q = absurd q
+closer_puts old x after (Err (error.TransportError fault.DecodeError)) new k q = absurd q
+closer_puts old x after (Err (error.TransportError fault.NotImplemented)) new k q = absurd q
+closer_puts old x after (Err error.IllegalState) new k q = absurd q
+closer_puts old x after (Err error.NotImplemented) new k q = absurd q
+closer_puts old x after (Err error.NotFound) new k q = absurd q
+closer_puts old x after (Err error.RemoteClosed) new k q = absurd q
+closer_puts old x after (Err (error.RemoteClosedWithError y)) new k q = absurd q
+
+in_closer : {L : Type 0} (old : State L) (q : Phase) (c : Closer) → old.phase ≡ q → IsCloser old.phase old.reason c → IsCloser q old.reason c
+in_closer old q c e k = subst (λ (z : Phase). IsCloser z old.reason c) e k
+
 -- a frame that is owed
-acted_puts : {L : Type 0} (link : Ghosts L) (at : ℕ) (old : State L) (x : Frame) (after : State L) (result : Result EngineStep Error) (new : State L) → CanFollow old x after → IsOwed old.phase x → has_failed after.phase ≡ false → Puts old x after step.Worked result new → Acted link at old result new
-acted_puts link at old x after result new f o h q =
+acted_puts : {L : Type 0} (link : Ghosts L) (at : ℕ) (old : State L) (x : Frame) (after : State L) (result : Result EngineStep Error) (new : State L) → CanFollow old x after → IsOwed old.phase x → has_failed after.phase ≡ false → after.channels ≡ old.channels → (hears after.phase ≡ true → hears old.phase ≡ true) → IsDueFor x.body at old.beat → after.beat ≡ beat_said x.body at old.beat → KeepsBy old x after → Puts old x after step.Worked result new → Acted link at old result new
+acted_puts link at old x after result new f o h c l d t k q =
     let by = puts_by link old x after step.Worked result new f q in
     record {
       events = [];
@@ -312,6 +391,10 @@ acted_puts link at old x after result new f o h q =
       moment = moment_none link at old new [] (queued_of x result) by;
       told = λ es n w. told_puts at old x after es result new o h q;
       owed = owed_of old.phase x result o;
+      hands = hands_puts old x after result new c l q;
+      idles = λ i. refl;
+      beat = beat_puts at old x after result new d t q;
+      closer = closer_puts old x after result new k q;
     }
 
 owed_in : {L : Type 0} (old : State L) (q : Phase) (x : Frame) → old.phase ≡ q → IsOwed q x → IsOwed old.phase x
@@ -323,28 +406,28 @@ listens_in old q e l = subst (λ (r : Phase). IsListening r) (sym e) l
 acted_rests : {L : Type 0} (link : Ghosts L) (at : ℕ) (old : State L) (result : Result EngineStep Error) (new : State L) → is_stopped old.phase ≡ true → result ≡ Ok step.Stopped → new ≡ old → Acted link at old result new
 acted_rests {L} link at old result new s r n =
     acted_none link at old result new (none_by link old new (alike_same old new n))
-    (λ es w. told_is at old es [] [] result (Ok step.Stopped) new r (subst (λ (t : State L). HasRested old es t) (sym n) (record { stopped = s; phase = refl; written = w })))
+    (λ es w. told_is at old es [] [] result (Ok step.Stopped) new r (subst (λ (t : State L). HasRested old es t) (sym n) (record { stopped = s; phase = refl; written = w }))) n
 
 acted : {L : Type 0} (q : Phase) (link : Ghosts L) (at : ℕ) (old : State L) (result : Result EngineStep Error) (new : State L) → old.phase ≡ q → Acts q link at old result new → Acted link at old result new
 acted p.OpenSent link at old result new e a = acted_reads link at old result new (listens_in old p.OpenSent e tt) (λ f. absurd (cc (e, f))) a
-acted p.Opened link at old result new e (inl w) = acted_puts link at old no_frame (beating old no_frame at) result new (beats_follow old at e) (owed_in old p.Opened no_frame e refl) (ap has_failed e) w.1
+acted p.Opened link at old result new e (inl w) = acted_puts link at old no_frame (beating old no_frame at) result new (beats_follow old at e) (owed_in old p.Opened no_frame e refl) (ap has_failed e) refl (λ h. h) w.0 refl (λ c k. k) w.1
 acted p.Opened link at old result new e (inr (n, inl r)) = acted_reads link at old result new (listens_in old p.Opened e tt) (λ f. n) r
 acted p.Opened link at old result new e (inr (n, inr m)) = acted_wants link at old result new m.0 m.1
 acted p.CloseReceived link at old result new e a =
-    acted_puts link at old (close_frame None) _ result new (answers_follow old (λ sent s. in_phase old p.CloseReceived sent e s) (λ before h. inl (heard_in old p.CloseReceived before e h)) (ap is_stopped e)) (owed_in old p.CloseReceived (close_frame None) e refl) refl a
+    acted_puts link at old (close_frame None) _ result new (answers_follow old (λ sent s. in_phase old p.CloseReceived sent e s) (λ before h. inl (heard_in old p.CloseReceived before e h)) (ap is_stopped e)) (owed_in old p.CloseReceived (close_frame None) e refl) refl refl (λ h. absurd (cc h)) tt refl (λ c k. keeps_answering old.reason c (in_closer old p.CloseReceived c e k)) a
 acted p.Refused link at old result new e a =
-    acted_puts link at old (close_frame None) _ result new (answers_follow old (λ sent s. in_phase old p.Refused sent e s) (λ before h. inr (inl (heard_in old p.Refused before e h))) (ap is_stopped e)) (owed_in old p.Refused (close_frame None) e refl) refl a
+    acted_puts link at old (close_frame None) _ result new (answers_follow old (λ sent s. in_phase old p.Refused sent e s) (λ before h. inr (inl (heard_in old p.Refused before e h))) (ap is_stopped e)) (owed_in old p.Refused (close_frame None) e refl) refl refl (λ h. absurd (cc h)) tt refl (λ c k. keeps_refusing old.reason c (in_closer old p.Refused c e k)) a
 acted (p.Rejected why) link at old result new e (inl a) =
     acted_puts link at old (close_frame (Some (error_for why))) (closing old (Some (error_for why))) result new
-    (closes_follow old (Some (error_for why)) (λ sent s. in_phase old (p.Rejected why) sent e s) (λ before h. rejected_greeted before (heard_in old (p.Rejected why) before e h).0) (ap is_stopped e)) (owed_in old (p.Rejected why) (close_frame (Some (error_for why))) e refl) refl a
+    (closes_follow old (Some (error_for why)) (λ sent s. in_phase old (p.Rejected why) sent e s) (λ before h. rejected_greeted before (heard_in old (p.Rejected why) before e h).0) (ap is_stopped e)) (owed_in old (p.Rejected why) (close_frame (Some (error_for why))) e refl) refl refl (λ h. absurd (cc h)) tt refl (λ c k. closing_keeps old (Some (error_for why)) c (in_closer old (p.Rejected why) c e k)) a
 acted (p.Rejected why) link at old result new e (inr m) = acted_wants link at old result new m.0 m.1
 acted p.CloseSent link at old result new e a = acted_reads link at old result new (listens_in old p.CloseSent e tt) (λ f. absurd (cc (e, f))) a
 acted p.Discarding link at old result new e a = acted_reads link at old result new (listens_in old p.Discarding e tt) (λ f. absurd (cc (e, f))) a
 acted p.Ended link at old result new e a = acted_rests link at old result new (ap is_stopped e) a.0 a.1
 acted p.Failed link at old result new e a = acted_rests link at old result new (ap is_stopped e) a.0 a.1
 
-stepped_so : {L : Type 0} (link : Ghosts L) (at : ℕ) (old : State L) (events : List LinkEvent) (given queued : List Frame) (result : Result EngineStep Error) (new : State L) → RanBy link old events given queued new → reads_in events ≤ 1 → IsMoment at old given new → IsTold at old events given queued result new → AllOwed old.phase queued → Stepped link at old result new
-stepped_so link at old events given queued result new b f m t o =
+stepped_so : {L : Type 0} (link : Ghosts L) (at : ℕ) (old : State L) (events : List LinkEvent) (given queued : List Frame) (result : Result EngineStep Error) (new : State L) → RanBy link old events given queued new → reads_in events ≤ 1 → IsMoment at old given new → IsTold at old events given queued result new → AllOwed old.phase queued → Hands old given new → (IsIdle result → given ≡ []) → IsBeat at old given queued new → KeepsCloser old given queued new → Stepped link at old result new
+stepped_so link at old events given queued result new b f m t o k i c z =
     record {
       run = b.run;
       few = subst (λ (es : List LinkEvent). reads_in es ≤ 1) (sym b.events_is) f;
@@ -353,6 +436,11 @@ stepped_so link at old events given queued result new b f m t o =
           (subst (λ (gs : List Frame). IsTold at old events gs b.run.queued result new) (sym b.given_is)
           (subst (λ (qs : List Frame). IsTold at old events given qs result new) (sym b.queued_is) t));
       owed = subst (λ (qs : List Frame). AllOwed old.phase qs) (sym b.queued_is) o;
+      handed = subst (λ (gs : List Frame). IsHanded old gs new) (sym b.given_is) k.handed;
+      listens = k.listens;
+      idles = λ z. b.given_is ∙ i z;
+      beat = subst (λ (gs : List Frame). IsBeat at old gs b.run.queued new) (sym b.given_is) (subst (λ (qs : List Frame). IsBeat at old given qs new) (sym b.queued_is) c);
+      closer = subst (λ (gs : List Frame). KeepsCloser old gs b.run.queued new) (sym b.given_is) (subst (λ (qs : List Frame). KeepsCloser old given qs new) (sym b.queued_is) z);
     }
 
 -- after the link took bytes
@@ -370,7 +458,7 @@ told_fault_before at old to output events fault.FramingError f = f
 
 told_before : {L : Type 0} (at : ℕ) (old : State L) (to : L) (output : List ℕ) (events : List LinkEvent) (given queued : List Frame) (result : Result EngineStep Error) (new : State L) → IsTold at (sent_state old to output) events given queued result new → IsTold at old events given queued result new
 told_before at old to output events given queued (Ok step.Worked) new t = record { worked = t.worked; onward = t.onward; written = t.written }
-told_before at old to output events given queued (Ok step.Pending) new t = record { last = t.last; found = t.found; written = t.written; phase = t.phase; live = t.live; undue = t.undue }
+told_before at old to output events given queued (Ok step.Pending) new t = record { last = t.last; found = t.found; written = t.written; phase = t.phase; live = t.live; undue = t.undue; still = t.still; unelapsed = t.unelapsed }
 told_before at old to output events given queued (Ok step.Stopped) new t = record { stopped = t.stopped; phase = t.phase; written = t.written }
 told_before at old to output events given queued (Err (error.Memory a)) new t = t
 told_before at old to output events given queued (Err (error.TransportError e)) new t = (t.0, λ c. told_fault_before at old to output events e (t.1 c), t.2)
@@ -387,13 +475,15 @@ few_then es fs n f = omega (arith, reads_in-append fs es, n, f)
 stepped_acts : {L : Type 0} (link : Ghosts L) (at : ℕ) (old : State L) (to : L) (output : List ℕ) (es : List LinkEvent) (result : Result EngineStep Error) (new : State L) → RanBy link old es [] [] (sent_state old to output) → reads_in es ≡ 0 → read_of es ≡ [] → IsWritten old.phase es output → Acted link at (sent_state old to output) result new → Stepped link at old result new
 stepped_acts link at old to output es result new b n r w a =
     stepped_so link at old (a.events ++ es) a.given a.queued result new (then_by link old (sent_state old to output) new es a.events [] a.given [] a.queued b a.by)
-    (few_then es a.events n a.few) a.moment (told_before at old to output (a.events ++ es) a.given a.queued result new (a.told es r w)) a.owed
+    (few_then es a.events n a.few) a.moment (told_before at old to output (a.events ++ es) a.given a.queued result new (a.told es r w)) a.owed (hands_wire old (record old.wire { codec = record old.wire.codec { link = to; output = output } }) a.given new a.hands) a.idles
+    (beat_wire at old (record old.wire { codec = record old.wire.codec { link = to; output = output } }) a.given a.queued new a.beat)
+    (keeps_wire old (record old.wire { codec = record old.wire.codec { link = to; output = output } }) a.given a.queued new a.closer)
 
 -- the flush failed, or memory was wanting
-stepped_held : {L : Type 0} (link : Ghosts L) (at : ℕ) (old : State L) (to : L) (output : List ℕ) (es : List LinkEvent) (result : Result EngineStep Error) (new : State L) → RanBy link old es [] [] (sent_state old to output) → reads_in es ≡ 0 → RanBy link (sent_state old to output) [] [] [] new → IsTold at old es [] [] result new → Stepped link at old result new
-stepped_held link at old to output es result new b n c t =
+stepped_held : {L : Type 0} (link : Ghosts L) (at : ℕ) (old : State L) (to : L) (output : List ℕ) (es : List LinkEvent) (result : Result EngineStep Error) (new : State L) → RanBy link old es [] [] (sent_state old to output) → reads_in es ≡ 0 → RanBy link (sent_state old to output) [] [] [] new → IsTold at old es [] [] result new → Hands (sent_state old to output) [] new → new.beat ≡ old.beat → KeepsCloser old [] [] new → Stepped link at old result new
+stepped_held link at old to output es result new b n c t k i z =
     let by = then_by link old (sent_state old to output) new es [] [] [] [] [] b c in
-    stepped_so link at old es [] [] result new by (omega (arith, n)) (moment_none link at old new es [] by) t tt
+    stepped_so link at old es [] [] result new by (omega (arith, n)) (moment_none link at old new es [] by) t tt (hands_wire old (record old.wire { codec = record old.wire.codec { link = to; output = output } }) [] new k) (λ y. refl) i z
 
 acts_of : {L : Type 0} (link : Ghosts L) (at : ℕ) (f : Flush) (flush : Result Flush Error) (s mid : State L) (result : Result EngineStep Error) (new : State L) → flush ≡ Ok f → mid ≡ s → ThenActs link at flush mid result new → Acted link at s result new
 acts_of {L} link at f flush s mid result new e m a =
@@ -410,11 +500,11 @@ stepped_flush {L} link at old to output bytes (Some HeldFailed) flush mid result
     let e : ThenActs link at (Err (error.TransportError (fault.Io Fault))) mid result new = subst (λ (r : Result Flush Error). ThenActs link at r mid result new) d.0 a in
     let n : new ≡ failing (sent_state old to output) = e.1 ∙ d.1 in
     stepped_held link at old to output (write_events bytes (Some HeldFailed)) result new b refl (none_by link (sent_state old to output) new (alike_failing (sent_state old to output) new n))
-    (told_fault at old (sent_state old to output) (write_events bytes (Some HeldFailed)) (fault.Io Fault) result new e.0 n (λ c. inr (inl refl)))
+    (told_fault at old (sent_state old to output) (write_events bytes (Some HeldFailed)) (fault.Io Fault) result new e.0 n (λ c. inr (inl refl))) (hands_failing (sent_state old to output) new n) (ap (λ (t : State L). t.beat) n) (keeps_failing old (sent_state old to output) new n)
 stepped_flush {L} link at old to output bytes (Some HeldMemory) flush mid result new b all d a =
     let e : ThenActs link at (Err (error.Memory (record {}))) mid result new = subst (λ (r : Result Flush Error). ThenActs link at r mid result new) d.0 a in
     stepped_held link at old to output (write_events bytes (Some HeldMemory)) result new b refl (none_by link (sent_state old to output) new (alike_same (sent_state old to output) new (e.1 ∙ d.1)))
-    (told_is at old (write_events bytes (Some HeldMemory)) [] [] result (Err (error.Memory (record {}))) new e.0 tt)
+    (told_is at old (write_events bytes (Some HeldMemory)) [] [] result (Err (error.Memory (record {}))) new e.0 tt) (hands_same (sent_state old to output) new (e.1 ∙ d.1)) (ap (λ (t : State L). t.beat) (e.1 ∙ d.1)) (keeps_same (sent_state old to output) new (e.1 ∙ d.1))
 
 -- the answer of the flush and what is left of the transport are told by how the flush ended
 stepped_writes : {L : Type 0} (link : Ghosts L) (at : ℕ) (old : State L) (flush : Result Flush Error) (mid : State L) (result : Result EngineStep Error) (new : State L) → Writes link old flush mid → ThenActs link at flush mid result new → Stepped link at old result new
@@ -435,20 +525,20 @@ pub stepped : {L : Type 0} (link : Ghosts L) (at : ℕ) (old : State L) (result 
 stepped link at old result new s = stepped_if (has_failed old.phase) link at old s.flush s.mid result new refl s.flushes s.acts
 
 -- a Close
-closed_told : {L : Type 0} (old : State L) (y : Option AmqpError) (result : Result Unit Error) (new : State L) → Puts old (close_frame y) (closing old y) tt result new → IsClosedBy old y (queued_of (close_frame y) result) result new
-closed_told old y (Ok v) new q = (refl, q.2)
-closed_told old y (Err (error.Memory a)) new q = (refl, q)
-closed_told old y (Err (error.TransportError fault.FramingError)) new q = (refl, q.0, q.1)
-closed_told old y (Err (error.TransportError (fault.Memory a))) new q = absurd q
-closed_told old y (Err (error.TransportError (fault.Io k))) new q = absurd q
-closed_told old y (Err (error.TransportError fault.IdleTimeoutElapsed)) new q = absurd q
-closed_told old y (Err (error.TransportError fault.DecodeError)) new q = absurd q
-closed_told old y (Err (error.TransportError fault.NotImplemented)) new q = absurd q
-closed_told old y (Err error.IllegalState) new q = absurd q
-closed_told old y (Err error.NotImplemented) new q = absurd q
-closed_told old y (Err error.NotFound) new q = absurd q
-closed_told old y (Err error.RemoteClosed) new q = absurd q
-closed_told old y (Err (error.RemoteClosedWithError e)) new q = absurd q
+closed_told : {L : Type 0} (old : State L) (y : Option AmqpError) (result : Result Unit Error) (new : State L) → old.phase ≡ p.Opened → Puts old (close_frame y) (closing old y) tt result new → IsClosedBy old y (queued_of (close_frame y) result) result new
+closed_told old y (Ok v) new o q = (refl, q.2, o)
+closed_told old y (Err (error.Memory a)) new o q = (refl, q)
+closed_told old y (Err (error.TransportError fault.FramingError)) new o q = (refl, q.0, q.1)
+closed_told old y (Err (error.TransportError (fault.Memory a))) new o q = absurd q
+closed_told old y (Err (error.TransportError (fault.Io k))) new o q = absurd q
+closed_told old y (Err (error.TransportError fault.IdleTimeoutElapsed)) new o q = absurd q
+closed_told old y (Err (error.TransportError fault.DecodeError)) new o q = absurd q
+closed_told old y (Err (error.TransportError fault.NotImplemented)) new o q = absurd q
+closed_told old y (Err error.IllegalState) new o q = absurd q
+closed_told old y (Err error.NotImplemented) new o q = absurd q
+closed_told old y (Err error.NotFound) new o q = absurd q
+closed_told old y (Err error.RemoteClosed) new o q = absurd q
+closed_told old y (Err (error.RemoteClosedWithError e)) new o q = absurd q
 
 closed_so : {L : Type 0} (link : Ghosts L) (old : State L) (y : Option AmqpError) (queued : List Frame) (result : Result Unit Error) (new : State L) → RanBy link old [] [] queued new → IsClosedBy old y queued result new → HasClosed link old y result new
 closed_so link old y queued result new b t =
@@ -456,7 +546,7 @@ closed_so link old y queued result new b t =
 
 closed_if : {L : Type 0} (open_now : Bool) (link : Ghosts L) (old : State L) (y : Option AmqpError) (result : Result Unit Error) (new : State L) → is_open old.phase ≡ open_now → SendsIf open_now old (close_frame y) (closing old y) result new → HasClosed link old y result new
 closed_if true link old y result new o q =
-    closed_so link old y (queued_of (close_frame y) result) result new (puts_by link old (close_frame y) (closing old y) tt result new (open_follows old y (is_open_only old.phase o)) q) (closed_told old y result new q)
+    closed_so link old y (queued_of (close_frame y) result) result new (puts_by link old (close_frame y) (closing old y) tt result new (open_follows old y (is_open_only old.phase o)) q) (closed_told old y result new (is_open_only old.phase o) q)
 closed_if false link old y result new o q =
     closed_so link old y [] result new (none_by link old new (alike_same old new q.1))
     (subst (λ (r : Result Unit Error). IsClosedBy old y [] r new) (sym q.0) (refl, o, q.1))

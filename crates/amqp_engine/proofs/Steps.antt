@@ -268,7 +268,7 @@ reached link at old wire (Ok next.Ended) result new l g a = reached_is old (reco
 reached link at old wire (Err e) result new l g a = reached_is old (record old { wire = wire }) new _ [] a.1 (reached_by old wire e g.kept (same_polled link at old wire (Err e) g))
 
 -- a frame between Open and Close
-inner_follows : {L : Type 0} (old : State L) (x : Frame) (after : State L) → old.phase ≡ p.Opened → after.wire ≡ (queueing old x).wire → after.settings ≡ old.settings → after.phase ≡ old.phase → after.reason ≡ old.reason → IsInner (kind_of x.body) → CanFollow old x after
+pub inner_follows : {L : Type 0} (old : State L) (x : Frame) (after : State L) → old.phase ≡ p.Opened → after.wire ≡ (queueing old x).wire → after.settings ≡ old.settings → after.phase ≡ old.phase → after.reason ≡ old.reason → IsInner (kind_of x.body) → CanFollow old x after
 inner_follows old x after e w set q r i =
     record {
       wire = w;

@@ -10,4 +10,6 @@ pub mod Calls
 pub mod Heard
 pub mod Sentence
 pub mod Faults
+pub mod Beats
+pub mod Closers
 pub mod Outcomes

@@ -1,5 +1,5 @@
 -- What an answer says of its call.
-use Rattle.std.specs.Prelude.{◌≡◌, ◌≤◌, ◌+◌, ◌⊎◌, ℕ, List, [], ◌∷◌, length, true, false, Option, Result, Ok, Err, ⊤}
+use Rattle.std.specs.Prelude.{◌≡◌, ◌≤◌, ◌+◌, ◌⊎◌, ℕ, List, [], ◌∷◌, length, Bool, true, false, Option, Result, Ok, Err, ⊤}
 use Rattle.amqp_wire.specs.declared.link.Link.{Ghosts}
 use Rattle.amqp_wire.specs.declared.link.Stop.TheVariants.{Empty}
 use Rattle.amqp_wire.specs.declared.link.Held.TheVariants.{Full}
@@ -8,7 +8,7 @@ use Rattle.amqp_composites.specs.declared.error.Error.{Error as AmqpError}
 use Rattle.amqp_transport.specs.declared.frames.Frame.{Frame}
 use Rattle.amqp_transport.specs.declared.transport.Error.TheVariants as fault
 use Rattle.amqp_transport.specs.Causes.{IsLast}
-use Rattle.amqp_transport.specs.Clocks.{IsDue}
+use Rattle.amqp_transport.specs.Clocks.{IsDue, HasElapsed}
 use Rattle.amqp_engine.specs.declared.engine.EngineStep.{EngineStep}
 use Rattle.amqp_engine.specs.declared.engine.EngineStep.TheVariants as step
 use Rattle.amqp_engine.specs.declared.error.Error.{Error}
@@ -16,18 +16,24 @@ use Rattle.amqp_engine.specs.declared.error.Error.TheVariants as error
 use Rattle.amqp_engine.specs.declared.phase.Phase.{Phase}
 use Rattle.amqp_engine.specs.declared.phase.Phase.TheVariants as p
 use Rattle.amqp_engine.specs.declared.phase.Rejection.{Rejection}
-use Rattle.amqp_engine.specs.Phases.{is_stopped, has_failed, is_open}
+use Rattle.amqp_frames.specs.Session.{of_session}
+use Rattle.amqp_engine.specs.declared.sessions.Plan.{Plan}
+use Rattle.amqp_engine.specs.Channels.{Channels, taken_in}
+use Rattle.amqp_engine.specs.Machine.{plan_of, phase_after}
+use Rattle.amqp_engine.specs.Phases.{is_stopped, has_failed, is_open, hears}
 use Rattle.amqp_engine.specs.Plans.{rejection_told}
 use Rattle.amqp_engine.specs.State.{State, failing, closing, close_frame}
 use Rattle.amqp_engine.specs.Calls.{IsTooLarge}
 use Rattle.amqp_engine.specs.Sentence.{Ran, IsCalm}
 use Rattle.amqp_engine.specs.Faults.{IsFault, AllOwed}
+use Rattle.amqp_engine.specs.Beats.{IsBeat}
+use Rattle.amqp_engine.specs.Closers.{KeepsCloser}
 
 -- what was queued was written as far as the link took it, unless the transport failed before
 abbrev pub IsWritten : Phase → List LinkEvent → List ℕ → Type 0
 IsWritten phase events output = (has_failed phase ≡ true) ⊎ (Includes events (NotWritten Full) ⊎ (output ≡ []))
 
--- nothing is there: no heartbeat was due, and at last a read found the link empty
+-- nothing is there: no heartbeat was due, the idle time had not passed, and at last a read found the link empty
 pub record HasWaited {L : Type 0} (at : ℕ) (old : State L) (events : List LinkEvent) (new : State L) : Type 0 where
   pub last : IsLast events (NotRead Empty)
   pub found : Includes events (NotRead Empty)
@@ -35,6 +41,8 @@ pub record HasWaited {L : Type 0} (at : ℕ) (old : State L) (events : List Link
   pub phase : new.phase ≡ old.phase
   pub live : is_stopped new.phase ≡ false
   pub undue : old.phase ≡ p.Opened → IsDue old.beat at → ⊥
+  pub still : new.beat ≡ old.beat
+  pub unelapsed : HasElapsed new.wire.clock at → ⊥
 
 -- the connection had stopped before
 pub record HasRested {L : Type 0} (old : State L) (events : List LinkEvent) (new : State L) : Type 0 where
@@ -83,17 +91,48 @@ IsTold at old events given queued (Err (error.RemoteClosedWithError e)) new = �
 abbrev pub IsMoment : {L : Type 0} → ℕ → State L → List Frame → State L → Type 0
 IsMoment at old given new = ((given ≡ []) × (new.wire.clock.since ≡ old.wire.clock.since)) ⊎ ((x : Frame) × (given ≡ x ∷ []) × (new.wire.clock.since ≡ at))
 
--- a run of one step, with what its answer says; the bytes that reads gave are told as one event at most, and what is queued was owed
+-- what a frame that was read makes of the channels: one of a session is taken in as is planned while the connection is open
+abbrev pub channels_by : Bool → Bool → Plan → Channels → Frame → Channels
+channels_by true true plan c x = taken_in plan c x
+channels_by true false plan c x = c
+channels_by false session plan c x = c
+
+-- and of the phase where it is one of a session and the connection is open
+pub record IsAdmitted {L : Type 0} (old : State L) (x : Frame) (new : State L) : Type 0 where
+  pub channels : new.channels ≡ channels_by (is_open old.phase) (of_session x.body) (plan_of old x) old.channels x
+  pub phase : is_open old.phase ≡ true → of_session x.body ≡ true → new.phase ≡ phase_after (plan_of old x) old.phase
+  pub opening : is_open old.phase ≡ false → hears new.phase ≡ true → of_session x.body ≡ false
+
+-- what a step makes of the channels, by the frame that was given in it
+abbrev pub IsHanded : {L : Type 0} → State L → List Frame → State L → Type 0
+IsHanded old [] new = new.channels ≡ old.channels
+IsHanded old (x ∷ []) new = IsAdmitted old x new
+IsHanded old (x ∷ y ∷ xs) new = ⊥
+
+-- the answer tells of no work
+abbrev pub IsIdle : Result EngineStep Error → Type 0
+IsIdle (Ok step.Worked) = ⊥
+IsIdle (Ok step.Pending) = ⊤
+IsIdle (Ok step.Stopped) = ⊤
+IsIdle (Err e) = ⊥
+
+-- a run of one step, with what its answer says; the bytes that reads gave are told as one event at most, what is queued was owed, and an
+-- empty frame by a beat that is due; and it is kept whose Close came first
 pub record Stepped {L : Type 0} (link : Ghosts L) (at : ℕ) (old : State L) (result : Result EngineStep Error) (new : State L) : Type 0 where
   pub run : Ran link old new
   pub few : reads_in run.events ≤ 1
   pub moment : IsMoment at old run.given new
   pub told : IsTold at old run.events run.given run.queued result new
   pub owed : AllOwed old.phase run.queued
+  pub beat : IsBeat at old run.given run.queued new
+  pub closer : KeepsCloser old run.given run.queued new
+  pub handed : IsHanded old run.given new
+  pub listens : hears new.phase ≡ true → hears old.phase ≡ true
+  pub idles : IsIdle result → run.given ≡ []
 
 -- what the answer of a close says: a Close is queued, or nothing is
 abbrev pub IsClosedBy : {L : Type 0} → State L → Option AmqpError → List Frame → Result Unit Error → State L → Type 0
-IsClosedBy old y queued (Ok u) new = (queued ≡ close_frame y ∷ []) × (new ≡ closing old y)
+IsClosedBy old y queued (Ok u) new = (queued ≡ close_frame y ∷ []) × (new ≡ closing old y) × (old.phase ≡ p.Opened)
 IsClosedBy old y queued (Err (error.Memory a)) new = (queued ≡ []) × (new ≡ old)
 IsClosedBy old y queued (Err error.IllegalState) new = (queued ≡ []) × (is_open old.phase ≡ false) × (new ≡ old)
 IsClosedBy old y queued (Err (error.TransportError fault.FramingError)) new = (queued ≡ []) × IsTooLarge old.wire.codec.encoder (close_frame y) × (new ≡ failing old)

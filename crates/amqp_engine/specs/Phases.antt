@@ -32,6 +32,12 @@ abbrev pub is_open : Phase → Bool
 is_open p.Opened = true
 is_open phase = false
 
+-- frames of the peer are heard, and none was rejected or a Close
+abbrev pub hears : Phase → Bool
+hears p.OpenSent = true
+hears p.Opened = true
+hears phase = false
+
 -- the standard's name of it
 abbrev pub state_of : Phase → ConnectionState
 state_of p.OpenSent = state.OpenSent

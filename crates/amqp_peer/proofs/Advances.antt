@@ -7,12 +7,14 @@ use Rattle.amqp_wire.specs.declared.link.Stop.TheVariants.{Empty}
 use Rattle.amqp_wire.specs.Events.{LinkEvent, NotRead, NotWritten, Includes, Went, reads_in}
 use Rattle.amqp_wire.proofs.Events.{includes_left, went_then, reads_in-append}
 use Rattle.amqp_transport.specs.Stream.{IsPart}
+use Rattle.amqp_transport.specs.Clocks.{IsDue as IsBeatDue}
+use Rattle.amqp_transport.specs.declared.heart_beat.HeartBeat.{HeartBeat}
 use Rattle.amqp_engine.specs.declared.engine.EngineStep.TheVariants as step
 use Rattle.amqp_engine.specs.declared.error.Error.{Error as ConnectionFault}
 use Rattle.amqp_engine.specs.declared.error.Error.TheVariants as connection
 use Rattle.amqp_engine.specs.declared.phase.Phase.{Phase}
 use Rattle.amqp_engine.specs.declared.phase.Phase.TheVariants as p
-use Rattle.amqp_engine.specs.Outcomes.{IsMoment, IsOnward, IsWritten, Stepped as EngineStepped}
+use Rattle.amqp_engine.specs.Outcomes.{IsOnward, IsWritten, Stepped as EngineStepped}
 use Rattle.amqp_engine.specs.Phases.{state_of, is_stopped, has_failed}
 use Rattle.amqp_engine.specs.Sentence.{Ran}
 use Rattle.amqp_engine.specs.State.{State}
@@ -37,6 +39,8 @@ use Rattle.amqp_peer.proofs.Grows.{is_running, onward_from, onward_sound, waitin
 use Rattle.amqp_peer.proofs.Leaves.{still_leaves}
 use Rattle.amqp_peer.proofs.Histories.{inside-append, link_in-append, given_in-append, sent_in-append, replied_in-append, moment_in-inside}
 use Rattle.amqp_peer.proofs.Said.{IsDue}
+use Rattle.amqp_peer.proofs.Beats.{IsTimed, timed}
+use Rattle.amqp_peer.proofs.Settled.{read_up_left, blocked_left}
 use Rattle.amqp_peer.proofs.Moved.{moved, passed, made_after, link_after, replied_after, running_grows}
 use Rattle.amqp_peer.proofs.Quiet.{quiet_replied, running_quiet, called_quiet, broken_quiet, fault_quiet}
 use Rattle.amqp_peer.proofs.Written.{out_running}
@@ -80,18 +84,23 @@ worked_frames r w = omega (arith, w, ap length (passed r).heard, ap length (pass
 
 -- ---- nothing is there
 
-pending_settled : {L : Type 0} (link : Ghosts L) (at : ℕ) (s s' : State L) → IsPart s'.wire.codec.input → IsAwaiting s'.phase → (st : EngineStepped link at s (Ok step.Pending) s') → IsSettled (Late s') (moved st.run)
-pending_settled link at s s' part awaits st = elim st.told.written [
-  | inl full ↦ inr (inl (subst (λ (es : List LinkEvent). Includes es (NotWritten Full)) (sym (passed st.run).link) full))
-  | inr none ↦ inl (subst (λ (es : List LinkEvent). Includes es (NotRead Empty)) (sym (passed st.run).link) st.told.found, record { part = part; written = none; awaits = awaits })
-]
+pending_settled : {L : Type 0} (link : Ghosts L) (at : ℕ) (s s' : State L) → IsPart s'.wire.codec.input → IsAwaiting s'.phase → (st : EngineStepped link at s (Ok step.Pending) s') → IsSettled at (Late s') (moved st.run)
+pending_settled link at s s' part awaits st =
+    let undue : s'.phase ≡ p.Opened → IsBeatDue s'.beat at → ⊥ = λ o d. st.told.undue (sym st.told.phase ∙ o) (subst (λ (z : HeartBeat). IsBeatDue z at) st.told.still d) in
+    inl (
+      subst (λ (es : List LinkEvent). Includes es (NotRead Empty)) (sym (passed st.run).link) st.told.found,
+      (
+        record { part = part; awaits = awaits; undue = undue; unelapsed = st.told.unelapsed },
+        elim st.told.written [ inl full ↦ inl (subst (λ (es : List LinkEvent). Includes es (NotWritten Full)) (sym (passed st.run).link) full) | inr none ↦ inr none ],
+      ),
+    )
 
 pub pending_rests : {L : Type 0} (link : Ghosts L) (at : ℕ) (old : Peering L) (s s' : State L) → old.held ≡ Late s → IsPart s'.wire.codec.input → IsAwaiting s'.phase → EngineStepped link at s (Ok step.Pending) s' → Rested link at 1 old (record old { held = Late s' })
 pending_rests link at old s s' e part awaits st =
     let r = st.run in
     record {
       run = advanced link at 1 old (record old { held = Late s' }) (moved r) [] (moves link 1 old (record old { held = Late s' }) s s' r st.few e refl) (sym (append-nil old.replies)) refl
-          (λ h t x. moves_in link at old.progress old s s' old.fault h r st.moment (inl st.owed) t e
+          (λ h t x. moves_in link at old.progress old s s' old.fault h r (timed link at s _ s' st) (inl st.owed) t e
           (λ call k prep u. unmade_same link call old.fault s s' h r (λ z. absurd (cc (failed_stops s.phase z, ap is_stopped st.told.phase, st.told.live))) k st.told.phase u)
           (λ call k prep o f. fault_same old.fault s s' h r (λ z. absurd (cc (failed_stops s.phase z, ap is_stopped st.told.phase, st.told.live))) st.told.phase f)
           (λ call k prep b. broken_same s s' h r (λ z. absurd (cc (failed_stops s.phase z, ap is_stopped st.told.phase, st.told.live))) st.told.phase b) (still_leaves s s' st.told.phase) x);
@@ -122,7 +131,7 @@ failed_advances link at old s s' e l st n sound leaves =
     let new = record old { held = Late s'; fault = first_fault old.fault e } in
     record {
       run = advanced link at 1 old new (moved r) [] (moves link 1 old new s s' r st.few l refl) (sym (append-nil old.replies)) refl
-          (λ h t x. moves_in link at old.progress old s s' (first_fault old.fault e) h r st.moment (inl st.owed) t l
+          (λ h t x. moves_in link at old.progress old s s' (first_fault old.fault e) h r (timed link at s _ s' st) (inl st.owed) t l
           (λ call k prep u. unmade_failed link at call old.fault e s s' h st k prep t n u)
           (λ call k prep o f. fault_failed link at call old.fault e s s' h st k o prep t n f) (λ call k prep b. breaks link at call e s s' h st k prep t n) leaves x);
       frames = λ a. worked_frames r (failed_did link at s s' e st n a);
@@ -143,10 +152,10 @@ made_of : {L : Type 0} (held : Held L) (s : State L) (b : Bool) → held ≡ Lat
 made_of held s b e m = sym (ap is_made e) ∙ m
 
 -- where it is not made by the step
-worked_has : {L : Type 0} (link : Ghosts L) (at : ℕ) (q : Progress) (old : Peering L) (s s' : State L) (h : List Local) (r : Ran link s s') → IsMoment at s r.given s' → IsDue (made_in h) s.phase r.queued → moment_in h ≡ at → old.held ≡ Late s → IsOnward s.phase s'.phase
+worked_has : {L : Type 0} (link : Ghosts L) (at : ℕ) (q : Progress) (old : Peering L) (s s' : State L) (h : List Local) (r : Ran link s s') → IsTimed at s r.given r.queued s' → IsDue (made_in h) s.phase r.queued → moment_in h ≡ at → old.held ≡ Late s → IsOnward s.phase s'.phase
     → (IsLeaving s.phase → IsLeaving s'.phase) → (q ≡ progress.Opening → is_made_state (state_of s'.phase) ≡ false) → HasIn q old h → HasIn q (record old { held = Late s' }) (moved r ++ h)
 worked_has link at progress.Idle old s s' h r m d t e o l n x = absurd (cc (sym e ∙ x.holds))
-worked_has link at progress.Opening old s s' h r m d t e o l n x = waiting_moves link at old s s' old.fault h r m d t e (λ call k prep u. unmade_worked link at call old.fault s s' h r m k o (n refl) u) x
+worked_has link at progress.Opening old s s' h r m d t e o l n x = waiting_moves link at old s s' old.fault h r m d t e (λ call k prep u. unmade_worked link at call old.fault s s' h r m.moment k o (n refl) u) x
 worked_has link at progress.Open old s s' h r m d t e o l n x = open_moves link at old s s' old.fault h r m d t e (λ call k prep b f. fault_worked old.fault s s' h r o f) x
 worked_has link at progress.Closing old s s' h r m d t e o l n x = closing_moves link at old s s' old.fault h r m d t e (λ call k prep b f. fault_worked old.fault s s' h r o f) l x
 worked_has link at progress.Over old s s' h r m d t e o l n x = over_moves link at old s s' old.fault h r m d t e (λ call k prep b. broken_sound s' (moved r ++ h) (onward_sound s.phase s'.phase o)) x
@@ -157,7 +166,7 @@ worked_same link at old s s' e st l n =
     let r = st.run in
     record {
       run = advanced link at 1 old (record old { held = Late s' }) (moved r) [] (moves link 1 old (record old { held = Late s' }) s s' r st.few e refl) (sym (append-nil old.replies)) refl
-          (λ h t x. worked_has link at old.progress old s s' h r st.moment (inl st.owed) t e st.told.onward l n x);
+          (λ h t x. worked_has link at old.progress old s s' h r (timed link at s _ s' st) (inl st.owed) t e st.told.onward l n x);
       frames = λ a. worked_frames r st.told.worked;
       most = omega arith;
       stays = λ a. sound_late old.held s e (onward_from s.phase s'.phase st.told.onward);
@@ -172,7 +181,7 @@ made_has {L} link at old s s' h st t e n w =
     let k = is_running w.call old.held s h e w.called in
     let u : IsUnmadeAt old.fault s h = subst (λ (x : Held L). IsUnmade old.fault x h) e w.unmade in
     let o = made_worked link w.call old.fault s s' h r k st.told.onward n u in
-    let k' = running_grows link at w.call s s' h r st.moment (inl st.owed) t k in
+    let k' = running_grows link at w.call s s' h r (timed link at s _ s' st) (inl st.owed) t k in
     let came = made_came link w.call old.fault s s' h r k st.told.onward n u in
     let lives = onward_sound s.phase s'.phase st.told.onward in
     let flushed : Includes (link_in (moved r ++ h)) (NotWritten Full) ⊎ (s'.wire.codec.output ≡ []) = elim (st.told.written came) [
@@ -185,6 +194,7 @@ made_has {L} link at old s s' h st t e n w =
     record {
       call = w.call;
       name = old.name;
+      same = refl;
       made = made_after h (passed r) ∙ w.made;
       replied = ap (λ (u : List NamedReply). u ++ made_reply old.name ∷ []) (replied_after h (passed r) ∙ w.replied);
       called = record { holds = running_quiet w.call s' (moved r ++ h) (Replied (made_reply old.name) ∷ moved r ++ h) (quiet_replied (made_reply old.name) (moved r ++ h)) k'; caused = (record { heard = o.0; said = k'.opens; out = out_running w.call s' (moved r ++ h) k' flushed }, (passed r).caused h w.called.caused) };
@@ -267,7 +277,7 @@ written_after h r (inr (inr y)) = inr (inr y)
 
 stopped_has : {L : Type 0} (link : Ghosts L) (at : ℕ) (q : Progress) (old : Peering L) (s s' : State L) (h : List Local) (st : EngineStepped link at s (Ok step.Stopped) s') → (has_failed s.phase ≡ true → st.run.given ≡ []) → moment_in h ≡ at → old.held ≡ Late s → HasIn q old h → HasIn q (record old { held = Late s' }) (moved st.run ++ h)
 stopped_has link at q old s s' h st n t e x =
-    moves_in link at q old s s' old.fault h st.run st.moment (inl st.owed) t e (λ call k prep u. unmade_same link call old.fault s s' h st.run n k st.told.phase u) (λ call k prep o f. fault_same old.fault s s' h st.run n st.told.phase f) (λ call k prep b. broken_same s s' h st.run n st.told.phase b) (still_leaves s s' st.told.phase) x
+    moves_in link at q old s s' old.fault h st.run (timed link at s _ s' st) (inl st.owed) t e (λ call k prep u. unmade_same link call old.fault s s' h st.run n k st.told.phase u) (λ call k prep o f. fault_same old.fault s s' h st.run n st.told.phase f) (λ call k prep b. broken_same s s' h st.run n st.told.phase b) (still_leaves s s' st.told.phase) x
 
 not_active : {L : Type 0} (s : State L) → is_stopped s.phase ≡ true → IsActive (Late s) → ⊥
 not_active s e a = absurd (cc (e, a))
@@ -374,12 +384,12 @@ worked_then link at m n a b c x y =
       from = λ z. one_among m n z x.from (λ k. x.stays (y.from k));
     }
 
-pub settled_left : {L : Type 0} (held : Held L) (es fs : List Local) → IsSettled held es → IsSettled held (es ++ fs)
-settled_left held es fs (inl a) = inl (subst (λ (u : List LinkEvent). Includes u (NotRead Empty)) (sym (link_in-append es fs)) (includes_left (link_in es) (link_in fs) (NotRead Empty) a.0), a.1)
-settled_left held es fs (inr (inl a)) = inr (inl (subst (λ (u : List LinkEvent). Includes u (NotWritten Full)) (sym (link_in-append es fs)) (includes_left (link_in es) (link_in fs) (NotWritten Full) a)))
-settled_left held es fs (inr (inr (inl a))) =
+pub settled_left : {L : Type 0} (at : ℕ) (held : Held L) (es fs : List Local) → IsSettled at held es → IsSettled at held (es ++ fs)
+settled_left at held es fs (inl a) = inl (subst (λ (u : List LinkEvent). Includes u (NotRead Empty)) (sym (link_in-append es fs)) (includes_left (link_in es) (link_in fs) (NotRead Empty) a.0), read_up_left at held es fs a.1)
+settled_left at held es fs (inr (inl a)) = inr (inl (blocked_left held es fs a))
+settled_left at held es fs (inr (inr (inl a))) =
     let z = ap reads_in (link_in-append es fs) ∙ reads_in-append (link_in es) (link_in fs) in inr (inr (inl (omega (arith, z, a))))
-settled_left held es fs (inr (inr (inr a))) =
+settled_left at held es fs (inr (inr (inr a))) =
     let g = ap length (given_in-append es fs) ∙ length-append (given_in fs) (given_in es) in
     let s = ap length (sent_in-append es fs) ∙ length-append (sent_in fs) (sent_in es) in
     inr (inr (inr (omega (arith, g, s, a))))
@@ -400,7 +410,7 @@ concluded_left p es fs (inr a) =
     inr (omega (arith, g, s, a))
 
 pub rested_then : {L : Type 0} (link : Ghosts L) (at m n : ℕ) (P : List Local → Type 0) (a b c : Peering L) → AdvancedFrom link at m P a b → Rested link at n b c → RestedFrom link at (m + n) P a c
-rested_then link at m n P a b c x y = record { run = advanced_then link at m n P a b c x y.run; settled = λ z. settled_left c.held y.run.events x.events (y.settled z); concluded = λ z. concluded_left c y.run.events x.events (y.concluded z); begun = y.begun }
+rested_then link at m n P a b c x y = record { run = advanced_then link at m n P a b c x y.run; settled = λ z. settled_left at c.held y.run.events x.events (y.settled z); concluded = λ z. concluded_left c y.run.events x.events (y.concluded z); begun = y.begun }
 
 pub rested_more : {L : Type 0} (link : Ghosts L) (at m n : ℕ) (P : List Local → Type 0) (a b : Peering L) → m ≤ n → RestedFrom link at m P a b → RestedFrom link at n P a b
 rested_more link at m n P a b l x = record { run = advanced_more link at m n P a b l x.run; settled = x.settled; concluded = x.concluded; begun = x.begun }

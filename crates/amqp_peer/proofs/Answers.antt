@@ -8,6 +8,7 @@ use Rattle.amqp_frames.specs.declared.shared.ConnectionStopReason.{ConnectionSto
 use Rattle.amqp_wire.specs.declared.link.Held.TheVariants.{Full}
 use Rattle.amqp_wire.specs.Events.{NotWritten, Includes}
 use Rattle.amqp_transport.specs.declared.frames.Frame.{Frame}
+use Rattle.amqp_engine.specs.Closers.{Closer, IsFirst, IsCloser}
 use Rattle.amqp_engine.specs.declared.error.Error.{Error as ConnectionFault}
 use Rattle.amqp_engine.specs.declared.error.Error.TheVariants as connection
 use Rattle.amqp_engine.specs.declared.phase.Phase.{Phase}
@@ -18,7 +19,8 @@ use Rattle.amqp_engine.specs.Sentence.{IsSaid, IsClosed}
 use Rattle.amqp_engine.specs.State.{State, stop_reason_of, remote_reason, own_reason, answered_reason}
 use Rattle.amqp_words.specs.declared.call.Call.{Call}
 use Rattle.amqp_words.specs.declared.reply.Reply.TheVariants as reply
-use Rattle.amqp_peer.specs.Causes.{BeginsWithOpen, EndsWithClose, IsLeft, IsParted, IsOut, HasCause}
+use Rattle.amqp_peer.specs.Closers.{closer_in}
+use Rattle.amqp_peer.specs.Causes.{BeginsWithOpen, EndsWithClose, IsLeft, IsOut, HasCause}
 use Rattle.amqp_peer.specs.History.{Local, link_in, given_in, sent_in}
 use Rattle.amqp_peer.specs.Peering.{IsRunning, IsUnmadeAt, IsFaultIn}
 use Rattle.amqp_peer.specs.Runs.{told_by, told_of, error_by, open_failure, open_reply, close_reply}
@@ -99,30 +101,42 @@ said_close p.Discarding sent s f h = absurd (cc s)
 said_close p.Ended sent s f h = ends_with_close sent h
 said_close p.Failed sent s f h = absurd (cc f)
 
-left_cause : (h : List Local) (error : Option AmqpError) → IsLeft error (given_in h) → HasCause h (close_reply (told_by (remote_reason error)))
-left_cause h None l = l
-left_cause h (Some e) l = l
+left_cause : (h : List Local) (error : Option AmqpError) → IsLeft error (given_in h) → IsFirst (remote_reason error) (closer_in h) → HasCause h (close_reply (told_by (remote_reason error)))
+left_cause h None l f = (l, f)
+left_cause h (Some e) l f = l
 
-own_cause : (h : List Local) (own : Option AmqpError) → IsParted h → HasCause h (close_reply (told_by (own_reason own)))
-own_cause h None l = l
-own_cause h (Some e) l = l
+own_cause : (h : List Local) (own : Option AmqpError) → IsLeft None (given_in h) → EndsWithClose (sent_in h) → IsOut h → IsFirst (own_reason own) (closer_in h) → HasCause h (close_reply (told_by (own_reason own)))
+own_cause h None l c out f = record { heard = l; said = c; first = f; out = out }
+own_cause h (Some e) l c out f = record { heard = l; said = c; first = f; out = out }
 
-answered_cause : (h : List Local) (own error : Option AmqpError) → IsLeft error (given_in h) → IsParted h → HasCause h (close_reply (told_by (answered_reason (own_reason own) error)))
-answered_cause h own None l c = own_cause h own c
-answered_cause h own (Some e) l c = l
+answered_cause : (h : List Local) (own error : Option AmqpError) → IsLeft error (given_in h) → EndsWithClose (sent_in h) → IsOut h → IsFirst (answered_reason (own_reason own) error) (closer_in h) → HasCause h (close_reply (told_by (answered_reason (own_reason own) error)))
+answered_cause h own None l c out f = own_cause h own l c out f
+answered_cause h own (Some e) l c out f = l
 
-close_over : (h : List Local) (reason : ConnectionStopReason) → BeginsWithOpen (given_in h) → EndsWithClose (sent_in h) → IsOut h → IsOver reason (given_in h) → HasCause h (close_reply (told_by reason))
-close_over h reason g c out (inl o) =
+close_over : (h : List Local) (reason : ConnectionStopReason) → BeginsWithOpen (given_in h) → EndsWithClose (sent_in h) → IsOut h → IsFirst reason (closer_in h) → IsOver reason (given_in h) → HasCause h (close_reply (told_by reason))
+close_over h reason g c out f (inl o) =
     subst (λ (r : ConnectionStopReason). HasCause h (close_reply (told_by r))) (sym o.told)
     (left_cause h o.last.error (elim o.before [
       | inl e ↦ absurd (close_begins_not (given_in h) (record { channel = o.channel; last = o.last; is = o.is ∙ ap (λ (u : List Frame). u ++ record { channel = o.channel; body = b.Close o.last } ∷ []) e }) g)
       | inr x ↦ record { front = o.front; channel = o.channel; before = x; is = o.is }
-    ]))
-close_over h reason g c out (inr (inl o)) = absurd (other_then (given_in h) [] (mistaken_other reason (given_in h) o) (subst BeginsWithOpen (sym (append-nil (given_in h))) g))
-close_over h reason g c out (inr (inr o)) =
+    ]) (subst (λ (r : ConnectionStopReason). IsFirst r (closer_in h)) o.told f))
+close_over h reason g c out f (inr (inl o)) = absurd (other_then (given_in h) [] (mistaken_other reason (given_in h) o) (subst BeginsWithOpen (sym (append-nil (given_in h))) g))
+close_over h reason g c out f (inr (inr o)) =
     let l : IsLeft o.last.error (given_in h) = record { front = o.front; channel = o.channel; before = o.before; is = o.is } in
     subst (λ (r : ConnectionStopReason). HasCause h (close_reply (told_by r))) (sym o.told)
-    (answered_cause h o.own o.last.error l (record { error = o.last.error; heard = l; said = c; out = out }))
+    (answered_cause h o.own o.last.error l c out (subst (λ (r : ConnectionStopReason). IsFirst r (closer_in h)) o.told f))
+
+-- a connection that has stopped, and whose transport has not failed, knows whose Close came first
+ended_first : (q : Phase) (reason : ConnectionStopReason) (c : Closer) → is_stopped q ≡ true → has_failed q ≡ false → IsCloser q reason c → IsFirst reason c
+ended_first p.OpenSent reason c s f k = absurd (cc s)
+ended_first p.Opened reason c s f k = absurd (cc s)
+ended_first p.CloseReceived reason c s f k = absurd (cc s)
+ended_first p.Refused reason c s f k = absurd (cc s)
+ended_first (p.Rejected why) reason c s f k = absurd (cc s)
+ended_first p.CloseSent reason c s f k = absurd (cc s)
+ended_first p.Discarding reason c s f k = absurd (cc s)
+ended_first p.Ended reason c s f k = k
+ended_first p.Failed reason c s f k = absurd (cc f)
 
 close_fault : {L : Type 0} (e : ConnectionFault) (s : State L) (h : List Local) → IsFaultIn (Some e) s h → HasCause h (close_reply (Some e))
 close_fault (connection.Memory a) s h u = absurd u.0
@@ -139,5 +153,5 @@ pub close_cause : {L : Type 0} (call : Call) (fault : Option ConnectionFault) (s
 close_cause call None s h k e w g u =
     let out : Includes (link_in h) (NotWritten Full) ⊎ (s.wire.codec.output ≡ []) = elim w [ inl f ↦ absurd (cc (f, u)) | inr x ↦ x ] in
     subst (λ (r : Option ConnectionStopReason). HasCause h (close_reply (told_of r))) (sym (stopped_reason s e))
-    (close_over h s.reason g (said_close s.phase (sent_in h) e u k.runs.said) (out_running call s h k out) (over_in s.phase s.reason (given_in h) e u k.runs.heard))
+    (close_over h s.reason g (said_close s.phase (sent_in h) e u k.runs.said) (out_running call s h k out) (ended_first s.phase s.reason (closer_in h) e u k.closer) (over_in s.phase s.reason (given_in h) e u k.runs.heard))
 close_cause call (Some f) s h k e w g u = close_fault f s h u

@@ -26,6 +26,7 @@ use Rattle.amqp_peer.specs.Replies.{IsOpenRefusal}
 use Rattle.amqp_peer.specs.Peering.{Peering, IsHeld, IsSilent, IsRunning, HasCalled, IsFaultless, IsUnheard, IsBrokenIn, IsBrokenHeld, IsUnmadeAt, IsUnmade, IsFaultIn, IsMadeIn, EarlyFault, LateFault, IsWaiting, IsOpen, IsClosing, HasFailedOpen, HasClosed, HasIn}
 use Rattle.amqp_peer.specs.Prepared.{prepared_of}
 use Rattle.amqp_peer.specs.Runs.{first_fault}
+use Rattle.amqp_peer.proofs.Beats.{IsTimed}
 use Rattle.amqp_peer.proofs.Faulty.{broken_after, broken_more}
 use Rattle.amqp_peer.proofs.Hears.{IsCloseAlone, greeted_begins, mistaken_other, made_begins, heard_length, begins_front, other_front, other_then, parted_short, close_begins_not, close_other_not}
 use Rattle.amqp_peer.proofs.Histories.{once_now, once_more, given_in-append}
@@ -379,11 +380,11 @@ fault_failed link at call (Some f) e s s' h st k o prep m a u = (late_more f s s
 pub is_running : {L : Type 0} (call : Call) (held : Held L) (s : State L) (h : List Local) → held ≡ Late s → HasCalled call held h → IsRunning call s h
 is_running {L} call held s h e c = subst (λ (x : Held L). IsHeld call x h) e c.holds
 
-pub called_moves : {L : Type 0} (link : Ghosts L) (at : ℕ) (call : Call) (held : Held L) (s s' : State L) (h : List Local) (r : Ran link s s') → IsMoment at s r.given s' → IsDue (made_in h) s.phase r.queued → moment_in h ≡ at → held ≡ Late s → HasCalled call held h → HasCalled call (Late s') (moved r ++ h)
+pub called_moves : {L : Type 0} (link : Ghosts L) (at : ℕ) (call : Call) (held : Held L) (s s' : State L) (h : List Local) (r : Ran link s s') → IsTimed at s r.given r.queued s' → IsDue (made_in h) s.phase r.queued → moment_in h ≡ at → held ≡ Late s → HasCalled call held h → HasCalled call (Late s') (moved r ++ h)
 called_moves link at call held s s' h r m d t e c = record { holds = running_grows link at call s s' h r m d t (is_running call held s h e c); caused = (passed r).caused h c.caused }
 
 -- Whatever becomes of its fault: the same calls, the same replies.
-pub waiting_moves : {L : Type 0} (link : Ghosts L) (at : ℕ) (old : Peering L) (s s' : State L) (fault : Option ConnectionFault) (h : List Local) (r : Ran link s s') → IsMoment at s r.given s' → IsDue (made_in h) s.phase r.queued → moment_in h ≡ at → old.held ≡ Late s
+pub waiting_moves : {L : Type 0} (link : Ghosts L) (at : ℕ) (old : Peering L) (s s' : State L) (fault : Option ConnectionFault) (h : List Local) (r : Ran link s s') → IsTimed at s r.given r.queued s' → IsDue (made_in h) s.phase r.queued → moment_in h ≡ at → old.held ≡ Late s
     → ((call : Call) → IsRunning call s h → prepared_in (made_in h) ≡ prepared_of call → IsUnmadeAt old.fault s h → IsUnmadeAt fault s' (moved r ++ h))
     → IsWaiting old h → IsWaiting (record old { held = Late s'; fault = fault }) (moved r ++ h)
 waiting_moves {L} link at old s s' fault h r m d t e f w =
@@ -395,7 +396,7 @@ waiting_moves {L} link at old s s' fault h r m d t e f w =
       unmade = f w.call (is_running w.call old.held s h e w.called) (ap prepared_in w.made) (subst (λ (x : Held L). IsUnmade old.fault x h) e w.unmade);
     }
 
-pub open_moves : {L : Type 0} (link : Ghosts L) (at : ℕ) (old : Peering L) (s s' : State L) (fault : Option ConnectionFault) (h : List Local) (r : Ran link s s') → IsMoment at s r.given s' → IsDue (made_in h) s.phase r.queued → moment_in h ≡ at → old.held ≡ Late s
+pub open_moves : {L : Type 0} (link : Ghosts L) (at : ℕ) (old : Peering L) (s s' : State L) (fault : Option ConnectionFault) (h : List Local) (r : Ran link s s') → IsTimed at s r.given r.queued s' → IsDue (made_in h) s.phase r.queued → moment_in h ≡ at → old.held ≡ Late s
     → ((call : Call) → IsRunning call s h → prepared_in (made_in h) ≡ prepared_of call → BeginsWithOpen (given_in h) → IsFaultIn old.fault s h → IsFaultIn fault s' (moved r ++ h))
     → IsOpen old h → IsOpen (record old { held = Late s'; fault = fault }) (moved r ++ h)
 open_moves {L} link at old s s' fault h r m d t e g w =
@@ -403,13 +404,14 @@ open_moves {L} link at old s s' fault h r m d t e g w =
     record {
       call = w.call;
       name = w.name;
+      same = w.same;
       made = made_after h (passed r) ∙ w.made;
       replied = replied_after h (passed r) ∙ w.replied;
       called = called_moves link at w.call old.held s s' h r m d t e w.called;
       is_made = (heard_open_more h r i.0, g w.call (is_running w.call old.held s h e w.called) (ap prepared_in w.made) i.0 i.1);
     }
 
-pub closing_moves : {L : Type 0} (link : Ghosts L) (at : ℕ) (old : Peering L) (s s' : State L) (fault : Option ConnectionFault) (h : List Local) (r : Ran link s s') → IsMoment at s r.given s' → IsDue (made_in h) s.phase r.queued → moment_in h ≡ at → old.held ≡ Late s
+pub closing_moves : {L : Type 0} (link : Ghosts L) (at : ℕ) (old : Peering L) (s s' : State L) (fault : Option ConnectionFault) (h : List Local) (r : Ran link s s') → IsTimed at s r.given r.queued s' → IsDue (made_in h) s.phase r.queued → moment_in h ≡ at → old.held ≡ Late s
     → ((call : Call) → IsRunning call s h → prepared_in (made_in h) ≡ prepared_of call → BeginsWithOpen (given_in h) → IsFaultIn old.fault s h → IsFaultIn fault s' (moved r ++ h))
     → (IsLeaving s.phase → IsLeaving s'.phase) → IsClosing old h → IsClosing (record old { held = Late s'; fault = fault }) (moved r ++ h)
 closing_moves {L} link at old s s' fault h r m d t e g l w =
@@ -425,7 +427,7 @@ closing_moves {L} link at old s s' fault h r m d t e g l w =
       leaves = l (subst (λ (x : Held L). IsLeavingIn x) e w.leaves);
     }
 
-pub over_moves : {L : Type 0} (link : Ghosts L) (at : ℕ) (old : Peering L) (s s' : State L) (fault : Option ConnectionFault) (h : List Local) (r : Ran link s s') → IsMoment at s r.given s' → IsDue (made_in h) s.phase r.queued → moment_in h ≡ at → old.held ≡ Late s
+pub over_moves : {L : Type 0} (link : Ghosts L) (at : ℕ) (old : Peering L) (s s' : State L) (fault : Option ConnectionFault) (h : List Local) (r : Ran link s s') → IsTimed at s r.given r.queued s' → IsDue (made_in h) s.phase r.queued → moment_in h ≡ at → old.held ≡ Late s
     → ((call : Call) → IsRunning call s h → prepared_in (made_in h) ≡ prepared_of call → IsBrokenIn s h → IsBrokenIn s' (moved r ++ h)) → HasFailedOpen old h ⊎ HasClosed old h → HasFailedOpen (record old { held = Late s'; fault = fault }) (moved r ++ h) ⊎ HasClosed (record old { held = Late s'; fault = fault }) (moved r ++ h)
 over_moves {L} link at old s s' fault h r m d t e b (inl w) =
     inl (record {
@@ -454,7 +456,7 @@ over_moves {L} link at old s s' fault h r m d t e b (inr w) =
       broken = b w.call (is_running w.call old.held s h e w.called) (ap prepared_in w.made) (subst (λ (x : Held L). IsBrokenHeld x h) e w.broken);
     })
 
-pub moves_in : {L : Type 0} (link : Ghosts L) (at : ℕ) (q : Progress) (old : Peering L) (s s' : State L) (fault : Option ConnectionFault) (h : List Local) (r : Ran link s s') → IsMoment at s r.given s' → IsDue (made_in h) s.phase r.queued → moment_in h ≡ at → old.held ≡ Late s
+pub moves_in : {L : Type 0} (link : Ghosts L) (at : ℕ) (q : Progress) (old : Peering L) (s s' : State L) (fault : Option ConnectionFault) (h : List Local) (r : Ran link s s') → IsTimed at s r.given r.queued s' → IsDue (made_in h) s.phase r.queued → moment_in h ≡ at → old.held ≡ Late s
     → ((call : Call) → IsRunning call s h → prepared_in (made_in h) ≡ prepared_of call → IsUnmadeAt old.fault s h → IsUnmadeAt fault s' (moved r ++ h))
     → ((call : Call) → IsRunning call s h → prepared_in (made_in h) ≡ prepared_of call → BeginsWithOpen (given_in h) → IsFaultIn old.fault s h → IsFaultIn fault s' (moved r ++ h))
     → ((call : Call) → IsRunning call s h → prepared_in (made_in h) ≡ prepared_of call → IsBrokenIn s h → IsBrokenIn s' (moved r ++ h))

@@ -1,5 +1,5 @@
 -- Laws of one end: what it says of its history, whatever the other end does.
-use Rattle.std.proofs.Common.{◌≡◌, ◌↔◌, ◌⊎◌, inl, inr, ℕ, List, [], ◌∷◌, ◌++◌, Bool, true, false, Option, Some, None, All, refl, sym, ap, ◌∙◌, subst}
+use Rattle.std.proofs.Common.{◌≡◌, ◌↔◌, ◌<◌, ◌⊎◌, inl, inr, ℕ, List, [], ◌∷◌, ◌++◌, Bool, true, false, Option, Some, None, All, refl, sym, ap, ◌∙◌, subst}
 use Rattle.std.proofs.lemmas.List.{append-nil}
 use Rattle.std.proofs.lemmas.List.Elements.{All-nil}
 use Rattle.amqp_wire.specs.Events.{wrote_of}
@@ -32,6 +32,7 @@ use Rattle.amqp_peer.specs.declared.peer.Progress.{Progress}
 use Rattle.amqp_peer.specs.declared.peer.Progress.TheVariants as progress
 use Rattle.amqp_peer.specs.declared.prepared.Prepared.{Prepared}
 use Rattle.amqp_peer.specs.Calls.{IsFirstCall, IsClose, IsValidCall}
+use Rattle.amqp_peer.specs.Beats.{AllBeats}
 use Rattle.amqp_peer.specs.Causes.{prepared_in, AllCaused, IsQueued, IsTakenUp, IsTied, StartsWithin, IsLast, IsSpent, uncalled, answered, left, mistaken, broken}
 use Rattle.amqp_peer.specs.Gated.{IsTalk, IsGatedIn, IsGated}
 use Rattle.amqp_peer.specs.Held.{IsMidway, IsReadyWith, IsExchangedWith, IsExchanged, IsBusyWith, IsBusy, IsLeavingIn, IsActive, IsSorted, link_at, with_link}
@@ -40,6 +41,7 @@ use Rattle.amqp_peer.specs.Peering.{Peering, fresh, link_of, with_link_of, Has, 
 use Rattle.amqp_peer.specs.Prepared.{sasl_of}
 use Rattle.amqp_peer.specs.Said.{IsSaidFor, HasSaid}
 use Rattle.amqp_peer.specs.Replies.{pending, connection as made_reply, open_failed, answered as answered_by, IsCloseEnd, AreReplies, IsConnected}
+use Rattle.amqp_peer.proofs.Beats.{unsent_beats}
 use Rattle.amqp_peer.proofs.Histories.{made_in-append as made_append, link_in-append as link_append, replied_in-append as replied_append}
 use Rattle.amqp_peer.proofs.Answers.{over_in}
 use Rattle.amqp_peer.proofs.Grows.{broken_unmade, broken_made}
@@ -67,7 +69,7 @@ taken_in : {L : Type 0} (q : Progress) (p : Peering L) (h : List Local) → HasI
 taken_in progress.Idle p h n =
     record { made = n.made; link = n.link; replied = n.replied; given = n.given; sent = n.sent; caused = n.caused; fault = n.fault; opening = n.opening; prepared = n.prepared; holds = n.holds; untouched = n.untouched }
 taken_in progress.Opening p h w = record { call = w.call; made = w.made; replied = w.replied; called = w.called; unmade = w.unmade }
-taken_in progress.Open p h w = record { call = w.call; name = w.name; made = w.made; replied = w.replied; called = w.called; is_made = w.is_made }
+taken_in progress.Open p h w = record { call = w.call; name = w.name; same = w.same; made = w.made; replied = w.replied; called = w.called; is_made = w.is_made }
 taken_in progress.Closing p h w = record { call = w.call; name = w.name; error = w.error; made = w.made; replied = w.replied; called = w.called; is_made = w.is_made; leaves = w.leaves }
 taken_in progress.Over p h (inl w) = inl (record { call = w.call; name = w.name; error = w.error; made = w.made; replied = w.replied; silent = w.silent; called = w.called; done = w.done; broken = w.broken })
 taken_in progress.Over p h (inr w) =
@@ -130,6 +132,9 @@ running_with call s w h k =
       idle = k.idle;
       own = k.own;
       start = k.start;
+      beat = k.beat;
+      beats = k.beats;
+      closer = k.closer;
       calm = k.calm;
     }
 
@@ -218,7 +223,7 @@ with_in {L} progress.Idle p w h n =
       untouched = record { stage = n.untouched.stage; input = n.untouched.input; output = n.untouched.output; phase = n.untouched.phase };
     }
 with_in progress.Opening p w h x = record { call = x.call; made = x.made; replied = x.replied; called = called_with x.call p.held w h x.called; unmade = unmade_with p.fault p.held w h x.unmade }
-with_in progress.Open p w h x = record { call = x.call; name = x.name; made = x.made; replied = x.replied; called = called_with x.call p.held w h x.called; is_made = made_with p.fault p.held w h x.is_made }
+with_in progress.Open p w h x = record { call = x.call; name = x.name; same = x.same; made = x.made; replied = x.replied; called = called_with x.call p.held w h x.called; is_made = made_with p.fault p.held w h x.is_made }
 with_in progress.Closing p w h x =
     record { call = x.call; name = x.name; error = x.error; made = x.made; replied = x.replied; called = called_with x.call p.held w h x.called; is_made = made_with p.fault p.held w h x.is_made; leaves = leaves_with p.held w x.leaves }
 with_in progress.Over p w h (inl x) =
@@ -256,22 +261,23 @@ not_connected : (n : ℕ) → IsConnected (pending n ∷ []) → ⊥
 not_connected n (inl e) = absurd (cc e)
 not_connected n (inr e) = e
 
-may_one : (q : Progress) (kind : PeerKind) (n name : ℕ) (first call : Call) (made : List (ℕ × Call)) (replied : List NamedReply) → made ≡ (n, first) ∷ [] → (MayCallIn q kind call → IsClose call × IsConnected replied) → (IsClose call × IsConnected replied → MayCallIn q kind call)
-    → MayCallIn q kind call ↔ IsValidCall kind made replied name call
-may_one q kind n name first call made replied e f g = subst (λ (cs : List (ℕ × Call)). MayCallIn q kind call ↔ IsValidCall kind cs replied name call) (sym e) (f, g)
+may_one : (q : Progress) (kind : PeerKind) (last n name : ℕ) (first call : Call) (made : List (ℕ × Call)) (replied : List NamedReply) → made ≡ (n, first) ∷ [] → (MayCallIn q kind last name call → IsClose call × IsConnected replied × (n < name)) → (IsClose call × IsConnected replied × (n < name) → MayCallIn q kind last name call)
+    → MayCallIn q kind last name call ↔ IsValidCall kind made replied name call
+may_one q kind last n name first call made replied e f g = subst (λ (cs : List (ℕ × Call)). MayCallIn q kind last name call ↔ IsValidCall kind cs replied name call) (sym e) (f, g)
 
 may_none : (kind : PeerKind) (n m name : ℕ) (first last call : Call) (made : List (ℕ × Call)) (replied : List NamedReply) → made ≡ (m, last) ∷ (n, first) ∷ [] → ⊥ ↔ IsValidCall kind made replied name call
 may_none kind n m name first last call made replied e = subst (λ (cs : List (ℕ × Call)). ⊥ ↔ IsValidCall kind cs replied name call) (sym e) (λ z. z, λ z. z)
 
-may_in : {L : Type 0} (q : Progress) (p : Peering L) (name : ℕ) (call : Call) (h : List Local) → HasIn q p h → MayCallIn q p.kind call ↔ IsValidCall p.kind (made_in h) (replied_in h) name call
+may_in : {L : Type 0} (q : Progress) (p : Peering L) (name : ℕ) (call : Call) (h : List Local) → HasIn q p h → MayCallIn q p.kind p.name name call ↔ IsValidCall p.kind (made_in h) (replied_in h) name call
 may_in progress.Idle p name call h x = subst (λ (cs : List (ℕ × Call)). IsFirstCall p.kind call ↔ IsValidCall p.kind cs (replied_in h) name call) (sym x.made) (λ m. m, λ m. m)
 may_in progress.Opening p name call h x =
-    may_one progress.Opening p.kind p.name name x.call call (made_in h) (replied_in h) x.made (λ m. absurd m) (λ v. not_connected p.name (subst IsConnected x.replied v.1))
+    may_one progress.Opening p.kind p.name p.name name x.call call (made_in h) (replied_in h) x.made (λ m. absurd m) (λ v. not_connected p.name (subst IsConnected x.replied v.1))
 may_in progress.Open p name call h x =
-    may_one progress.Open p.kind x.name name x.call call (made_in h) (replied_in h) x.made (λ m. (m, subst IsConnected (sym x.replied) (inr (inl refl)))) (λ v. v.0)
+    may_one progress.Open p.kind p.name x.name name x.call call (made_in h) (replied_in h) x.made
+    (λ m. (m.0, subst IsConnected (sym x.replied) (inr (inl refl)), subst (λ (n : ℕ). n < name) x.same m.1)) (λ v. (v.0, subst (λ (n : ℕ). n < name) (sym x.same) v.2))
 may_in progress.Closing p name call h x = may_none p.kind x.name p.name name x.call (Close x.error) call (made_in h) (replied_in h) x.made
 may_in progress.Over p name call h (inl x) =
-    may_one progress.Over p.kind x.name name x.call call (made_in h) (replied_in h) x.made (λ m. absurd m) (λ v. refusal_connects_not x.name x.error (replied_in h) x.replied v.1)
+    may_one progress.Over p.kind p.name x.name name x.call call (made_in h) (replied_in h) x.made (λ m. absurd m) (λ v. refusal_connects_not x.name x.error (replied_in h) x.replied v.1)
 may_in progress.Over p name call h (inr x) = may_none p.kind x.name x.closing name x.call (Close x.error) call (made_in h) (replied_in h) x.made
 
 pub may_law : {L : Type 0} (p : Peering L) (name : ℕ) (call : Call) (h : List Local) → Has p h → MayCall p name call ↔ IsValidCall p.kind (made_in h) (replied_in h) name call
@@ -426,22 +432,22 @@ pub said_law : {L : Type 0} (p : Peering L) (h : List Local) → Has p h → IsS
 said_law p h x = said_in p.progress p h x
 
 -- and each whole frame was taken, where it has sorted all that it read
-taken_up_held : {L : Type 0} (call : Call) (held : Held L) (h : List Local) → IsHeld call held h → IsActive held → IsSorted held → IsTakenUp h
-taken_up_held call (Early o p) h k a s = inl (sent_early o.stage call o p h k)
-taken_up_held call (Late s) h k a rest = inr (s.wire.codec.input ++ [], read_running call s h [] k, subst IsPart (sym (append-nil s.wire.codec.input)) rest.part)
-taken_up_held call (Unopened c) h k a s = inl k.sent
-taken_up_held call Moving h k a s = absurd k
+taken_up_held : {L : Type 0} (at : ℕ) (call : Call) (held : Held L) (h : List Local) → IsHeld call held h → IsActive held → IsSorted at held → IsTakenUp h
+taken_up_held at call (Early o p) h k a s = inl (sent_early o.stage call o p h k)
+taken_up_held at call (Late s) h k a rest = inr (s.wire.codec.input ++ [], read_running call s h [] k, subst IsPart (sym (append-nil s.wire.codec.input)) rest.0.part)
+taken_up_held at call (Unopened c) h k a s = inl k.sent
+taken_up_held at call Moving h k a s = absurd k
 
-taken_up_in : {L : Type 0} (q : Progress) (p : Peering L) (h : List Local) → HasIn q p h → IsActive p.held → IsSorted p.held → IsTakenUp h
-taken_up_in progress.Idle p h x a s = inl x.sent
-taken_up_in progress.Opening p h x a s = taken_up_held x.call p.held h x.called.holds a s
-taken_up_in progress.Open p h x a s = taken_up_held x.call p.held h x.called.holds a s
-taken_up_in progress.Closing p h x a s = taken_up_held x.call p.held h x.called.holds a s
-taken_up_in progress.Over p h (inl x) a s = taken_up_held x.call p.held h x.called.holds a s
-taken_up_in progress.Over p h (inr x) a s = taken_up_held x.call p.held h x.called.holds a s
+taken_up_in : {L : Type 0} (at : ℕ) (q : Progress) (p : Peering L) (h : List Local) → HasIn q p h → IsActive p.held → IsSorted at p.held → IsTakenUp h
+taken_up_in at progress.Idle p h x a s = inl x.sent
+taken_up_in at progress.Opening p h x a s = taken_up_held at x.call p.held h x.called.holds a s
+taken_up_in at progress.Open p h x a s = taken_up_held at x.call p.held h x.called.holds a s
+taken_up_in at progress.Closing p h x a s = taken_up_held at x.call p.held h x.called.holds a s
+taken_up_in at progress.Over p h (inl x) a s = taken_up_held at x.call p.held h x.called.holds a s
+taken_up_in at progress.Over p h (inr x) a s = taken_up_held at x.call p.held h x.called.holds a s
 
-pub taken_up_law : {L : Type 0} (p : Peering L) (h : List Local) → Has p h → IsActive p.held → IsSorted p.held → IsTakenUp h
-taken_up_law p h x a s = taken_up_in p.progress p h x a s
+pub taken_up_law : {L : Type 0} (at : ℕ) (p : Peering L) (h : List Local) → Has p h → IsActive p.held → IsSorted at p.held → IsTakenUp h
+taken_up_law at p h x a s = taken_up_in at p.progress p h x a s
 
 -- ---- an end goes on, or says why it does not
 
@@ -508,3 +514,22 @@ spent_in progress.Over p h (inr x) n = elim x.replied [
 
 pub spent_law : {L : Type 0} (p : Peering L) (h : List Local) → Has p h → (IsExchanged p.held → ⊥) → IsActive p.held ⊎ IsSpent h
 spent_law p h x n = spent_in p.progress p h x n
+
+-- ---- each empty frame was queued by a beat that was due
+
+beats_held : {L : Type 0} (call : Call) (held : Held L) (h : List Local) → IsHeld call held h → AllBeats h
+beats_held call (Early o p) h k = unsent_beats h (sent_early o.stage call o p h k)
+beats_held call (Late s) h k = k.beats
+beats_held call (Unopened c) h k = unsent_beats h k.sent
+beats_held call Moving h k = absurd k
+
+beats_of : {L : Type 0} (q : Progress) (p : Peering L) (h : List Local) → HasIn q p h → AllBeats h
+beats_of progress.Idle p h x = unsent_beats h x.sent
+beats_of progress.Opening p h x = beats_held x.call p.held h x.called.holds
+beats_of progress.Open p h x = beats_held x.call p.held h x.called.holds
+beats_of progress.Closing p h x = beats_held x.call p.held h x.called.holds
+beats_of progress.Over p h (inl x) = beats_held x.call p.held h x.called.holds
+beats_of progress.Over p h (inr x) = beats_held x.call p.held h x.called.holds
+
+pub beats_law : {L : Type 0} (p : Peering L) (h : List Local) → Has p h → AllBeats h
+beats_law p h x = beats_of p.progress p h x

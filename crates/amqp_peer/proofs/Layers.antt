@@ -264,24 +264,24 @@ rests_early stage.Header call o p h e k r = rests_exchanging call o p h k (subst
 rests_early stage.Exchanged call o p h e k r = absurd r
 rests_early stage.Ended call o p h e k r = absurd r
 
-rests_held : {L : Type 0} (call : Call) (held : Held L) (h : List Local) → IsHeld call held h → IsActive held → IsSorted held → IsResting (sasl_of call) h ⊎ BeginsWithOpen (sent_in h)
-rests_held call (Early o p) h k a s = inl (rests_early o.stage call o p h refl k s)
-rests_held call (Late w) h k a s = inr k.opens
-rests_held call (Unopened c) h k a s = absurd a
-rests_held call Moving h k a s = absurd k
+rests_held : {L : Type 0} (at : ℕ) (call : Call) (held : Held L) (h : List Local) → IsHeld call held h → IsActive held → IsSorted at held → IsResting (sasl_of call) h ⊎ BeginsWithOpen (sent_in h)
+rests_held at call (Early o p) h k a s = inl (rests_early o.stage call o p h refl k s)
+rests_held at call (Late w) h k a s = inr k.opens
+rests_held at call (Unopened c) h k a s = absurd a
+rests_held at call Moving h k a s = absurd k
 
 -- by the calls
 rests_as : (cs : List (ℕ × Call)) (h : List Local) → made_in h ≡ cs → IsResting (layer_in cs) h ⊎ BeginsWithOpen (sent_in h) → IsRestingOrOpen h
 rests_as cs h e k = subst (λ (u : List (ℕ × Call)). IsResting (layer_in u) h ⊎ BeginsWithOpen (sent_in h)) (sym e) k
 
-rests_in : {L : Type 0} (q : Progress) (p : Peering L) (h : List Local) → HasIn q p h → IsActive p.held → IsSorted p.held → IsRestingOrOpen h
-rests_in {L} progress.Idle p h x a s =
-    absurd (subst (λ (z : Stage). IsAtRestAt peer_mechanism z x.opening.negotiation) x.untouched.stage (subst (λ (u : Held L). IsSorted u) x.holds s))
-rests_in progress.Opening p h x a s = rests_as _ h x.made (rests_held x.call p.held h x.called.holds a s)
-rests_in progress.Open p h x a s = rests_as _ h x.made (rests_held x.call p.held h x.called.holds a s)
-rests_in progress.Closing p h x a s = rests_as _ h x.made (rests_held x.call p.held h x.called.holds a s)
-rests_in progress.Over p h (inl x) a s = rests_as _ h x.made (rests_held x.call p.held h x.called.holds a s)
-rests_in progress.Over p h (inr x) a s = rests_as _ h x.made (rests_held x.call p.held h x.called.holds a s)
+rests_in : {L : Type 0} (at : ℕ) (q : Progress) (p : Peering L) (h : List Local) → HasIn q p h → IsActive p.held → IsSorted at p.held → IsRestingOrOpen h
+rests_in {L} at progress.Idle p h x a s =
+    absurd (subst (λ (z : Stage). IsAtRestAt peer_mechanism z x.opening.negotiation) x.untouched.stage (subst (λ (u : Held L). IsSorted at u) x.holds s))
+rests_in at progress.Opening p h x a s = rests_as _ h x.made (rests_held at x.call p.held h x.called.holds a s)
+rests_in at progress.Open p h x a s = rests_as _ h x.made (rests_held at x.call p.held h x.called.holds a s)
+rests_in at progress.Closing p h x a s = rests_as _ h x.made (rests_held at x.call p.held h x.called.holds a s)
+rests_in at progress.Over p h (inl x) a s = rests_as _ h x.made (rests_held at x.call p.held h x.called.holds a s)
+rests_in at progress.Over p h (inr x) a s = rests_as _ h x.made (rests_held at x.call p.held h x.called.holds a s)
 
-pub rest_law : {L : Type 0} (p : Peering L) (h : List Local) → Has p h → IsActive p.held → IsSorted p.held → IsRestingOrOpen h
-rest_law p h x a s = rests_in p.progress p h x a s
+pub rest_law : {L : Type 0} (at : ℕ) (p : Peering L) (h : List Local) → Has p h → IsActive p.held → IsSorted at p.held → IsRestingOrOpen h
+rest_law at p h x a s = rests_in at p.progress p h x a s

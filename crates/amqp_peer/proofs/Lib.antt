@@ -1,4 +1,6 @@
 pub mod Histories
+pub mod Beats
+pub mod Settled
 pub mod Said
 pub mod Moved
 pub mod Written

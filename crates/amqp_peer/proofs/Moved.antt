@@ -14,6 +14,7 @@ use Rattle.amqp_words.specs.declared.reply.NamedReply.{NamedReply}
 use Rattle.amqp_peer.specs.Causes.{prepared_in, has_layer, AllCaused, BeginsWithOpen, StartsWithin, EndsExchange}
 use Rattle.amqp_peer.specs.History.{Local, made_in, link_in, given_in, sent_in, replied_in, moment_in, since_in, at_link, got, put, IsInside}
 use Rattle.amqp_peer.specs.Peering.{IsRunning}
+use Rattle.amqp_peer.proofs.Beats.{IsTimed, beat_moved, beats_moved, closer_moved}
 use Rattle.amqp_peer.proofs.Histories.{link_in-append, given_in-append, sent_in-append, replied_in-append, inside-append, moment_in-inside, made_in-keeps, given_in-at, sent_in-at, replied_in-at, link_in-at, inside-at, since_in-at, caused-at, given_in-got, sent_in-got, link_in-got, replied_in-got, inside-got, caused-got, sent_in-put, given_in-put, link_in-put, replied_in-put, inside-put, caused-put, since_in-put, once_more}
 use Rattle.amqp_peer.proofs.Said.{IsDue, has_said, said_stays, said_due}
 
@@ -92,7 +93,7 @@ starts_more limit [] ys b s = absurd (cc b.is)
 starts_more limit (x ∷ xs) ys b s = s
 
 -- a connection that went on goes on behind its headers
-pub running_grows : {L : Type 0} (link : Ghosts L) (at : ℕ) (call : Call) (old new : State L) (h : List Local) (r : Ran link old new) → IsMoment at old r.given new → IsDue (made_in h) old.phase r.queued → moment_in h ≡ at → IsRunning call old h → IsRunning call new (moved r ++ h)
+pub running_grows : {L : Type 0} (link : Ghosts L) (at : ℕ) (call : Call) (old new : State L) (h : List Local) (r : Ran link old new) → IsTimed at old r.given r.queued new → IsDue (made_in h) old.phase r.queued → moment_in h ≡ at → IsRunning call old h → IsRunning call new (moved r ++ h)
 running_grows {L} link at call old new h r moment d m k =
     let p = passed r in
     record {
@@ -119,6 +120,9 @@ running_grows {L} link at call old new h r moment d m k =
           (said_due old.phase new.phase old.reason (prepared_in (made_in h)) (made_in h) (given_in h) (sent_in h) r.queued d k.runs.said k.runs.heard (r.said (sent_in h) k.runs.said) k.says));
       idle = r.idle ∙ k.idle;
       own = r.own ∙ k.own;
-      start = since_after at r h m moment k.start;
+      start = since_after at r h m moment.moment k.start;
+      beat = beat_moved at old new r.events r.given r.queued h moment.beat k.runs.heard m k.beat;
+      beats = beats_moved at old new r.events r.given r.queued h moment.beat m k.beat k.beats;
+      closer = closer_moved at old new r.events r.given r.queued h moment k.closer;
       calm = r.calm k.calm;
     }

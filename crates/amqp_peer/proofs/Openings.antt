@@ -9,6 +9,7 @@ use Rattle.amqp_wire.specs.Events.{LinkEvent, NotRead, NotWritten, Includes, Wen
 use Rattle.amqp_transport.specs.declared.frames.Frame.{Frame}
 use Rattle.amqp_transport.specs.declared.transport.Error.TheVariants as transport
 use Rattle.amqp_transport.specs.Wire.{Wire}
+use Rattle.amqp_engine.specs.Closers.{IsCloser}
 use Rattle.amqp_engine.specs.declared.error.Error.{Error as ConnectionFault}
 use Rattle.amqp_engine.specs.declared.error.Error.TheVariants as connection
 use Rattle.amqp_engine.specs.Calls.{OpensTo}
@@ -35,6 +36,7 @@ use Rattle.amqp_words.specs.declared.call.Call.{Call}
 use Rattle.amqp_words.specs.declared.open_error.OpenError.TheVariants as failed
 use Rattle.amqp_words.specs.declared.reply.Reply.TheVariants as reply
 use Rattle.amqp_words.specs.declared.reply.NamedReply.{NamedReply}
+use Rattle.amqp_peer.specs.Closers.{closer_in}
 use Rattle.amqp_peer.specs.declared.held.Held.{Held}
 use Rattle.amqp_peer.specs.declared.held.Held.TheVariants.{Early, Late, Unopened, Moving}
 use Rattle.amqp_peer.specs.declared.peer.Progress.{Progress}
@@ -50,6 +52,7 @@ use Rattle.amqp_peer.specs.Said.{IsSaidFor}
 use Rattle.amqp_peer.specs.Replies.{open_failed}
 use Rattle.amqp_peer.specs.Runs.{IsSettled, Advanced, Rested, told, open_error_of}
 use Rattle.amqp_peer.proofs.Faulty.{broken_large, called_by}
+use Rattle.amqp_peer.proofs.Beats.{silent_beat, unsent_beats, silent_closer}
 use Rattle.amqp_peer.proofs.Histories.{given_in-at, sent_in-at, replied_in-at, link_in-at, inside-at, caused-at, once_now}
 use Rattle.amqp_peer.proofs.Layers.{layer_exchanging, layer_ended, layer_same}
 use Rattle.amqp_peer.proofs.Moved.{Passed, made_after, link_after, given_after, sent_after, replied_after}
@@ -145,11 +148,11 @@ went_early {L} link held held' o o' p p' es e e' w d =
 few_in : (es : List LinkEvent) (left total : ℕ) → left + reads_in es ≡ total → reads_in (link_in (at_link es)) ≤ total
 few_in es left total n = let z = ap reads_in (link_in-at es) in omega (arith, n, z)
 
-settled_in : {L : Type 0} (o : Opened L Authentication) (p : Option Prepared) (es : List LinkEvent) (left : ℕ) → left + reads_in es ≡ 2 ^ 62 → IsHeldUp es left → IsAtRestOrFull peer_mechanism es o → IsSettled (Early o p) (at_link es)
-settled_in o p es left n (inl a) (inl r) = inl (subst (λ (u : List LinkEvent). Includes u (NotRead Empty)) (sym (link_in-at es)) a, r)
-settled_in o p es left n (inl a) (inr f) = inr (inl (subst (λ (u : List LinkEvent). Includes u (NotWritten Full)) (sym (link_in-at es)) f))
-settled_in o p es left n (inr (inl a)) r = inr (inl (subst (λ (u : List LinkEvent). Includes u (NotWritten Full)) (sym (link_in-at es)) a))
-settled_in o p es left n (inr (inr a)) r = let z = ap reads_in (link_in-at es) in inr (inr (inl (omega (arith, n, z, a))))
+settled_in : {L : Type 0} (at : ℕ) (o : Opened L Authentication) (p : Option Prepared) (es : List LinkEvent) (left : ℕ) → left + reads_in es ≡ 2 ^ 62 → IsHeldUp es left → IsAtRestOrFull peer_mechanism es o → IsSettled at (Early o p) (at_link es)
+settled_in at o p es left n (inl a) (inl r) = inl (subst (λ (u : List LinkEvent). Includes u (NotRead Empty)) (sym (link_in-at es)) a, r)
+settled_in at o p es left n (inl a) (inr f) = inr (inl (subst (λ (u : List LinkEvent). Includes u (NotWritten Full)) (sym (link_in-at es)) f))
+settled_in at o p es left n (inr (inl a)) r = inr (inl (subst (λ (u : List LinkEvent). Includes u (NotWritten Full)) (sym (link_in-at es)) a))
+settled_in at o p es left n (inr (inr a)) r = let z = ap reads_in (link_in-at es) in inr (inr (inl (omega (arith, n, z, a))))
 
 -- what an end that waits holds
 held_early : {L : Type 0} (call : Call) (held : Held L) (o : Opened L Authentication) (p : Option Prepared) (h : List Local) → held ≡ Early o p → IsReadyWith o p → HasCalled call held h → IsExchanging call o p h
@@ -196,7 +199,7 @@ early_rests {L} link at old o o' p left e r n =
             (waiting_grows old o o' p n.events h e w.1 (way_midway o'.stage n.comes.0)
             (of_exchanging o'.stage w.1.call o' p (at_link n.events ++ h) n.comes.0 (exchanging_grows link w.1.call o o' (2 ^ 62) left p n.events h n.moves n.comes.2 (held_early w.1.call old.held o p h e r w.1.called))));
       };
-      settled = λ a. settled_in o' p n.events left n.moves.counted n.comes.1 n.comes.3;
+      settled = λ a. settled_in at o' p n.events left n.moves.counted n.comes.1 n.comes.3;
       concluded = λ a. absurd a;
       begun = λ x. way_exchanged_not o' p n.comes.0 x;
     }
@@ -353,6 +356,9 @@ begins_running {L} at call o p s h r c t own k =
       idle = ap (λ (z : State L). z.wire.clock.idle) c.1;
       own = ap (λ (z : State L). z.settings.largest_read) c.1;
       start = ap (λ (z : State L). z.wire.clock.since) c.1 ∙ sym t;
+      beat = ap (λ (z : State L). z.beat) c.1 ∙ sym (silent_beat h k.given k.sent);
+      beats = (tt, unsent_beats h k.sent);
+      closer = subst (λ (z : State L). IsCloser z.phase z.reason (closer_in h)) (sym c.1) (silent_closer h k.given k.sent, refl);
       calm = starts_calm w p.end s c refl;
     }
 

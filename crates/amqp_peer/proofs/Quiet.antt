@@ -21,6 +21,9 @@ use Rattle.amqp_peer.specs.declared.held.Held.TheVariants.{Early, Late, Unopened
 use Rattle.amqp_peer.specs.declared.peer.Progress.{Progress}
 use Rattle.amqp_peer.specs.declared.peer.Progress.TheVariants as progress
 use Rattle.amqp_peer.specs.declared.prepared.Prepared.{Prepared}
+use Rattle.amqp_engine.specs.Closers.{Closer, IsCloser}
+use Rattle.amqp_peer.specs.Closers.{closer_in}
+use Rattle.amqp_peer.specs.Beats.{beat_in, AllBeats}
 use Rattle.amqp_peer.specs.Causes.{has_layer, IsLayerWritten, IsTail, IsQueued, BeginsWithOpen, StartsWithin, IsOther, IsBrokenBy, AllCaused, EndsExchange}
 use Rattle.amqp_peer.specs.Gated.{IsGatedIn}
 use Rattle.amqp_peer.specs.History.{Local, Made, Polled, Replied, made_in, link_in, given_in, sent_in, since_in, Once}
@@ -39,18 +42,21 @@ pub record Quiet (h h' : List Local) : Type 0 where
   pub heard : given_in h' ≡ given_in h
   pub said : sent_in h' ≡ sent_in h
   pub since : since_in h' ≡ since_in h
+  pub beat : beat_in h' ≡ beat_in h
+  pub beats : AllBeats h → AllBeats h'
+  pub closer : closer_in h' ≡ closer_in h
   pub es : List Local
   pub split : h' ≡ es ++ h
 
 pub quiet_replied : (r : NamedReply) (h : List Local) → Quiet h (Replied r ∷ h)
-quiet_replied r h = record { calls = inl refl; link = refl; heard = refl; said = refl; since = refl; es = Replied r ∷ []; split = refl }
+quiet_replied r h = record { calls = inl refl; link = refl; heard = refl; said = refl; since = refl; beat = refl; beats = λ a. a; closer = refl; es = Replied r ∷ []; split = refl }
 
 pub quiet_made : (at name : ℕ) (call : Call) (first : ℕ × Call) (h : List Local) → made_in h ≡ first ∷ [] → Quiet h (Made at name call ∷ h)
 quiet_made at name call first h e =
-    record { calls = inr (first, (name, call), e, ap (λ (u : List (ℕ × Call)). (name, call) ∷ u) e); link = refl; heard = refl; said = refl; since = refl; es = Made at name call ∷ []; split = refl }
+    record { calls = inr (first, (name, call), e, ap (λ (u : List (ℕ × Call)). (name, call) ∷ u) e); link = refl; heard = refl; said = refl; since = refl; beat = refl; beats = λ a. a; closer = refl; es = Made at name call ∷ []; split = refl }
 
 pub quiet_polled : (at : ℕ) (h : List Local) → Quiet h (Polled at ∷ h)
-quiet_polled at h = record { calls = inl refl; link = refl; heard = refl; said = refl; since = refl; es = Polled at ∷ []; split = refl }
+quiet_polled at h = record { calls = inl refl; link = refl; heard = refl; said = refl; since = refl; beat = refl; beats = λ a. a; closer = refl; es = Polled at ∷ []; split = refl }
 
 -- the first call stays
 added_layer : (calls calls' : List (ℕ × Call)) → IsAdded calls calls' → has_layer calls' ≡ has_layer calls
@@ -98,6 +104,9 @@ running_quiet call s h h' q k =
       idle = k.idle;
       own = k.own;
       start = k.start ∙ sym q.since;
+      beat = k.beat ∙ sym q.beat;
+      beats = q.beats k.beats;
+      closer = subst (λ (c : Closer). IsCloser s.phase s.reason c) (sym q.closer) k.closer;
       calm = k.calm;
     }
 
@@ -190,7 +199,7 @@ has_polled_in progress.Opening x at h w =
     record { call = w.call; made = w.made; replied = w.replied; called = called_quiet w.call x.held h (Polled at ∷ h) q w.called.caused w.called; unmade = unmade_quiet x.fault x.held h (Polled at ∷ h) q w.unmade }
 has_polled_in progress.Open x at h w =
     let q = quiet_polled at h in
-    record { call = w.call; name = w.name; made = w.made; replied = w.replied; called = called_quiet w.call x.held h (Polled at ∷ h) q w.called.caused w.called; is_made = made_quiet x.fault x.held h (Polled at ∷ h) q w.is_made }
+    record { call = w.call; name = w.name; same = w.same; made = w.made; replied = w.replied; called = called_quiet w.call x.held h (Polled at ∷ h) q w.called.caused w.called; is_made = made_quiet x.fault x.held h (Polled at ∷ h) q w.is_made }
 has_polled_in progress.Closing x at h w =
     let q = quiet_polled at h in
     record { call = w.call; name = w.name; error = w.error; made = w.made; replied = w.replied; called = called_quiet w.call x.held h (Polled at ∷ h) q w.called.caused w.called; is_made = made_quiet x.fault x.held h (Polled at ∷ h) q w.is_made; leaves = w.leaves }

@@ -1,5 +1,5 @@
 -- An open or accept that has failed, and one whose user or password is outside the profile.
-use Rattle.std.proofs.Common.{◌≡◌, ◌⊎◌, inl, inr, ℕ, List, [], ◌∷◌, ◌++◌, Bool, true, false, Option, Some, None, refl, sym, ap, ◌∙◌, subst}
+use Rattle.std.proofs.Common.{◌≡◌, inl, inr, ℕ, List, [], ◌∷◌, ◌++◌, Bool, true, false, Option, Some, None, sym, ap, ◌∙◌, subst}
 use Rattle.amqp_sasl_bodies.specs.declared.sasl_body.SaslBody.{SaslBody}
 use Rattle.amqp_wire.specs.Events.{LinkEvent}
 use Rattle.amqp_engine.specs.declared.error.Error.{Error as ConnectionFault}
@@ -37,8 +37,8 @@ use Rattle.amqp_peer.specs.declared.held.Held.{Held}
 use Rattle.amqp_peer.specs.declared.held.Held.TheVariants.{Early, Late, Unopened, Moving}
 use Rattle.amqp_peer.specs.Causes.{MadeIn, AreAllowedTexts, AreAllowedTextsIn}
 use Rattle.amqp_peer.specs.Held.{with_link}
-use Rattle.amqp_peer.specs.History.{Local, Polled, made_in, link_in}
-use Rattle.amqp_peer.specs.Peering.{HasCalled, IsHeld, IsMadeIn, IsRunning, IsSilent}
+use Rattle.amqp_peer.specs.History.{Local, Polled, made_in}
+use Rattle.amqp_peer.specs.Peering.{HasCalled, IsHeld, IsMadeIn, IsSilent}
 use Rattle.amqp_peer.specs.Prepared.{sasl_of}
 use Rattle.amqp_peer.specs.Replies.{pending, connection as made_reply, open_failed, texts_refused, IsOpenRefusal, IsConnected}
 use Rattle.amqp_peer.specs.Runs.{open_failure}

@@ -1,5 +1,5 @@
 -- Laws of an end that can do no more now, and of one whose connection has stopped.
-use Rattle.std.proofs.Common.{◌≡◌, ◌⊎◌, inl, inr, ℕ, List, [], ◌∷◌, ◌++◌, true, false, Option, refl, sym, ap, ◌∙◌, subst}
+use Rattle.std.proofs.Common.{◌≡◌, ◌⊎◌, inl, inr, ℕ, List, [], ◌∷◌, ◌++◌, true, false, Option, refl, sym, ap, ◌∙◌, subst, arith}
 use Rattle.std.proofs.lemmas.List.{append-nil}
 use Rattle.amqp_performatives.specs.declared.close.Close.{Close}
 use Rattle.amqp_frames.specs.declared.body.FrameBody.TheVariants as b
@@ -8,6 +8,8 @@ use Rattle.amqp_wire.specs.Codec.{Codec}
 use Rattle.amqp_wire.specs.declared.link.Held.TheVariants.{Full}
 use Rattle.amqp_wire.specs.Events.{NotWritten, Includes}
 use Rattle.amqp_transport.specs.declared.frames.Frame.{Frame}
+use Rattle.amqp_transport.specs.declared.heart_beat.HeartBeat.{HeartBeat}
+use Rattle.amqp_transport.specs.Clocks.{IsDue, HasElapsed}
 use Rattle.amqp_transport.specs.Stream.{IsPart}
 use Rattle.amqp_engine.specs.declared.phase.BodyKind.{BodyKind}
 use Rattle.amqp_engine.specs.declared.phase.BodyKind.TheVariants as kind
@@ -28,15 +30,18 @@ use Rattle.amqp_peer.specs.declared.held.Held.TheVariants.{Early, Late, Unopened
 use Rattle.amqp_peer.specs.declared.peer.Progress.{Progress}
 use Rattle.amqp_peer.specs.declared.peer.Progress.TheVariants as progress
 use Rattle.amqp_peer.specs.declared.prepared.Prepared.{Prepared}
-use Rattle.amqp_peer.specs.Causes.{BeginsWithOpen, EndsWithClose, IsOther}
+use Rattle.amqp_peer.specs.Beats.{beat_in}
+use Rattle.amqp_peer.specs.Causes.{BeginsWithOpen, EndsWithClose, IsOther, idle_with, prepared_in}
 use Rattle.amqp_peer.specs.Held.{IsMidway, IsAwaiting, IsLeaving, IsLeavingIn, IsAtRestIn, IsSorted}
-use Rattle.amqp_peer.specs.History.{Local, link_in, given_in, sent_in, replied_in}
+use Rattle.amqp_peer.specs.History.{Local, made_in, link_in, given_in, sent_in, replied_in, moment_in}
 use Rattle.amqp_peer.specs.Peering.{Peering, Has, HasIn, IsRunning, IsUnmadeAt, IsUnmade}
+use Rattle.amqp_peer.specs.Prepared.{prepared_of}
 use Rattle.amqp_peer.specs.Replies.{pending, connection, answered, IsCloseEnd}
-use Rattle.amqp_peer.specs.Rest.{OpenWaits, CloseWaits, HasWaiting, IsAllOut, RestsBehind, HasParted}
+use Rattle.amqp_peer.specs.Rest.{OpenWaits, CloseWaits, HasWaiting, IsAllOut, HasPassed, RestsBehind, HasParted}
 use Rattle.amqp_peer.specs.Runs.{CallWaits, IsFlushed, IsConcluded}
 use Rattle.amqp_peer.specs.Said.{HasClose}
 use Rattle.amqp_peer.proofs.Answers.{ends_with_close, said_close, over_in}
+use Rattle.amqp_peer.proofs.Beats.{unheard_period}
 use Rattle.amqp_peer.proofs.Grows.{is_running, unheard_of}
 use Rattle.amqp_peer.proofs.Hears.{greeted_begins, mistaken_other}
 use Rattle.amqp_peer.proofs.Refusals.{refusal_waits_not, refusal_closes_not}
@@ -130,19 +135,38 @@ closing_waits p h x e = let w = subst (λ (q : Progress). HasIn q p h) e x in (w
 out_now : {L : Type 0} (call : Call) (s : State L) (h : List Local) → IsRunning call s h → s.wire.codec.output ≡ [] → IsAllOut h
 out_now call s h k e = record { queued = queued_running call s h k; none = e; behind = refl }
 
-rests : {L : Type 0} (call : Call) (s : State L) (h : List Local) → IsRunning call s h → IsAtRestIn s → (OpenWaits h → given_in h ≡ []) → (CloseWaits h → EndsWithClose (sent_in h)) → RestsBehind h
-rests call s h k r o c =
-    let heard = heard_at s.phase s.reason (given_in h) r.awaits k.runs.heard in
+-- no beat is due where no Close was sent
+undue_at : {L : Type 0} (q : Phase) (s : State L) (h : List Local) → s.phase ≡ q → IsAwaiting q → IsHeard q s.reason (given_in h) → IsSaid q (sent_in h) → s.beat ≡ beat_in h → (s.phase ≡ p.Opened → IsDue s.beat (moment_in h) → ⊥) → (EndsWithClose (sent_in h) → ⊥) → IsDue (beat_in h) (moment_in h) → ⊥
+undue_at p.OpenSent s h e a k said b u n d = omega (arith, d.runs, unheard_period h k.0)
+undue_at p.Opened s h e a k said b u n d = u e (subst (λ (z : HeartBeat). IsDue z (moment_in h)) (sym b) d)
+undue_at p.CloseReceived s h e a k said b u n d = a
+undue_at p.Refused s h e a k said b u n d = a
+undue_at (p.Rejected why) s h e a k said b u n d = a
+undue_at p.CloseSent s h e a k said b u n d = n (ends_with_close (sent_in h) said)
+undue_at p.Discarding s h e a k said b u n d = n (ends_with_close (sent_in h) said)
+undue_at p.Ended s h e a k said b u n d = a
+undue_at p.Failed s h e a k said b u n d = a
+
+unelapsed_at : {L : Type 0} (call : Call) (s : State L) (h : List Local) → IsRunning call s h → prepared_in (made_in h) ≡ prepared_of call → (HasElapsed s.wire.clock (moment_in h) → ⊥) → HasPassed h → ⊥
+unelapsed_at call s h k own n z =
+    let idle : idle_with (prepared_in (made_in h)) ≡ s.wire.clock.idle = ap idle_with (own ∙ k.prepared) ∙ sym k.idle in
+    n (record { runs = omega (arith, idle, z.runs); passed = omega (arith, idle, k.start, z.passed) })
+
+rests : {L : Type 0} (call : Call) (s : State L) (h : List Local) → IsRunning call s h → prepared_in (made_in h) ≡ prepared_of call → IsAtRestIn (moment_in h) s × (s.wire.codec.output ≡ []) → (OpenWaits h → given_in h ≡ []) → (CloseWaits h → EndsWithClose (sent_in h)) → RestsBehind h
+rests call s h k own r o c =
+    let heard = heard_at s.phase s.reason (given_in h) r.0.awaits k.runs.heard in
     record {
       rest = s.wire.codec.input ++ [];
       read = read_running call s h [] k;
-      part = subst IsPart (sym (append-nil s.wire.codec.input)) r.part;
-      out = out_now call s h k r.written;
+      part = subst IsPart (sym (append-nil s.wire.codec.input)) r.0.part;
+      out = out_now call s h k r.1;
       opens = k.opens;
       heard = heard;
       unclosed = unclosed (given_in h) heard;
       opening = o;
       closing = c;
+      undue = undue_at s.phase s h refl r.0.awaits k.runs.heard k.runs.said k.beat r.0.undue;
+      unelapsed = unelapsed_at call s h k own r.0.unelapsed;
     }
 
 -- no Open was read, and so nothing
@@ -150,30 +174,30 @@ unheard_none : (given : List Frame) → (given ≡ []) ⊎ IsGreeted given → (
 unheard_none given (inl e) u = e
 unheard_none given (inr g) u = absurd (u (greeted_begins given g))
 
-rests_in : {L : Type 0} (q : Progress) (p : Peering L) (h : List Local) (s : State L) → HasIn q p h → p.held ≡ Late s → IsAtRestIn s → RestsBehind h
+rests_in : {L : Type 0} (q : Progress) (p : Peering L) (h : List Local) (s : State L) → HasIn q p h → p.held ≡ Late s → IsAtRestIn (moment_in h) s × (s.wire.codec.output ≡ []) → RestsBehind h
 rests_in progress.Idle p h s x e r = absurd (cc (sym e ∙ x.holds))
 rests_in {L} progress.Opening p h s x e r =
     let k = is_running x.call p.held s h e x.called in
     let u : IsUnmadeAt p.fault s h = subst (λ (z : Held L). IsUnmade p.fault z h) e x.unmade in
-    let none = unheard_none (given_in h) (heard_at s.phase s.reason (given_in h) r.awaits k.runs.heard) (unheard_of p.fault s h u (awaiting_sound s.phase r.awaits)) in
-    rests x.call s h k r (λ w. none) (λ w. absurd (cc (sym w.2 ∙ x.replied)))
-rests_in progress.Open p h s x e r = rests x.call s h (is_running x.call p.held s h e x.called) r (λ w. absurd (cc (sym w.1 ∙ x.replied))) (λ w. absurd (cc (sym w.2 ∙ x.replied)))
+    let none = unheard_none (given_in h) (heard_at s.phase s.reason (given_in h) r.0.awaits k.runs.heard) (unheard_of p.fault s h u (awaiting_sound s.phase r.0.awaits)) in
+    rests x.call s h k (ap prepared_in x.made) r (λ w. none) (λ w. absurd (cc (sym w.2 ∙ x.replied)))
+rests_in progress.Open p h s x e r = rests x.call s h (is_running x.call p.held s h e x.called) (ap prepared_in x.made) r (λ w. absurd (cc (sym w.1 ∙ x.replied))) (λ w. absurd (cc (sym w.2 ∙ x.replied)))
 rests_in {L} progress.Closing p h s x e r =
     let k = is_running x.call p.held s h e x.called in
     let l : IsLeaving s.phase = subst (λ (z : Held L). IsLeavingIn z) e x.leaves in
-    rests x.call s h k r (λ w. absurd (cc (sym w.1 ∙ x.replied))) (λ w. said_at s.phase (sent_in h) r.awaits l k.runs.said)
+    rests x.call s h k (ap prepared_in x.made) r (λ w. absurd (cc (sym w.1 ∙ x.replied))) (λ w. said_at s.phase (sent_in h) r.0.awaits l k.runs.said)
 rests_in progress.Over p h s (inl x) e r =
     let k = is_running x.call p.held s h e x.called in
-    rests x.call s h k r (λ w. absurd (refusal_waits_not x.name x.error (replied_in h) x.replied w.0 w.1)) (λ w. absurd (refusal_closes_not x.name x.error (replied_in h) x.replied w.0 w.1 w.2))
+    rests x.call s h k (ap prepared_in x.made) r (λ w. absurd (refusal_waits_not x.name x.error (replied_in h) x.replied w.0 w.1)) (λ w. absurd (refusal_closes_not x.name x.error (replied_in h) x.replied w.0 w.1 w.2))
 rests_in progress.Over p h s (inr x) e r =
     let k = is_running x.call p.held s h e x.called in
     elim x.replied [
-      | inl z ↦ rests x.call s h k r (λ w. absurd (cc (sym w.1 ∙ z))) (λ w. absurd (cc (sym w.2 ∙ z)))
-      | inr z ↦ rests x.call s h k r (λ w. absurd (cc (sym w.1 ∙ z))) (λ w. absurd (answered_not (replied_in h) w.0 w.1 x.name x.closing x.reply x.end w.2 z))
+      | inl z ↦ rests x.call s h k (ap prepared_in x.made) r (λ w. absurd (cc (sym w.1 ∙ z))) (λ w. absurd (cc (sym w.2 ∙ z)))
+      | inr z ↦ rests x.call s h k (ap prepared_in x.made) r (λ w. absurd (cc (sym w.1 ∙ z))) (λ w. absurd (answered_not (replied_in h) w.0 w.1 x.name x.closing x.reply x.end w.2 z))
     ]
 
-pub late_rest_law : {L : Type 0} (p : Peering L) (h : List Local) (s : State L) → Has p h → p.held ≡ Late s → IsSorted p.held → RestsBehind h
-late_rest_law {L} p h s x e r = rests_in p.progress p h s x e (subst (λ (z : Held L). IsSorted z) e r)
+pub late_rest_law : {L : Type 0} (p : Peering L) (h : List Local) (s : State L) → Has p h → p.held ≡ Late s → IsSorted (moment_in h) p.held → RestsBehind h
+late_rest_law {L} p h s x e r = rests_in p.progress p h s x e (subst (λ (z : Held L). IsSorted (moment_in h) z) e r)
 
 -- ---- an end whose connection has stopped
 

@@ -14,7 +14,7 @@ use Rattle.amqp_engine.specs.declared.phase.Phase.{Phase}
 use Rattle.amqp_engine.specs.declared.phase.Phase.TheVariants as p
 use Rattle.amqp_engine.specs.Faults.{AllOwed}
 use Rattle.amqp_engine.specs.Heard.{IsHeard}
-use Rattle.amqp_engine.specs.Outcomes.{IsMoment, IsWritten, IsOnward, IsRefusal, IsClosedBy, Stepped as EngineStepped, HasClosed as EngineClosed}
+use Rattle.amqp_engine.specs.Outcomes.{IsWritten, IsOnward, IsRefusal, IsClosedBy, Stepped as EngineStepped, HasClosed as EngineClosed}
 use Rattle.amqp_transport.specs.declared.frames.Frame.{Frame}
 use Rattle.amqp_engine.specs.Phases.{has_failed, is_stopped}
 use Rattle.amqp_engine.specs.Sentence.{Ran}
@@ -51,6 +51,7 @@ use Rattle.amqp_peer.proofs.Advances.{called_keeps, settled_left, concluded_left
 use Rattle.amqp_peer.proofs.Leaves.{called_leaves}
 use Rattle.amqp_peer.proofs.Faulty.{broken_large}
 use Rattle.amqp_peer.proofs.Stays.{failed_stops}
+use Rattle.amqp_peer.proofs.Beats.{IsTimed, timed, closed_timed}
 use Rattle.amqp_peer.proofs.Grows.{broken_sound, late_more, fault_same, fault_failed, called_moves, is_running, heard_open_more}
 use Rattle.amqp_peer.proofs.Quiet.{quiet_replied, quiet_made, called_quiet, made_quiet, has_polled}
 use Rattle.amqp_peer.proofs.Histories.{inside-append, link_in-append, replied_in-append}
@@ -232,7 +233,7 @@ asked_opens {L} link at n call old new texts r =
         kind = r.run.kind;
         grows = λ h t a. subst (λ (u : List Local). Has new u) (sym (append_assoc es one h)) (r.run.grows (Replied (pending old.name) ∷ h) t (waits_to_open call old h texts a));
       };
-      settled = λ a. settled_left new.held es one (r.settled a);
+      settled = λ a. settled_left at new.held es one (r.settled a);
       concluded = λ a. concluded_left new es one (r.concluded a);
       begun = r.begun;
     }
@@ -319,7 +320,7 @@ close_moves {L} link at old s s' fault condition result p e c n g =
             error = condition;
             made = made_after h (passed r) ∙ x.made;
             replied = replied_after h (passed r) ∙ x.replied;
-            called = called_moves link at x.call old.held s s' h r (inl (c.none, r.since c.none)) due t e x.called;
+            called = called_moves link at x.call old.held s s' h r (closed_timed link at s (error_for condition) result s' c) due t e x.called;
             is_made = (heard_open_more h r i.0, g h x.call x k i.1);
             leaves = called_leaves s s' (error_for condition) r.queued result n (begins_not_first x.call s h k i.0) c.told;
           });
@@ -401,13 +402,13 @@ asked_waits {L} link at n condition old new r =
         kind = r.run.kind;
         grows = λ h t a. subst (λ (u : List Local). Has new u) (sym (append_assoc es one h)) (r.run.grows (Replied (pending old.name) ∷ h) t (waits_to_close condition old h a));
       };
-      settled = λ a. settled_left new.held es one (r.settled a);
+      settled = λ a. settled_left at new.held es one (r.settled a);
       concluded = λ a. concluded_left new es one (r.concluded a);
       begun = r.begun;
     }
 
 -- the connection has stopped before: what was asked is answered in the step of the engine
-asked_ends : {L : Type 0} (link : Ghosts L) (at : ℕ) (condition : Option (List ℕ)) (old : Peering L) (s s' : State L) (fault : Option ConnectionFault) (h : List Local) (r : Ran link s s') → IsMoment at s r.given s' → AllOwed s.phase r.queued → moment_in h ≡ at → old.held ≡ Late s → is_stopped s'.phase ≡ true
+asked_ends : {L : Type 0} (link : Ghosts L) (at : ℕ) (condition : Option (List ℕ)) (old : Peering L) (s s' : State L) (fault : Option ConnectionFault) (h : List Local) (r : Ran link s s') → IsTimed at s r.given r.queued s' → AllOwed s.phase r.queued → moment_in h ≡ at → old.held ≡ Late s → is_stopped s'.phase ≡ true
     → (has_failed s'.phase ≡ true) ⊎ (Includes (link_in (moved r ++ h)) (NotWritten Full) ⊎ (s'.wire.codec.output ≡ []))
     → ((call : Call) → IsRunning call s h → prepared_in (made_in h) ≡ prepared_of call → BeginsWithOpen (given_in h) → IsFaultIn old.fault s h → IsFaultIn fault s' (moved r ++ h)) → IsAskedToClose condition old h
     → HasClosed (finished (record old { held = Late s'; fault = fault }) (close_reply (error_in (record old { held = Late s'; fault = fault })))) (Replied (answered old.name (close_reply (error_in (record old { held = Late s'; fault = fault })))) ∷ moved r ++ h)
@@ -418,7 +419,7 @@ asked_ends {L} link at condition old s s' fault h r m d t e z f g w =
     finish_close mid s' (moved r ++ h) w.call w.name condition refl z f (made_after h (passed r) ∙ w.made) (called_moves link at w.call old.held s s' h r m (inl d) t e w.called)
     (heard_open_more h r i.0, g w.call (is_running w.call old.held s h e w.called) (ap prepared_in w.made) i.0 i.1) (λ x. inr (ap (λ (u : List NamedReply). u ++ x ∷ []) answers))
 
-stopped_close : {L : Type 0} (link : Ghosts L) (at : ℕ) (condition : Option (List ℕ)) (old : Peering L) (s s' : State L) (fault : Option ConnectionFault) (r : Ran link s s') → reads_in r.events ≤ 1 → IsMoment at s r.given s' → AllOwed s.phase r.queued → old.held ≡ Late s → is_stopped s'.phase ≡ true
+stopped_close : {L : Type 0} (link : Ghosts L) (at : ℕ) (condition : Option (List ℕ)) (old : Peering L) (s s' : State L) (fault : Option ConnectionFault) (r : Ran link s s') → reads_in r.events ≤ 1 → IsTimed at s r.given r.queued s' → AllOwed s.phase r.queued → old.held ≡ Late s → is_stopped s'.phase ≡ true
     → IsWritten s'.phase r.events s'.wire.codec.output
     → ((h : List Local) → moment_in h ≡ at → (call : Call) → IsRunning call s h → prepared_in (made_in h) ≡ prepared_of call → BeginsWithOpen (given_in h) → IsFaultIn old.fault s h → IsFaultIn fault s' (moved r ++ h))
     → RestedFrom link at 1 (IsAskedToClose condition old) old (finished (record old { held = Late s'; fault = fault }) (close_reply (error_in (record old { held = Late s'; fault = fault }))))
@@ -443,7 +444,7 @@ stopped_close {L} link at condition old s s' fault r few m d e z f g =
 pub close_rests : {L : Type 0} (link : Ghosts L) (at : ℕ) (condition : Option (List ℕ)) (old : Peering L) (s s' : State L) → old.held ≡ Late s → (st : EngineStepped link at s (Ok step.Stopped) s') → (has_failed s.phase ≡ true → st.run.given ≡ [])
     → RestedFrom link at 1 (IsAskedToClose condition old) old (finished (record old { held = Late s' }) (close_reply (error_in (record old { held = Late s' }))))
 close_rests link at condition old s s' e st n =
-    stopped_close link at condition old s s' old.fault st.run st.few st.moment st.owed e st.told.stopped st.told.written (λ h t call k prep o f. fault_same old.fault s s' h st.run n st.told.phase f)
+    stopped_close link at condition old s s' old.fault st.run st.few (timed link at s _ s' st) st.owed e st.told.stopped st.told.written (λ h t call k prep o f. fault_same old.fault s s' h st.run n st.told.phase f)
 
 -- a connection that has stopped neither works nor waits
 stopped_not_onward : (q r : Phase) → is_stopped q ≡ true → IsOnward q r → ⊥
@@ -488,7 +489,7 @@ pub close_fails_at_once : {L : Type 0} (link : Ghosts L) (at : ℕ) (condition :
     → RestedFrom link at 1 (IsAskedToClose condition old) old (finished (record old { held = Late s'; fault = first_fault old.fault e }) (close_reply (error_in (record old { held = Late s'; fault = first_fault old.fault e }))))
 close_fails_at_once link at condition old s s' e l z st n =
     let f = stopped_fails link at s s' e z st n in
-    stopped_close link at condition old s s' (first_fault old.fault e) st.run st.few st.moment st.owed l (failed_stops s'.phase f) (inl f) (λ h t call k prep o x. fault_failed link at call old.fault e s s' h st k o prep t n x)
+    stopped_close link at condition old s s' (first_fault old.fault e) st.run st.few (timed link at s _ s' st) st.owed l (failed_stops s'.phase f) (inl f) (λ h t call k prep o x. fault_failed link at call old.fault e s s' h st k o prep t n x)
 
 -- a close was called
 abbrev pub called_to_close : {L : Type 0} → Peering L → ℕ → Peering L

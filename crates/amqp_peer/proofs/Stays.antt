@@ -12,8 +12,10 @@ use Rattle.amqp_engine.specs.declared.phase.Phase.{Phase}
 use Rattle.amqp_engine.specs.declared.phase.Phase.TheVariants as p
 use Rattle.amqp_engine.specs.Calls.{Acts, FlushesIf, ThenActs, Steps}
 use Rattle.amqp_engine.specs.Faults.{AllOwed}
-use Rattle.amqp_engine.specs.Outcomes.{IsTold, Stepped}
-use Rattle.amqp_engine.specs.Phases.{is_stopped, has_failed}
+use Rattle.amqp_engine.specs.Beats.{IsBeat}
+use Rattle.amqp_engine.specs.Closers.{IsCloser, KeepsCloser}
+use Rattle.amqp_engine.specs.Outcomes.{IsHanded, IsTold, Stepped}
+use Rattle.amqp_engine.specs.Phases.{is_stopped, has_failed, hears}
 use Rattle.amqp_engine.specs.State.{State}
 use Rattle.amqp_engine.proofs.Runs.{none_by, alike_same}
 
@@ -63,6 +65,11 @@ stays_failed {L} link at s new result f r e =
         moment = inl (b.given_is, ap (λ (t : State L). t.wire.clock.since) e);
         told = subst (λ (x : Result EngineStep Error). IsTold at s b.run.events b.run.given b.run.queued x new) (sym r) (record { stopped = failed_stops new.phase failed; phase = phase; written = inl failed });
         owed = subst (λ (xs : List Frame). AllOwed s.phase xs) (sym b.queued_is) tt;
+        handed = subst (λ (xs : List Frame). IsHanded s xs new) (sym b.given_is) (ap (λ (t : State L). t.channels) e);
+        listens = λ h. sym (ap hears phase) ∙ h;
+        idles = λ i. b.given_is;
+        closer = subst (λ (gs : List Frame). KeepsCloser s gs b.run.queued new) (sym b.given_is) (subst (λ (qs : List Frame). KeepsCloser s [] qs new) (sym b.queued_is) (λ c k. subst (λ (t : State L). IsCloser t.phase t.reason c) (sym e) k));
+        beat = subst (λ (gs : List Frame). IsBeat at s gs b.run.queued new) (sym b.given_is) (subst (λ (qs : List Frame). IsBeat at s [] qs new) (sym b.queued_is) (ap (λ (t : State L). t.beat) e));
       };
       none = λ z. b.given_is;
     }

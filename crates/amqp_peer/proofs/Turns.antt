@@ -337,12 +337,12 @@ made_late fault (Late s) h m = tt
 made_late fault (Unopened c) h m = m
 made_late fault Moving h m = m
 
-fitting : {L : Type 0} (q : Progress) (old : Peering L) (call : Call) (h : List Local) → MayCallIn q old.kind call → HasIn q old h → FitsCall call old.held
-fitting {L} progress.Idle old call h may has = fits_first old.kind call old.held may (subst (λ (x : Held L). IsEarly x) (sym has.holds) tt)
-fitting progress.Opening old call h may has = absurd may
-fitting progress.Open old call h may has = fits_close call old.held may (made_late old.fault old.held h has.is_made)
-fitting progress.Closing old call h may has = absurd may
-fitting progress.Over old call h may has = absurd may
+fitting : {L : Type 0} (q : Progress) (old : Peering L) (name : ℕ) (call : Call) (h : List Local) → MayCallIn q old.kind old.name name call → HasIn q old h → FitsCall call old.held
+fitting {L} progress.Idle old name call h may has = fits_first old.kind call old.held may (subst (λ (x : Held L). IsEarly x) (sym has.holds) tt)
+fitting progress.Opening old name call h may has = absurd may
+fitting progress.Open old name call h may has = fits_close call old.held may.0 (made_late old.fault old.held h has.is_made)
+fitting progress.Closing old name call h may has = absurd may
+fitting progress.Over old name call h may has = absurd may
 
 pub misfit : {L : Type 0} (link : Ghosts L) (at name : ℕ) (call : Call) (old new : Peering L) → MayCall old name call → (FitsCall call old.held → ⊥) → Stepped link old (Polled at) new → Stepped link old (Made at name call) new
 misfit link at name call old new may n s =
@@ -356,5 +356,5 @@ misfit link at name call old new may n s =
       settled = s.settled;
       concluded = s.concluded;
       begun = s.begun;
-      grows = λ h x. absurd (n (fitting old.progress old call h may x));
+      grows = λ h x. absurd (n (fitting old.progress old name call h may x));
     }

@@ -1,5 +1,5 @@
 -- Which calls may be made (docs/SPECIFICATION.md, "Valid steps").
-use Rattle.std.specs.Prelude.{ℕ, List, [], ◌∷◌, Option, Some, None}
+use Rattle.std.specs.Prelude.{◌<◌, ℕ, List, [], ◌∷◌, Option, Some, None}
 use Rattle.sasl_exchange.specs.declared.profile.SaslProfile.{SaslProfile}
 use Rattle.amqp_opening.specs.declared.acceptor.AcceptSasl.{AcceptSasl}
 use Rattle.amqp_opening.specs.declared.authentication.SaslCall.{SaslCall}
@@ -40,8 +40,8 @@ IsClose (Accept settings sasl) = ⊥
 IsClose (Close error) = Unit {0}
 
 -- a call of this name after those that were made, the newest first, and their replies: the first one, and then one close after the
--- connection was made
+-- connection was made, under a name above that of the first
 abbrev pub IsValidCall : PeerKind → List (ℕ × Call) → List NamedReply → ℕ → Call → Type 0
 IsValidCall kind [] replied name call = IsFirstCall kind call
-IsValidCall kind (first ∷ []) replied name call = IsClose call × IsConnected replied
+IsValidCall kind (first ∷ []) replied name call = IsClose call × IsConnected replied × (first.0 < name)
 IsValidCall kind (close ∷ first ∷ calls) replied name call = ⊥

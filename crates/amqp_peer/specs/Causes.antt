@@ -17,6 +17,7 @@ use Rattle.amqp_transport.specs.declared.transport.Error.TheVariants as fault
 use Rattle.amqp_transport.specs.Causes.{IsUnspelled}
 use Rattle.amqp_transport.specs.Kinds.{amqp_spells}
 use Rattle.amqp_transport.specs.Stream.{Joined, IsPart}
+use Rattle.amqp_engine.specs.Closers.{This, Peer}
 use Rattle.amqp_engine.specs.declared.error.Error.{Error as ConnectionFault}
 use Rattle.amqp_engine.specs.declared.error.Error.TheVariants as connection
 use Rattle.amqp_engine.specs.Calls.{IsTooLarge}
@@ -42,6 +43,7 @@ use Rattle.amqp_words.specs.declared.reply.NamedReply.{NamedReply}
 use Rattle.amqp_transport.specs.Wire.{idle_of}
 use Rattle.amqp_peer.specs.declared.prepared.Prepared.{Prepared}
 use Rattle.amqp_peer.specs.Prepared.{prepared_of, sasl_of, error_for}
+use Rattle.amqp_peer.specs.Closers.{closer_in}
 use Rattle.amqp_peer.specs.History.{Local, Made, Polled, AtLink, Exchanged, Got, Put, Replied, made_in, link_in, latest_in, given_in, sent_in, replied_in, moment_in, since_in, Once}
 
 -- the exchange is that of the SASL layer, if there is one
@@ -205,11 +207,11 @@ pub record IsMade (h : List Local) : Type 0 where
   pub said : BeginsWithOpen (sent_in h)
   pub out : IsOut h
 
--- both ends' Closes went through
+-- both ends' Closes went through, this end's first, and the peer's has no error (part 2, section 2.4.3)
 pub record IsParted (h : List Local) : Type 0 where
-  pub error : Option AmqpError
-  pub heard : IsLeft error (given_in h)
+  pub heard : IsLeft None (given_in h)
   pub said : EndsWithClose (sent_in h)
+  pub first : closer_in h ≡ This
   pub out : IsOut h
 
 -- after a call both AMQP headers are there: the own one was written, and the peer's was read (part 2, section 2.2)
@@ -315,7 +317,7 @@ ConnectionCause (connection.TransportError e) h = IsBrokenBy e h
 ConnectionCause connection.IllegalState h = Once (λ g. IsRejected (given_in g)) h
 ConnectionCause connection.NotImplemented h = Once (λ g. IsRejected (given_in g)) h
 ConnectionCause connection.NotFound h = Once (λ g. IsRejected (given_in g)) h
-ConnectionCause connection.RemoteClosed h = IsLeft None (given_in h)
+ConnectionCause connection.RemoteClosed h = IsLeft None (given_in h) × (closer_in h ≡ Peer)
 ConnectionCause (connection.RemoteClosedWithError e) h = IsLeft (Some e) (given_in h)
 
 -- a reply has its cause in what happened before it

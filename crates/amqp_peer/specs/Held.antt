@@ -6,6 +6,7 @@ use Rattle.amqp_composites.specs.declared.error.Error.{Error as AmqpError}
 use Rattle.amqp_frames.specs.declared.shared.ConnectionState.{ConnectionState}
 use Rattle.amqp_frames.specs.declared.shared.ConnectionState.TheVariants as state
 use Rattle.amqp_frames.specs.declared.shared.ConnectionStopReason.{ConnectionStopReason}
+use Rattle.amqp_transport.specs.Clocks.{IsDue, HasElapsed}
 use Rattle.amqp_transport.specs.Stream.{IsPart}
 use Rattle.amqp_transport.specs.Wire.{Wire, idle_of}
 use Rattle.sasl_gate.specs.declared.gate.negotiation.Phase.TheVariants.{Header as HeaderPhase}
@@ -148,18 +149,21 @@ IsLeavingIn (Late s) = IsLeaving s.phase
 IsLeavingIn (Unopened c) = ⊥
 IsLeavingIn Moving = ⊥
 
--- a connection that can do no more now: what it read last is no whole frame, all that it queued is written, and a frame is awaited
-pub record IsAtRestIn {L : Type 0} (s : State L) : Type 0 where
+-- a connection that can do no more at this moment: what it read last is no whole frame, a frame is awaited, no beat is due while it is
+-- open, and the idle time has not passed (part 2, section 2.4.5)
+pub record IsAtRestIn {L : Type 0} (at : ℕ) (s : State L) : Type 0 where
   pub part : IsPart s.wire.codec.input
-  pub written : s.wire.codec.output ≡ []
   pub awaits : IsAwaiting s.phase
+  pub undue : s.phase ≡ p.Opened → IsDue s.beat at → ⊥
+  pub unelapsed : HasElapsed s.wire.clock at → ⊥
 
--- what is read next is not there whole: of the exchange of headers, or a frame of a connection that has begun and can do no more now
-abbrev pub IsSorted : {L : Type 0} → Held L → Type 0
-IsSorted (Early o p) = IsAtRest peer_mechanism o
-IsSorted (Late s) = IsAtRestIn s
-IsSorted (Unopened c) = ⊤
-IsSorted Moving = ⊤
+-- what is read next is not there whole: of the exchange of headers, or a frame of a connection that has begun and can do no more at
+-- this moment, and all that it queued is written
+abbrev pub IsSorted : {L : Type 0} → ℕ → Held L → Type 0
+IsSorted at (Early o p) = IsAtRest peer_mechanism o
+IsSorted at (Late s) = IsAtRestIn at s × (s.wire.codec.output ≡ [])
+IsSorted at (Unopened c) = ⊤
+IsSorted at Moving = ⊤
 
 -- the link that is held, or another where it is on its way
 abbrev pub link_at : {L : Type 0} → L → Held L → L

@@ -1,5 +1,7 @@
 pub mod Prepared
 pub mod History
+pub mod Beats
+pub mod Closers
 pub mod Replies
 pub mod Calls
 pub mod Gated

@@ -1,8 +1,9 @@
 -- An end, in words of what happened at it.
-use Rattle.std.specs.Prelude.{◌≡◌, ◌⊎◌, ℕ, List, [], ◌∷◌, ◌++◌, Bool, true, false, Option, Some, None, ⊤}
+use Rattle.std.specs.Prelude.{◌≡◌, ◌⊎◌, ◌<◌, ℕ, List, [], ◌∷◌, ◌++◌, Bool, true, false, Option, Some, None, ⊤}
 use Rattle.amqp_wire.specs.Events.{LinkEvent}
 use Rattle.amqp_engine.specs.declared.error.Error.{Error as ConnectionFault}
 use Rattle.amqp_engine.specs.declared.error.Error.TheVariants as connection
+use Rattle.amqp_engine.specs.Closers.{IsCloser}
 use Rattle.amqp_engine.specs.Heard.{IsRejected}
 use Rattle.amqp_engine.specs.Phases.{has_failed}
 use Rattle.amqp_engine.specs.Sentence.{Has as EngineHas, IsCalm}
@@ -25,6 +26,8 @@ use Rattle.amqp_peer.specs.declared.peer.PeerKind.{PeerKind}
 use Rattle.amqp_peer.specs.declared.peer.Progress.{Progress}
 use Rattle.amqp_peer.specs.declared.peer.Progress.TheVariants as progress
 use Rattle.amqp_peer.specs.declared.prepared.Prepared.{Prepared}
+use Rattle.amqp_peer.specs.Beats.{beat_in, AllBeats}
+use Rattle.amqp_peer.specs.Closers.{closer_in}
 use Rattle.amqp_peer.specs.Calls.{IsFirstCall, IsClose}
 use Rattle.amqp_peer.specs.Causes.{MadeIn, has_layer, BeginsWithOpen, IsOther, AllCaused, IsBrokenBy, IsBroken, EndsExchange, IsQueued, StartsWithin, largest_of}
 use Rattle.amqp_peer.specs.Gated.{IsGatedIn}
@@ -104,6 +107,9 @@ pub record IsRunning {L : Type 0} (call : Call) (s : State L) (h : List Local) :
   pub idle : s.wire.clock.idle ≡ idle_of p.idle
   pub own : s.settings.largest_read ≡ largest_of (Some p)
   pub start : s.wire.clock.since ≡ since_in h
+  pub beat : s.beat ≡ beat_in h
+  pub beats : AllBeats h
+  pub closer : IsCloser s.phase s.reason (closer_in h)
   pub calm : IsCalm s
 
 -- it wrote what it may
@@ -229,6 +235,7 @@ pub record IsWaiting {L : Type 0} (p : Peering L) (h : List Local) : Type 0 wher
 pub record IsOpen {L : Type 0} (p : Peering L) (h : List Local) : Type 0 where
   pub call : Call
   pub name : ℕ
+  pub same : p.name ≡ name
   pub made : made_in h ≡ (name, call) ∷ []
   pub replied : replied_in h ≡ pending name ∷ connection name ∷ []
   pub called : HasCalled call p.held h
@@ -291,13 +298,13 @@ Has p h = HasIn p.progress p h
 
 -- ---- calls
 
-abbrev pub MayCallIn : Progress → PeerKind → Call → Type 0
-MayCallIn progress.Idle kind call = IsFirstCall kind call
-MayCallIn progress.Opening kind call = ⊥
-MayCallIn progress.Open kind call = IsClose call
-MayCallIn progress.Closing kind call = ⊥
-MayCallIn progress.Over kind call = ⊥
+abbrev pub MayCallIn : Progress → PeerKind → ℕ → ℕ → Call → Type 0
+MayCallIn progress.Idle kind last name call = IsFirstCall kind call
+MayCallIn progress.Opening kind last name call = ⊥
+MayCallIn progress.Open kind last name call = IsClose call × (last < name)
+MayCallIn progress.Closing kind last name call = ⊥
+MayCallIn progress.Over kind last name call = ⊥
 
--- the calls that an end may make
+-- the calls that an end may make under this name, which is above that of its last call
 abbrev pub MayCall : {L : Type 0} → Peering L → ℕ → Call → Type 0
-MayCall p name call = MayCallIn p.progress p.kind call
+MayCall p name call = MayCallIn p.progress p.kind p.name name call

@@ -16,7 +16,8 @@ use Rattle.amqp_words.specs.declared.reply.Reply.{Reply}
 use Rattle.amqp_words.specs.declared.reply.Reply.TheVariants as reply
 use Rattle.sasl_exchange.specs.declared.error.NegotiationError.{NegotiationError}
 use Rattle.amqp_opening.specs.declared.authentication.Authentication.{Authentication}
-use Rattle.amqp_opening.specs.Opening.{Opened}
+use Rattle.amqp_opening.specs.Authentication.{peer_mechanism}
+use Rattle.amqp_opening.specs.Opening.{Opened, IsAtRest}
 use Rattle.amqp_words.specs.declared.call.Call.{Call}
 use Rattle.amqp_words.specs.declared.call.Call.TheVariants.{Close}
 use Rattle.amqp_peer.specs.declared.prepared.Prepared.{Prepared}
@@ -24,17 +25,31 @@ use Rattle.amqp_peer.specs.declared.held.Held.{Held}
 use Rattle.amqp_peer.specs.declared.held.Held.TheVariants.{Early, Late, Unopened, Moving}
 use Rattle.amqp_peer.specs.declared.peer.Progress.{Progress}
 use Rattle.amqp_peer.specs.declared.peer.Progress.TheVariants as progress
-use Rattle.amqp_peer.specs.Held.{IsActive, IsStopped, IsSound, IsSorted, IsExchanged, EndedEarly, reason_of, is_made}
+use Rattle.amqp_peer.specs.Held.{IsActive, IsStopped, IsSound, IsAtRestIn, IsExchanged, EndedEarly, reason_of, is_made}
 use Rattle.amqp_peer.specs.History.{Local, made_in, link_in, given_in, sent_in, replied_in, moment_in, IsInside}
 use Rattle.amqp_peer.specs.Causes.{AllCaused}
 use Rattle.amqp_peer.specs.Peering.{Peering, Has, HasCalled, IsMadeIn, IsUntouched, link_of}
 use Rattle.amqp_peer.specs.Replies.{pending, connection, answered}
 
--- why an end can do no more now: the link had no input, no whole frame is left, and nothing of a connection is to go out; or it took no
--- output; or a great many reads were made, or frames read and queued
-abbrev pub IsSettled : {L : Type 0} → Held L → List Local → Type 0
-IsSettled held events =
-    (Includes (link_in events) (NotRead Empty) × IsSorted held) ⊎ (Includes (link_in events) (NotWritten Full)
+-- what is read next is not there whole; a connection that has begun has written what it queued as far as the link took it
+abbrev pub IsReadUp : {L : Type 0} → ℕ → Held L → List Local → Type 0
+IsReadUp at (Early o p) events = IsAtRest peer_mechanism o
+IsReadUp at (Late s) events = IsAtRestIn at s × (Includes (link_in events) (NotWritten Full) ⊎ (s.wire.codec.output ≡ []))
+IsReadUp at (Unopened c) events = ⊤
+IsReadUp at Moving events = ⊤
+
+-- the exchange of headers stops where the link takes no output
+abbrev pub IsBlocked : {L : Type 0} → Held L → List Local → Type 0
+IsBlocked (Early o p) events = Includes (link_in events) (NotWritten Full)
+IsBlocked (Late s) events = ⊥
+IsBlocked (Unopened c) events = ⊥
+IsBlocked Moving events = ⊥
+
+-- why an end can do no more at this moment: the link had no input, and no whole frame is left; or it took no output while the headers are
+-- exchanged; or a great many reads were made, or frames read and queued
+abbrev pub IsSettled : {L : Type 0} → ℕ → Held L → List Local → Type 0
+IsSettled at held events =
+    (Includes (link_in events) (NotRead Empty) × IsReadUp at held events) ⊎ (IsBlocked held events
     ⊎ ((2 ^ 62 ≤ reads_in (link_in events)) ⊎ (2 ^ 62 ≤ length (given_in events) + length (sent_in events))))
 
 -- a call waits for its last answer
@@ -82,7 +97,7 @@ pub record Worked {L : Type 0} (link : Ghosts L) (at n : ℕ) (old new : Peering
 -- it went on until it could do no more
 pub record RestedFrom {L : Type 0} (link : Ghosts L) (at n : ℕ) (Before : List Local → Type 0) (old new : Peering L) : Type 0 where
   pub run : AdvancedFrom link at n Before old new
-  pub settled : IsActive new.held → IsSettled new.held run.events
+  pub settled : IsActive new.held → IsSettled at new.held run.events
   pub concluded : IsStopped new.held → IsConcluded new run.events
   pub begun : IsExchanged new.held → ⊥
 
@@ -147,7 +162,7 @@ pub record Stepped {L : Type 0} (link : Ghosts L) (old : Peering L) (first : Loc
   pub answers : new.replies ≡ old.replies ++ replied_in events
   pub few : reads_in (link_in events) ≤ 2 ^ 63
   pub kind : new.kind ≡ old.kind
-  pub settled : IsActive new.held → IsSettled new.held events
+  pub settled : IsActive new.held → IsSettled (moment_in (first ∷ [])) new.held events
   pub concluded : IsStopped new.held → IsConcluded new events
   pub begun : (IsExchanged old.held → ⊥) → IsExchanged new.held → ⊥
   pub grows : (h : List Local) → Has old h → Has new (events ++ first ∷ h)

@@ -8,4 +8,5 @@ mod drops;
 pub mod held;
 pub mod peer;
 pub mod prepared;
+pub mod promises;
 pub mod valid;

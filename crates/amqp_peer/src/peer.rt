@@ -241,14 +241,14 @@ impl<L: Link> Peer<L> {
     }
 
     /// Whether a call of this name may be made now: the client's first call is `open`, the listener's `accept`, and each comes
-    /// once; nonce, salt and count are allowed. A `close` comes once, after the connection was made.
+    /// once; nonce, salt and count are allowed. A `close` comes once, after the connection was made,
+    /// under a name above that of the first call.
     pub fn may_call(&self, name: u64, call: &Call) -> bool
         ensures { IsTrue result ↔ MayCall self.now name call.now }
     {
-        let _ = name;
         match self.progress {
             Progress::Idle => is_first_call(self.kind, call),
-            Progress::Open => matches!(call, Call::Close { .. }),
+            Progress::Open => matches!(call, Call::Close { .. }) && name > self.name,
             Progress::Opening | Progress::Closing | Progress::Over => false,
         }
     }

@@ -5,13 +5,13 @@ use Rattle.amqp_wire.specs.declared.status.Status.{Status}
 use Rattle.amqp_wire.specs.declared.status.Status.TheVariants.{Done, Usage, BadScript, BadStep, Memory, ReadFault, WriteFault, TooLong}
 use Rattle.amqp_words.specs.declared.step.Step.{Step}
 use Rattle.amqp_words.specs.declared.trace.Entry.{Entry}
-use Rattle.amqp_world.specs.Explains.{past_of, Explained, IsFirstInvalid}
+use Rattle.amqp_world.specs.Explains.{past_of, Explained, AreMade, IsFirstInvalid}
 use Rattle.amqp_script.specs.Script.{Spells, IsFirstBad}
 use Rattle.amqp_script.specs.TraceText.{text_of}
 use Rattle.amqp_streams.specs.Streams.{ReadsScript, WritesFront}
 use Rattle.amqp_requests.specs.Request.{Request, RunScript, DeriveKey, key_text}
 
--- the text of a trace that explains the steps of the script that a source gave
+-- the text of a trace that explains the steps of the script that a source gave, and that the two ends made
 pub record IsRunText (left left' : Option (List ℕ)) (text : List ℕ) : Type 0 where
   pub script : List ℕ
   pub steps : List Step
@@ -20,6 +20,7 @@ pub record IsRunText (left left' : Option (List ℕ)) (text : List ℕ) : Type 0
   pub spelled : Spells script steps
   pub form : length entries ≡ length steps
   pub explained : Explained (past_of steps entries)
+  pub made : AreMade steps entries
   pub shown : text ≡ text_of entries
 
 -- the text of a key; nothing is read for it

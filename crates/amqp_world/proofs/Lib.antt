@@ -8,3 +8,4 @@ pub mod Waiting
 pub mod Nears
 pub mod Sides
 pub mod BothTurns
+pub mod Chains

@@ -5,7 +5,7 @@ use Rattle.amqp_wire.specs.Piped.{Piped}
 use Rattle.amqp_words.specs.declared.call.Call as peer_call
 use Rattle.amqp_peer.specs.declared.peer.PeerKind.{PeerKind}
 use Rattle.amqp_words.specs.declared.reply.NamedReply.{NamedReply}
-use Rattle.amqp_peer.specs.History.{Local, made_in, link_in, replied_in, read_in, wrote_in}
+use Rattle.amqp_peer.specs.History.{Local, made_in, link_in, replied_in, read_in, wrote_in, moment_in}
 use Rattle.amqp_peer.specs.Calls.{IsValidCall}
 use Rattle.amqp_peer.specs.Causes.{IsSpent, IsTakenUp}
 use Rattle.amqp_peer.specs.Gated.{IsGated}
@@ -14,7 +14,8 @@ use Rattle.amqp_peer.specs.Held.{IsActive, IsExchanged}
 use Rattle.amqp_peer.specs.Peering.{Peering, Has, MayCall, fresh}
 use Rattle.amqp_peer.specs.Replies.{AreReplies}
 use Rattle.amqp_peer.specs.Runs.{Stepped}
-use Rattle.amqp_peer.proofs.Laws.{has_fresh, has_with_link, has_taken, link_of-fresh, may_law, replies_law, gated_law, gated_more, causes_law, tied_law, said_law, taken_up_law, spent_law, exchanged_with_link, fresh_not_exchanged}
+use Rattle.amqp_peer.proofs.Settled.{sorted_of, blocked_full}
+use Rattle.amqp_peer.proofs.Laws.{has_fresh, has_with_link, has_taken, link_of-fresh, may_law, replies_law, gated_law, gated_more, causes_law, beats_law, tied_law, said_law, taken_up_law, spent_law, exchanged_with_link, fresh_not_exchanged}
 use Rattle.amqp_words.specs.declared.step.End.{End}
 use Rattle.amqp_words.specs.declared.step.End.TheVariants.{Client, Listener}
 use Rattle.amqp_words.specs.declared.step.Act.{Act}
@@ -58,9 +59,13 @@ moved_within e f (Call call) past o v b = b
 kept_up : (near : Peering Piped) (far : Piped) (count : ℕ) (first : Local) (ran : Peering Piped) (h : List Local) (left : List ℕ) → left ≡ (pipe_of ran).input → (s : Stepped piping (given near far count) first ran) → Has ran h → IsActive ran.held ⊎ IsSpent h → ((left ≡ []) × IsTakenUp h) ⊎ (IsSpent h ⊎ IsVast s.events)
 kept_up near far count first ran h left e s has (inr spent) = inr (inl spent)
 kept_up near far count first ran h left e s has (inl active) = elim (s.settled active) [
-  | inl a ↦ inl (e ∙ pipe_emptied (pipe_of (given near far count)) (pipe_of ran) (link_in s.events) (s.went empty_pipe) a.0, taken_up_law ran h has active a.1)
+  | inl a ↦ inl (
+    e ∙ pipe_emptied (pipe_of (given near far count)) (pipe_of ran) (link_in s.events) (s.went empty_pipe) a.0,
+    taken_up_law (moment_in (first ∷ [])) ran h has active
+        (sorted_of (moment_in (first ∷ [])) ran.held s.events (never_fills (pipe_of (given near far count)) (pipe_of ran) (link_in s.events) (s.went empty_pipe)) a.1),
+  )
   | inr a ↦ elim a [
-    | inl f ↦ absurd (never_fills (pipe_of (given near far count)) (pipe_of ran) (link_in s.events) (s.went empty_pipe) f)
+    | inl f ↦ absurd (never_fills (pipe_of (given near far count)) (pipe_of ran) (link_in s.events) (s.went empty_pipe) (blocked_full ran.held s.events f))
     | inr v ↦ inr (inr v)
   ]
 ]
@@ -225,6 +230,8 @@ side_history e f p q past o o' s far =
       layer = layer_law p s.h s.has;
       few = few_frames s.h (layer_law p s.h s.has);
       said = said_law p s.h s.has;
+      beats = beats_law p s.h s.has;
+      replies = replies_law p s.h s.has;
       caused = causes_law p s.h s.has;
       unclosed = s.unclosed;
       unrefused = never_refused s.h far.h (side_meets e f p q past o s far) (side_meets f e q p past o' far s);

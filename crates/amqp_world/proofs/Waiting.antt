@@ -1,5 +1,5 @@
 -- How the ends stand after a step, and what their calls wait for.
-use Rattle.std.proofs.Common.{◌≡◌, ◌⊎◌, ◌+◌, ◌≤◌, ◌^◌, inl, inr, List, ℕ, [], ◌∷◌, ◌++◌, if◌then◌else◌, Option, Some, None, length, refl, sym, ap, ◌∙◌, subst, arith, length-append}
+use Rattle.std.proofs.Common.{◌≡◌, ◌⊎◌, ◌+◌, ◌≤◌, ◌^◌, inl, inr, List, ℕ, [], ◌∷◌, ◌++◌, Option, Some, None, length, refl, sym, ap, ◌∙◌, subst, arith, length-append}
 use Rattle.amqp_wire.specs.Events.{reads_in}
 use Rattle.amqp_wire.specs.Piped.{Piped}
 use Rattle.amqp_wire.proofs.Events.{reads_in-append}
@@ -15,13 +15,14 @@ use Rattle.amqp_peer.specs.declared.peer.PeerKind.{PeerKind}
 use Rattle.amqp_peer.specs.declared.peer.PeerKind.TheVariants as kind
 use Rattle.amqp_peer.specs.Calls.{IsFirstCall, IsValidCall}
 use Rattle.amqp_peer.specs.Held.{IsActive, IsExchanged, IsSorted}
-use Rattle.amqp_peer.specs.History.{Local, made_in, link_in, given_in, sent_in}
+use Rattle.amqp_peer.specs.History.{Local, made_in, link_in, given_in, sent_in, moment_in}
 use Rattle.amqp_peer.specs.Layers.{layer_in, HasLayer}
 use Rattle.amqp_peer.specs.Peering.{Peering, Has}
 use Rattle.amqp_peer.specs.Runs.{Stepped}
 use Rattle.amqp_peer.proofs.Broken.{broken_law}
-use Rattle.amqp_peer.proofs.Histories.{given_in-append, sent_in-append}
+use Rattle.amqp_peer.proofs.Histories.{given_in-append, sent_in-append, moment_in-inside}
 use Rattle.amqp_peer.proofs.Layers.{exchange_law}
+use Rattle.amqp_peer.proofs.Settled.{sorted_of, blocked_full}
 use Rattle.amqp_peer.proofs.Laws.{replies_law, causes_law}
 use Rattle.amqp_ends.specs.Quiet.{Begins, BeginsIn}
 use Rattle.amqp_ends.specs.Standing.{IsVast, Stands}
@@ -63,12 +64,21 @@ many_frames es h at name act m = inr (omega (arith, m, length_given es h at name
 
 -- ---- how an end stands that made a step
 
+moment_begun : (at name : ℕ) (act : Act) (h : List Local) → moment_in (begun at name act ∷ h) ≡ moment_in (begun at name act ∷ [])
+moment_begun at name (Take n) h = refl
+moment_begun at name TakeAll h = refl
+moment_begun at name (Call call) h = refl
+
 sorted_by : (near : Peering Piped) (ran : Peering Piped) (at name : ℕ) (act : Act) (h : List Local) (s : Stepped piping near (begun at name act) ran) → IsActive ran.held
-    → (((pipe_of ran).input ≡ []) × IsSorted ran.held) ⊎ IsVast (s.events ++ begun at name act ∷ h)
+    → (((pipe_of ran).input ≡ []) × IsSorted (moment_in (s.events ++ begun at name act ∷ h)) ran.held) ⊎ IsVast (s.events ++ begun at name act ∷ h)
 sorted_by near ran at name act h s a = elim (s.settled a) [
-  | inl r ↦ inl (pipe_emptied (pipe_of near) (pipe_of ran) (link_in s.events) (s.went empty_pipe) r.0, r.1)
+  | inl r ↦ inl (
+    pipe_emptied (pipe_of near) (pipe_of ran) (link_in s.events) (s.went empty_pipe) r.0,
+    subst (λ (n : ℕ). IsSorted n ran.held) (sym (moment_in-inside s.events (begun at name act ∷ h) s.inside ∙ moment_begun at name act h))
+        (sorted_of (moment_in (begun at name act ∷ [])) ran.held s.events (never_fills (pipe_of near) (pipe_of ran) (link_in s.events) (s.went empty_pipe)) r.1),
+  )
   | inr m ↦ elim m [
-    | inl f ↦ absurd (never_fills (pipe_of near) (pipe_of ran) (link_in s.events) (s.went empty_pipe) f)
+    | inl f ↦ absurd (never_fills (pipe_of near) (pipe_of ran) (link_in s.events) (s.went empty_pipe) (blocked_full ran.held s.events f))
     | inr v ↦ elim v [ inl n ↦ inr (many_reads s.events h at name act n) | inr n ↦ inr (many_frames s.events h at name act (omega (arith, n))) ]
   ]
 ]

@@ -5,7 +5,9 @@ use Rattle.amqp_engine.specs.Heard.{AllUnclosed}
 use Rattle.amqp_words.specs.declared.step.End.{End}
 use Rattle.amqp_words.specs.declared.step.End.TheVariants.{Client, Listener}
 use Rattle.amqp_peer.specs.History.{Local, link_in, made_in, given_in, sent_in, replied_in, read_in, wrote_in, IsInside, Once}
+use Rattle.amqp_peer.specs.Beats.{AllBeats}
 use Rattle.amqp_peer.specs.Causes.{AllCaused, IsTied, IsTakenUp, IsRefusedAt, IsSpent}
+use Rattle.amqp_peer.specs.Replies.{AreReplies}
 use Rattle.amqp_peer.specs.Said.{HasSaid}
 use Rattle.amqp_peer.specs.Layers.{layer_in, HasLayer}
 use Rattle.amqp_ends.specs.Joined.{IsCalm, NoneCloses}
@@ -53,6 +55,7 @@ NothingInFlight past = (e : End) → read e past ≡ wrote (other e) past
 -- An end has a history that follows the past, over a link that did not fail: its frames are those of its bytes, each Close that it says has
 -- its cause, as has each reply, in what happened before it; of a SASL layer it wrote three frames at most (part 5, section 5.3.2); it
 -- says no Close while nobody has called close (part 2, section 2.4.3); and no frame that came was refused for its size (section 2.4.1).
+-- Each empty frame was queued by a beat that was due (section 2.4.5). Its replies are those of its calls, in order.
 pub record IsHistoried (e : End) (past : List Event) : Type 0 where
   pub h : List Local
   pub follows : Follows e past h
@@ -61,6 +64,8 @@ pub record IsHistoried (e : End) (past : List Event) : Type 0 where
   pub layer : HasLayer (layer_in (made_in h)) h
   pub few : IsFew h
   pub said : HasSaid h
+  pub beats : AllBeats h
+  pub replies : AreReplies (made_in h) (replied_in h)
   pub caused : AllCaused h
   pub unclosed : NobodyCloses past → AllUnclosed (sent_in h)
   pub unrefused : Once IsRefusedAt h → ⊥

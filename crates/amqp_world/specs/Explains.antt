@@ -10,6 +10,8 @@ use Rattle.amqp_peer.specs.Layers.{layer_in}
 use Rattle.amqp_ends.specs.Gates.{AllFair}
 use Rattle.amqp_ends.specs.Honest.{AllHonest}
 use Rattle.amqp_world.specs.Causes.{Histories}
+use Rattle.amqp_world.specs.WorldView.{WorldView}
+use Rattle.amqp_world.specs.Turn.{IsTurn, start}
 
 -- an event after a past
 pub record Explains (x : Event) (past : List Event) : Type 0 where
@@ -35,11 +37,23 @@ onto past (s ∷ ss) (x ∷ xs) = onto (record { step = s; entry = x } ∷ past)
 abbrev pub past_of : List Step → List Entry → List Event
 past_of steps entries = onto [] steps entries
 
--- Step i is the first that is not valid: those before it have entries that explain them, after which it is not.
+-- the ends made these steps, one after another, and came from one view of the world to another
+abbrev pub Turns : WorldView → List Step → WorldView → Type 0
+Turns old [] new = new ≡ old
+Turns old (s ∷ ss) new = (next : WorldView) × IsTurn old s next × Turns next ss new
+
+-- the ends made these steps from the start, and these are their entries
+pub record AreMade (steps : List Step) (entries : List Entry) : Type 0 where
+  pub world : WorldView
+  pub turns : Turns start steps world
+  pub entries_are : world.entries ≡ entries
+
+-- Step i is the first that is not valid: the ends made those before it, with entries that explain them, after which it is not.
 pub record IsFirstInvalid (steps : List Step) (i : ℕ) : Type 0 where
   pub entries : List Entry
   pub step : Step
   pub form : length entries ≡ i
+  pub made : AreMade (take i steps) entries
   pub before : Explained (past_of (take i steps) entries)
   pub at : slice_get steps i ≡ Some step
   pub invalid : IsValid (past_of (take i steps) entries) step → ⊥

@@ -1,9 +1,9 @@
 pub mod History
 pub mod Valid
+pub mod WorldView
+pub mod Turn
 pub mod Form
 pub mod Gate
 pub mod Causes
 pub mod Explains
-pub mod WorldView
-pub mod Turn
 pub mod Related

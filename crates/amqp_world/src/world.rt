@@ -2,7 +2,7 @@
 ghost use Rattle.std.specs.Prelude.{◌≡◌, ◌↔◌, List, ℕ, [], ◌∷◌, ◌++◌, length, true, false, Err, IfOk, OnOk, IsErrOf, alloc_error};
 ghost use Rattle.amqp_world.specs.declared.world.WorldError.TheVariants.{Memory};
 ghost use Rattle.amqp_world.specs.Valid.{IsValid};
-ghost use Rattle.amqp_world.specs.Explains.{past_of, Explained, IsFirstInvalid};
+ghost use Rattle.amqp_world.specs.Explains.{past_of, Explained, Turns, AreMade, IsFirstInvalid};
 ghost use Rattle.amqp_world.specs.Turn.{IsTurn, start};
 ghost use Rattle.amqp_world.specs.Related.{Related, view_of};
 
@@ -134,6 +134,7 @@ impl World {
     pub fn run(alloc: Global, steps: &[Step]) -> Result<Trace, WorldError>
         ensures form { IfOk result (λ trace. length trace.entries ≡ length steps.now) }
         ensures explained { IfOk result (λ trace. Explained (past_of steps.now trace.entries)) }
+        ensures made { IfOk result (λ trace. AreMade steps.now trace.entries) }
         ensures bad { (i : ℕ) → IsErrOf result (WorldError.BadStep i) → IsFirstInvalid steps.now i }
         ensures failed { IsErrOf result WorldError.Failed → ⊥ }
     {
@@ -152,6 +153,7 @@ impl World {
         requires { self.old ≡ start }
         ensures form { OnOk result (length self.new.entries ≡ length steps.now) }
         ensures explained { OnOk result (Explained (past_of steps.now self.new.entries)) }
+        ensures turns { OnOk result (Turns start steps.now self.new) }
         ensures bad { (i : ℕ) → IsErrOf result (WorldError.BadStep i) → IsFirstInvalid steps.now i }
         ensures failed { IsErrOf result WorldError.Failed → ⊥ }
     {
