@@ -1,0 +1,9 @@
+pub mod Windows
+pub mod Faults
+pub mod State
+pub mod Hold
+pub mod Begin
+pub mod Links
+pub mod Ends
+pub mod Frames
+pub mod Laws
