@@ -1,0 +1,9 @@
+pub mod Alike
+pub mod Spreading
+pub mod Putting
+pub mod Searching
+pub mod Parting
+pub mod Joining
+pub mod Sizes
+pub mod Sorting
+pub mod Keeping

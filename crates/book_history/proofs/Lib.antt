@@ -1,0 +1,4 @@
+pub mod Replaying
+pub mod Standing
+pub mod Weights
+pub mod Once

@@ -1,0 +1,5 @@
+pub mod History
+pub mod Receipts
+pub mod Counts
+pub mod Weights
+pub mod Once
