@@ -1,0 +1,3 @@
+pub mod Bad
+pub mod Going
+pub mod Gives
