@@ -21,4 +21,5 @@ pub mod Laws
 pub mod Rest
 pub mod Bound
 pub mod Turns
+pub mod Sessions
 pub mod Broken

@@ -11,4 +11,5 @@ pub mod Held
 pub mod Layers
 pub mod Peering
 pub mod Runs
+pub mod Passing
 pub mod Rest

@@ -6,6 +6,8 @@ pub use prepared::Prepared;
 
 mod drops;
 pub mod held;
+mod held_sessions;
+mod passing;
 pub mod peer;
 pub mod prepared;
 pub mod promises;

@@ -85,13 +85,13 @@ impl From<AllocError> for PeerError {
 
 /// One end over a link.
 pub struct Peer<L: Link> {
-    held: Held<L>,
-    kind: PeerKind,
-    progress: Progress,
+    pub(crate) held: Held<L>,
+    pub(crate) kind: PeerKind,
+    pub(crate) progress: Progress,
     name: u64,
     fault: Option<ConnectionError>,
     replies: ReplyList,
-    failed: bool,
+    pub(crate) failed: bool,
     alloc: Global,
 }
 
@@ -275,7 +275,7 @@ impl<L: Link> Peer<L> {
     }
 
     // The first fault is kept.
-    fn note(&mut self, error: ConnectionError)
+    pub(crate) fn note(&mut self, error: ConnectionError)
         ensures { self.new ≡ record self.old { fault = first_fault self.old.fault error } }
     {
         match self.fault {
@@ -351,7 +351,7 @@ impl<L: Link> Peer<L> {
     }
 
     // One step of the connection; whether another may follow.
-    fn advance(&mut self, at: u64) -> Result<bool, AllocError>
+    pub(crate) fn advance(&mut self, at: u64) -> Result<bool, AllocError>
         requires { IsLate self.old.held }
         ensures more { result ≡ Ok true → Worked L.Link at 1 self.old self.new }
         ensures rests { result ≡ Ok false → Rested L.Link at 1 self.old self.new }

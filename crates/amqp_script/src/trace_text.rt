@@ -21,7 +21,8 @@ use crate::trace_text::hex::{push_hex, push_word};
 use amqp_words::{Entry, NamedReply, Reply, Trace};
 use std::alloc::{AllocError, Global};
 
-fn push_answer(alloc: Global, out: &mut Vec<u8>, reply: &Reply) -> Result<(), AllocError>
+/// Adds an answer.
+pub fn push_answer(alloc: Global, out: &mut Vec<u8>, reply: &Reply) -> Result<(), AllocError>
     ensures { OnOk result (out.new.items ≡ out.old.items ++ answer_text reply.now) }
 {
     match reply {
@@ -68,7 +69,13 @@ fn push_replies(
     Ok(())
 }
 
-fn push_wrote(alloc: Global, out: &mut Vec<u8>, step: u64, wrote: &[u8]) -> Result<(), AllocError>
+/// Adds the bytes that a step wrote, if it wrote any.
+pub fn push_wrote(
+    alloc: Global,
+    out: &mut Vec<u8>,
+    step: u64,
+    wrote: &[u8],
+) -> Result<(), AllocError>
     ensures { OnOk result (out.new.items ≡ out.old.items ++ wrote_text step wrote.now) }
 {
     if wrote.is_empty() {

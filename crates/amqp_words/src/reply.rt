@@ -93,6 +93,14 @@ impl ReplyList {
         self.replies.len()
     }
 
+    /// The answers themselves.
+    pub fn into_vec(self) -> Vec<NamedReply>
+        ensures { result.items ≡ self }
+    {
+        let ReplyList { replies } = self;
+        replies
+    }
+
     /// Adds an answer at the end; want of memory leaves the list as it was.
     pub fn push(&mut self, reply: NamedReply) -> Result<(), AllocError>
         ensures ok { OnOk result (self.new ≡ self.old ++ reply ∷ []) }

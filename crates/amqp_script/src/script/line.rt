@@ -80,7 +80,7 @@ fn take(arguments: Words<'_>) -> Option<Act>
 }
 
 /// What a word and its arguments say.
-fn act(alloc: Global, word: &[u8], arguments: Words<'_>) -> Result<Act, LineError>
+pub fn act(alloc: Global, word: &[u8], arguments: Words<'_>) -> Result<Act, LineError>
     ensures { Says (act_in word.now (words_left arguments.entry)) result }
 {
     if is_text(word, b"take") {
@@ -98,7 +98,8 @@ fn act(alloc: Global, word: &[u8], arguments: Words<'_>) -> Result<Act, LineErro
     Err(LineError::Outside)
 }
 
-fn end(word: &[u8]) -> Option<End>
+/// The end that a word names.
+pub fn end(word: &[u8]) -> Option<End>
     ensures { result ≡ end_in word.now }
 {
     if is_text(word, b"c") {
