@@ -1,0 +1,9 @@
+use Rattle.std.proofs.Common.{refl}
+use Rattle.amqp_end.specs.Moves.{HandedOut}
+use Rattle.amqp_end.proofs.Goes.{on_ok, on_then, on_move}
+use Rattle.amqp_end.proofs.end.End.let_out.Goals as goal
+
+pub returns : goal.returns
+returns g c =
+    let mid = record c.args.self.now { sessions = c.hand_out.new.self } in
+    on_ok c.hand_over.result (λ h. on_then g.L.Link c.args.self.now mid c.hand_over.new.self (on_move g.L.Link (HandedOut c.args.session) c.args.self.now mid refl c.in_ok-hand_out.ensures refl refl) h) c.hand_over.ensures

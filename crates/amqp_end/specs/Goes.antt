@@ -1,0 +1,32 @@
+-- An end with sessions that goes on.
+use Rattle.std.specs.Prelude.{◌≡◌, List}
+use Rattle.amqp_wire.specs.declared.link.Link.{Ghosts}
+use Rattle.amqp_wire.specs.Events.{LinkEvent, Went}
+use Rattle.amqp_peer.specs.Held.{IsLate}
+use Rattle.amqp_peer.specs.Peering.{Peering, link_of}
+use Rattle.amqp_sessions.specs.State.{State, seen}
+use Rattle.amqp_end.specs.declared.end.End.{End}
+use Rattle.amqp_end.specs.Moves.{Move, after}
+
+-- what passed at the link of a connection's end while it went on, by itself and for its sessions; which side it is stays
+pub record Passed {L : Type 0} (link : Ghosts L) (old new : Peering L) : Type 0 where
+  pub events : List LinkEvent
+  pub went : (d : L) → Went link (link_of d old) events (link_of d new)
+  pub kind : new.kind ≡ old.kind
+
+-- the sessions made these moves
+pub record Moved (old new : State) : Type 0 where
+  pub moves : List Move
+  pub runs : new ≡ after moves old
+
+-- an end went on: bytes passed at its link, and its sessions made moves
+pub record Goes {L : Type 0} (link : Ghosts L) (old new : End L) : Type 0 where
+  pub passed : Passed link old.connection new.connection
+  pub moved : Moved (seen old.sessions) (seen new.sessions)
+  pub last : new.last ≡ old.last
+  pub failed : new.failed ≡ old.failed
+
+-- the same, and a connection that has begun goes on
+pub record GoesOn {L : Type 0} (link : Ghosts L) (old new : End L) : Type 0 where
+  pub goes : Goes link old new
+  pub late : IsLate old.connection.held → IsLate new.connection.held

@@ -1,0 +1,249 @@
+//! One end with its sessions: what it is asked to do, and what it answers.
+ghost use Rattle.std.specs.Prelude.{◌≡◌, ◌↔◌, [], None, Some, true, false, OnOk, OnErr, IfOk, IfErr, IsTrue, IsErrOf};
+ghost use Rattle.std.specs.Borrow.{Lends, sem};
+ghost use Rattle.amqp_end.specs.contracts.end.End.{the_row};
+ghost use Rattle.amqp_end.specs.Asks.{IsNew, Takes, MayAskFor, MayAsk};
+ghost use Rattle.amqp_end.specs.Goes.{Goes};
+ghost use Rattle.amqp_peer.specs.Peering.{fresh, link_of, with_link_of};
+ghost use Rattle.amqp_sessions.specs.State.{seen, none_begun};
+
+use amqp_calls::{Call, NamedReply, SessionCall};
+use amqp_peer::{Peer, PeerError, PeerKind};
+use amqp_sessions::Sessions;
+use amqp_wire::link::Link;
+use std::alloc::{AllocError, Global};
+use std::mem;
+use thiserror::Error;
+
+/// Why a call or a poll of an end fails.
+#[derive(Clone, Copy, Debug, PartialEq, Eq, Error)]
+pub enum EndError {
+    /// There was not enough memory. The end can go no further.
+    #[error("Memory")]
+    Memory(AllocError),
+    /// Memory was wanting at an earlier call.
+    #[error("Failed")]
+    Failed,
+}
+
+impl From<AllocError> for EndError {
+    ghost use Rattle.amqp_end.specs.declared.end.EndError.TheVariants.{Memory};
+
+    ghost from_gives = { λ a e. e ≡ Memory a };
+
+    fn from(error: AllocError) -> Self {
+        EndError::Memory(error)
+    }
+}
+
+/// One end over a link: its connection, and the sessions on it.
+pub struct End<L: Link> {
+    pub(crate) connection: Peer<L>,
+    pub(crate) sessions: Sessions,
+    /// Whether the sessions were told that the connection has stopped.
+    pub(crate) has_concluded: bool,
+    /// The answers that were not taken, in order.
+    pub(crate) replies: Vec<NamedReply>,
+    /// The name of the last call.
+    pub(crate) last: Option<u64>,
+    pub(crate) failed: bool,
+    pub(crate) alloc: Global,
+}
+
+// An end is let go by a call, so that no caller sees what it holds.
+impl<L: Link> Drop for End<L> {
+    fn drop(self) {
+        let End {
+            connection,
+            sessions,
+            has_concluded: _,
+            replies,
+            last: _,
+            failed: _,
+            alloc: _,
+        } = self;
+        drop(connection);
+        drop(sessions);
+        drop(replies);
+    }
+}
+
+/// Lets a call go.
+fn discard(_call: Call) {}
+
+/// Want of memory, as an end of a connection tells it.
+pub(crate) fn memory_of(error: PeerError) -> AllocError {
+    match error {
+        PeerError::Memory(error) => error,
+        PeerError::Failed => AllocError,
+    }
+}
+
+impl<L: Link> End<L> {
+    /// An end over that connection, on which nothing was done.
+    fn new(alloc: Global, connection: Peer<L>) -> Self
+        ensures connection { result.connection ≡ connection }
+        ensures sessions { seen result.sessions ≡ none_begun }
+        ensures last { result.last ≡ None }
+        ensures replies { result.replies.items ≡ [] }
+        ensures alive { result.failed ≡ false }
+    {
+        End {
+            connection,
+            sessions: Sessions::new(alloc),
+            has_concluded: false,
+            replies: Vec::new(alloc),
+            last: None,
+            failed: false,
+            alloc,
+        }
+    }
+
+    /// A client over the link. It takes no memory, so that the error, want of memory, never comes.
+    pub fn client(alloc: Global, link: L) -> Result<Self, (AllocError, L)>
+        ensures connection { IfOk result (λ e. e.connection ≡ fresh link PeerKind.Client) }
+        ensures sessions { IfOk result (λ e. seen e.sessions ≡ none_begun) }
+        ensures last { IfOk result (λ e. e.last ≡ None) }
+        ensures replies { IfOk result (λ e. e.replies.items ≡ []) }
+        ensures alive { IfOk result (λ e. e.failed ≡ false) }
+        ensures err { IfErr result (λ e. e.1 ≡ link) }
+    {
+        let connection = Peer::client(alloc, link)?;
+        Ok(End::new(alloc, connection))
+    }
+
+    /// A listener over the link. It takes no memory, so that the error, want of memory, never comes.
+    pub fn listener(alloc: Global, link: L) -> Result<Self, (AllocError, L)>
+        ensures connection { IfOk result (λ e. e.connection ≡ fresh link PeerKind.Listener) }
+        ensures sessions { IfOk result (λ e. seen e.sessions ≡ none_begun) }
+        ensures last { IfOk result (λ e. e.last ≡ None) }
+        ensures replies { IfOk result (λ e. e.replies.items ≡ []) }
+        ensures alive { IfOk result (λ e. e.failed ≡ false) }
+        ensures err { IfErr result (λ e. e.1 ≡ link) }
+    {
+        let connection = Peer::listener(alloc, link)?;
+        Ok(End::new(alloc, connection))
+    }
+
+    /// Whether a call of this name may be made now. The name is above that of each call before. Calls on the connection as its end
+    /// says, but a `close` not while a `begin` or `accept_session` waits; `begin` at a client and `accept_session` at a listener,
+    /// after the connection was made and before a `close`, one at a time; `end` on a session that was made, that no `end` has let
+    /// go, and at which no `end` waits.
+    pub fn may_call(&self, name: u64, call: &Call) -> bool
+        ensures { IsTrue result ↔ MayAsk self.now name call.now }
+    {
+        self.is_new(name) && self.takes(name, call)
+    }
+
+    fn is_new(&self, name: u64) -> bool
+        ensures { IsTrue result ↔ IsNew self.now.last name }
+    {
+        match self.last {
+            Some(last) => last < name,
+            None => true,
+        }
+    }
+
+    fn takes(&self, name: u64, call: &Call) -> bool
+        ensures { IsTrue result ↔ MayAskFor self.now name call.now }
+    {
+        match call {
+            Call::Connection(call) => {
+                self.sessions.waiting().is_none() && self.connection.may_call(name, call)
+            }
+            Call::Session(call) => self.takes_at(call) && self.sessions.may_call(call),
+        }
+    }
+
+    fn takes_at(&self, call: &SessionCall) -> bool
+        ensures { IsTrue result ↔ Takes self.now.connection call.now }
+    {
+        match call {
+            SessionCall::Begin(_) => {
+                self.connection.kind() == PeerKind::Client && self.connection.has_connection()
+            }
+            SessionCall::Accept(_) => {
+                self.connection.kind() == PeerKind::Listener && self.connection.has_connection()
+            }
+            SessionCall::End { .. } => true,
+        }
+    }
+
+    /// Makes a call of this name at the moment `at`, in milliseconds, and then goes on until nothing more can be done. Want of
+    /// memory is final: each later call and poll answers `Failed`.
+    pub fn call(&mut self, at: u64, name: u64, call: Call) -> Result<(), EndError>
+        requires { MayAsk self.old name call }
+        ensures ok { OnOk result (Goes L.Link (record self.old { last = Some name }) self.new) }
+        ensures memory { OnErr result (self.new.failed ≡ true) }
+        ensures failed { IsErrOf result EndError.Failed ↔ (self.old.failed ≡ true) }
+    {
+        if self.failed {
+            discard(call);
+            return Err(EndError::Failed);
+        }
+        match self.make(at, name, call) {
+            Ok(()) => Ok(()),
+            Err(error) => {
+                self.failed = true;
+                Err(EndError::Memory(error))
+            }
+        }
+    }
+
+    fn make(&mut self, at: u64, name: u64, call: Call) -> Result<(), AllocError>
+        requires { MayAsk self.old name call }
+        ensures ok { OnOk result (Goes L.Link (record self.old { last = Some name }) self.new) }
+    {
+        self.last = Some(name);
+        match call {
+            Call::Connection(call) => self.call_connection(at, name, call),
+            Call::Session(call) => self.call_session(at, name, call),
+        }
+    }
+
+    /// Goes on at the moment `at`, in milliseconds, until nothing more can be done. Want of memory is final: each later call and
+    /// poll answers `Failed`.
+    pub fn poll(&mut self, at: u64) -> Result<(), EndError>
+        ensures ok { OnOk result (Goes L.Link self.old self.new) }
+        ensures memory { OnErr result (self.new.failed ≡ true) }
+        ensures failed { IsErrOf result EndError.Failed ↔ (self.old.failed ≡ true) }
+    {
+        if self.failed {
+            return Err(EndError::Failed);
+        }
+        match self.run(at) {
+            Ok(()) => Ok(()),
+            Err(error) => {
+                self.failed = true;
+                Err(EndError::Memory(error))
+            }
+        }
+    }
+
+    /// The replies since they were last taken out, in order.
+    pub fn replies(&mut self) -> Vec<NamedReply>
+        ensures taken { result.items ≡ self.old.replies.items }
+        ensures left { self.new.replies.items ≡ [] }
+        ensures connection { self.new.connection ≡ self.old.connection }
+        ensures sessions { self.new.sessions ≡ self.old.sessions }
+        ensures last { self.new.last ≡ self.old.last }
+        ensures alive { self.new.failed ≡ self.old.failed }
+    {
+        mem::replace(&mut self.replies, Vec::new(self.alloc))
+    }
+
+    /// The link.
+    pub fn link(&mut self) -> &mut L
+        ensures* writes_back { sem 𝓛 (Lends (the_row L.row L.Link) L.row self.entry result (λ w. record self.old { connection = with_link_of self.old.connection w })) }
+        ensures value { (d : L) → result.now ≡ link_of d self.old.connection }
+    {
+        self.connection.link()
+    }
+
+    /// The link, to be looked at.
+    pub fn link_ref(&self) -> &L
+        ensures { (d : L) → result.now ≡ link_of d self.now.connection }
+    {
+        self.connection.link_ref()
+    }
+}

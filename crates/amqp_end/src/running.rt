@@ -1,0 +1,181 @@
+//! How an end goes on: step by step of its connection, with what comes of each.
+ghost use Rattle.std.specs.Prelude.{◌≡◌, OnOk};
+ghost use Rattle.amqp_end.specs.Goes.{Goes, GoesOn};
+ghost use Rattle.amqp_peer.specs.Held.{IsLate};
+
+use crate::end::{End, memory_of};
+use amqp_calls::{NamedReply, Reply};
+use amqp_sessions::Waiting;
+use amqp_wire::link::Link;
+use amqp_words::ReplyList;
+use std::alloc::{AllocError, Global};
+
+/// The most steps of the connection in a call or a poll; each reads at most one frame.
+const STEPS_OF_CALL: u64 = 1 << 62;
+
+/// Answers of a connection among those of an end.
+fn add_replies(replies: &mut Vec<NamedReply>, connection: ReplyList) -> Result<(), AllocError> {
+    for answer in connection.into_vec() {
+        replies.push(NamedReply {
+            name: answer.name,
+            reply: Reply::Connection(answer.reply),
+        })?;
+    }
+    Ok(())
+}
+
+/// Adds answers behind others.
+fn append(replies: &mut Vec<NamedReply>, fresh: Vec<NamedReply>) -> Result<(), AllocError> {
+    for answer in fresh {
+        replies.push(answer)?;
+    }
+    Ok(())
+}
+
+impl<L: Link> End<L> {
+    /// Goes on until nothing more can be done.
+    pub(crate) fn run(&mut self, at: u64) -> Result<(), AllocError>
+        ensures { OnOk result (Goes L.Link self.old self.new) }
+    {
+        self.exchange(at)?;
+        self.steps(at)
+    }
+
+    /// Goes on with the exchange of headers, where the connection has not begun.
+    fn exchange(&mut self, at: u64) -> Result<(), AllocError>
+        ensures { OnOk result (Goes L.Link self.old self.new) }
+    {
+        if self.connection.is_running() {
+            return Ok(());
+        }
+        match self.connection.poll(at) {
+            Ok(()) => self.take_up(),
+            Err(error) => Err(memory_of(error)),
+        }
+    }
+
+    /// The connection goes on, step by step, until nothing more can be done.
+    pub(crate) fn steps(&mut self, at: u64) -> Result<(), AllocError>
+        ensures { OnOk result (Goes L.Link self.old self.new) }
+    {
+        if !self.connection.is_running() {
+            return Ok(());
+        }
+        let mut left = STEPS_OF_CALL;
+        'steps: while left > 0 {
+            left -= 1;
+            if !self.advance(at)? {
+                return Ok(());
+            }
+        }
+        Ok(())
+    }
+
+    /// One step of the connection, and what comes of it; whether another may follow.
+    fn advance(&mut self, at: u64) -> Result<bool, AllocError>
+        requires { IsLate self.old.connection.held }
+        ensures { OnOk result (GoesOn L.Link self.old self.new) }
+    {
+        match self.connection.step(at) {
+            Ok(more) => {
+                self.take_up()?;
+                Ok(more)
+            }
+            Err(error) => Err(memory_of(error)),
+        }
+    }
+
+    /// Takes up what the connection has read for the sessions, and writes what they say to it.
+    pub(crate) fn take_up(&mut self) -> Result<(), AllocError>
+        ensures { OnOk result (GoesOn L.Link self.old self.new) }
+    {
+        self.hear()?;
+        self.accept_waiting()?;
+        self.hand_over()?;
+        self.conclude()?;
+        self.collect()
+    }
+
+    /// The sessions hear the frames that the connection has read for them.
+    fn hear(&mut self) -> Result<(), AllocError>
+        ensures { OnOk result (GoesOn L.Link self.old self.new) }
+    {
+        'frames: while let Some(frame) = self.connection.take_incoming() {
+            self.sessions.on_frame(frame)?;
+        }
+        Ok(())
+    }
+
+    /// An `accept_session` that waits takes the first session that the peer has begun and that waits.
+    fn accept_waiting(&mut self) -> Result<(), AllocError>
+        ensures { OnOk result (GoesOn L.Link self.old self.new) }
+    {
+        let Some(Waiting::Accept(name, numbers)) = self.sessions.waiting() else {
+            return Ok(());
+        };
+        if !self.connection.is_open() || self.connection.incoming_session().is_none() {
+            return Ok(());
+        }
+        self.accept_first(name, numbers)?;
+        self.sessions.hand_out(name)
+    }
+
+    /// Gives the frames of the sessions to the connection, and their channels back.
+    pub(crate) fn hand_over(&mut self) -> Result<(), AllocError>
+        ensures { OnOk result (GoesOn L.Link self.old self.new) }
+    {
+        if !self.connection.is_running() {
+            return Ok(());
+        }
+        self.write()?;
+        self.give_back();
+        Ok(())
+    }
+
+    /// Gives the frames of the sessions to the connection.
+    fn write(&mut self) -> Result<(), AllocError>
+        requires { IsLate self.old.connection.held }
+        ensures { OnOk result (GoesOn L.Link self.old self.new) }
+    {
+        'frames: while let Some(frame) = self.sessions.take_output() {
+            match self.connection.send(frame) {
+                Ok(()) => {}
+                Err(error) => return Err(memory_of(error)),
+            }
+        }
+        Ok(())
+    }
+
+    /// Gives the channels of sessions that are ended back to the connection.
+    fn give_back(&mut self)
+        ensures { GoesOn L.Link self.old self.new }
+    {
+        'channels: while let Some(channel) = self.sessions.take_freed() {
+            self.connection.deallocate_session(channel);
+        }
+    }
+
+    /// Tells the sessions once that the connection has stopped.
+    fn conclude(&mut self) -> Result<(), AllocError>
+        ensures { OnOk result (GoesOn L.Link self.old self.new) }
+    {
+        if self.has_concluded {
+            return Ok(());
+        }
+        if let Some(reason) = self.connection.stop_reason() {
+            self.has_concluded = true;
+            self.sessions.conclude(reason)?;
+        }
+        Ok(())
+    }
+
+    /// Takes in the answers that are new, in the order of their names.
+    pub(crate) fn collect(&mut self) -> Result<(), AllocError>
+        ensures { OnOk result (GoesOn L.Link self.old self.new) }
+    {
+        let mut fresh = self.sessions.take_replies();
+        add_replies(&mut fresh, self.connection.replies())?;
+        fresh.sort_by_key(|answer| answer.name)?;
+        append(&mut self.replies, fresh)
+    }
+}
