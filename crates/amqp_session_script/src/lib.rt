@@ -1,0 +1,9 @@
+//! Scripts of connections and sessions, and the text of their traces.
+#![tactic(auto)]
+
+pub mod errors;
+pub mod keys;
+pub mod laws;
+pub mod line;
+pub mod script;
+pub mod trace_text;

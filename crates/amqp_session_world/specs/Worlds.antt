@@ -1,0 +1,7 @@
+-- Two ends with sessions, as a step sees them.
+use Rattle.amqp_session_world.specs.declared.world.SessionWorld.{SessionWorld}
+use Rattle.amqp_session_world.specs.Turn.{View}
+
+-- both ends, the entries of the steps made, and the moment of the last
+abbrev pub view_of : SessionWorld → View
+view_of w = record { client = w.client; listener = w.listener; entries = w.trace.entries.items; moment = w.moment }
