@@ -1,0 +1,6 @@
+pub mod Numbers
+pub mod Termini
+pub mod Faults
+pub mod Rules
+pub mod Link
+pub mod Accept

@@ -1,0 +1,201 @@
+//! A link endpoint: what it is built from, its queue, and what it tells of itself (OASIS AMQP 1.0, part 2, section 2.6).
+ghost use Rattle.std.specs.Prelude.{◌≡◌, ◌≤◌, ◌<◌, ◌+◌, map, Some, IfOk, OnOk};
+ghost use Rattle.std.specs.Option.{option_map};
+ghost use Rattle.amqp_link.specs.Link.{body_of, seen, spare, saying, TakesFrame, stopped, is_over, is_attached};
+
+use crate::error::AttachError;
+use amqp_data::Text;
+use amqp_frames::{LinkFrame, SessionStopReason};
+use amqp_performatives::attach::Attach;
+use amqp_performatives::detach::Detach;
+use std::alloc::{AllocError, Global};
+use std::collections::VecDeque;
+
+/// How far a link is (part 2, sections 2.6.3 to 2.6.6). A Detach of the peer is answered at once, so no phase stands for that time.
+#[derive(Clone, Copy, Debug, PartialEq, Eq)]
+pub enum LinkPhase {
+    /// This end has sent its Attach.
+    AttachSent,
+    /// The peer's Attach has no terminus for the link: its Detach has to come next.
+    DetachExpected,
+    /// This end has refused the link: its closing Detach was sent.
+    Refused,
+    /// Both ends have attached.
+    Attached,
+    /// This end has sent a closing Detach.
+    CloseSent,
+    /// Both ends have sent their Detach.
+    Detached,
+}
+
+/// How far an attach is.
+#[derive(Clone, Copy, Debug, PartialEq, Eq)]
+pub enum AttachPoll {
+    /// The peer's answer is awaited.
+    Pending,
+    /// Both ends have attached.
+    Done,
+}
+
+/// What both ends of a link have in common.
+pub struct LinkEndpoint {
+    pub(crate) alloc: Global,
+    /// What this end says of the link as it attaches, with what the peer has said since.
+    pub(crate) own: Attach,
+    /// Whether this end answers the peer's Attach with its own.
+    pub(crate) accepts: bool,
+    /// Whether it looks at the addresses of termini that are to be made.
+    pub(crate) verify: bool,
+    pub(crate) phase: LinkPhase,
+    /// The largest message, in bytes; 0 where there is no limit.
+    pub(crate) max_message_size: u64,
+    /// Whether both ends have attached, once.
+    pub(crate) is_made: bool,
+    /// Whether this end has closed the link.
+    pub(crate) is_closed: bool,
+    /// Why the link is not attached, until its caller was told.
+    pub(crate) failure: Option<AttachError>,
+    /// The Detach that was read of an attached link.
+    pub(crate) remote: Option<Detach>,
+    pub(crate) stop_reason: Option<SessionStopReason>,
+    /// The frames to be written, in order.
+    pub(crate) output: VecDeque<LinkFrame>,
+}
+
+// An endpoint is let go by a call, so that no caller sees what it holds.
+impl Drop for LinkEndpoint {
+    fn drop(self) {
+        let LinkEndpoint {
+            alloc: _,
+            own,
+            accepts: _,
+            verify: _,
+            phase: _,
+            max_message_size: _,
+            is_made: _,
+            is_closed: _,
+            failure,
+            remote,
+            stop_reason,
+            output,
+        } = self;
+        drop(own);
+        drop(failure);
+        drop(remote);
+        drop(stop_reason);
+        drop(output);
+    }
+}
+
+impl LinkEndpoint {
+    /// Makes room for so many frames.
+    pub fn make_room(&mut self, more: usize) -> Result<(), AllocError>
+        ensures same { seen self.new ≡ seen self.old }
+        ensures room { OnOk result (more ≤ spare self.new) }
+    {
+        self.output.reserve(more)
+    }
+
+    /// Queues a frame.
+    pub fn say(&mut self, frame: LinkFrame)
+        requires { 0 < spare self.old }
+        ensures state { seen self.new ≡ saying (body_of frame) (seen self.old) }
+        ensures room { spare self.new + 1 ≡ spare self.old }
+    {
+        self.output.push_back_reserved(frame);
+    }
+
+    /// The first frame to be written.
+    pub fn take_output(&mut self) -> Option<LinkFrame>
+        ensures { TakesFrame (seen self.old) (option_map body_of result) (seen self.new) }
+    {
+        self.output.pop_front()
+    }
+
+    /// The session has stopped. The first reason stays.
+    pub fn stop(&mut self, reason: SessionStopReason)
+        ensures state { seen self.new ≡ stopped reason (seen self.old) }
+        ensures room { spare self.new ≡ spare self.old }
+    {
+        if self.stop_reason.is_none() {
+            self.stop_reason = Some(reason);
+        }
+    }
+
+    /// The handle of this end.
+    pub fn handle(&self) -> u32
+        ensures { result ≡ (seen self.now).own.handle }
+    {
+        self.own.handle
+    }
+
+    /// The name of the link, lent.
+    pub fn name(&self) -> &Text
+        ensures { result.now ≡ (seen self.now).own.name }
+    {
+        &self.own.name
+    }
+
+    /// What the ends have said of the link, lent: the source and the modes of the sender, the target of the receiver.
+    pub fn terms(&self) -> &Attach
+        ensures { result.now ≡ (seen self.now).own }
+    {
+        &self.own
+    }
+
+    /// The largest message, in bytes; 0 where there is no limit.
+    pub fn max_message_size(&self) -> u64
+        ensures { result ≡ (seen self.now).max_message_size }
+    {
+        self.max_message_size
+    }
+
+    /// How far the link is.
+    pub fn phase(&self) -> LinkPhase
+        ensures { result ≡ (seen self.now).phase }
+    {
+        self.phase
+    }
+
+    /// Whether both ends have attached, and neither has detached.
+    pub fn is_attached(&self) -> bool
+        ensures { result ≡ is_attached (seen self.now).phase }
+    {
+        matches!(self.phase, LinkPhase::Attached)
+    }
+
+    /// Whether both ends have attached, once.
+    pub fn is_made(&self) -> bool
+        ensures { result ≡ (seen self.now).is_made }
+    {
+        self.is_made
+    }
+
+    /// Whether this end has closed the link.
+    pub fn is_closed(&self) -> bool
+        ensures { result ≡ (seen self.now).is_closed }
+    {
+        self.is_closed
+    }
+
+    /// Whether both ends have detached, so that the handle is free.
+    pub fn is_over(&self) -> bool
+        ensures { result ≡ is_over (seen self.now).phase }
+    {
+        matches!(self.phase, LinkPhase::Detached)
+    }
+
+    /// Why the session has stopped, if it has.
+    pub fn stop_reason(&self) -> Option<&SessionStopReason>
+        ensures { option_map (λ x. x.now) result ≡ (seen self.now).stop_reason }
+    {
+        self.stop_reason.as_ref()
+    }
+
+    /// The Detach that was read, lent, where the link had been attached.
+    pub fn remote_detach(&self) -> Option<&Detach>
+        ensures { option_map (λ x. x.now) result ≡ (seen self.now).remote }
+    {
+        self.remote.as_ref()
+    }
+}

@@ -1,0 +1,4 @@
+pub mod Receiver
+pub mod Receiving
+pub mod Disposing
+pub mod Delivering

@@ -1,0 +1,26 @@
+//! What a sender is built with (OASIS AMQP 1.0, part 2, section 2.7.3).
+use amqp_composites::modes::{ReceiverSettleMode, SenderSettleMode};
+use amqp_data::Text;
+
+/// What a sender says of its link as it attaches.
+#[derive(Drop)]
+pub struct SenderSettings {
+    /// The name of the link.
+    pub name: Text,
+    /// The address of the source, if it has one.
+    pub source: Option<Text>,
+    /// The address of the target, if it has one.
+    pub target: Option<Text>,
+    /// Whether the peer is to make the node of the target.
+    pub dynamic: bool,
+    /// When the sender settles.
+    pub snd_settle_mode: SenderSettleMode,
+    /// When the receiver settles.
+    pub rcv_settle_mode: ReceiverSettleMode,
+    /// The largest message, in bytes, where there is a limit.
+    pub max_message_size: Option<u64>,
+    /// Where the delivery-count begins.
+    pub initial_delivery_count: u32,
+    /// Whether the addresses of termini that are to be made are looked at in the answer.
+    pub verify: bool,
+}
