@@ -1,0 +1,6 @@
+pub mod Working
+pub mod Covering
+pub mod Settling
+pub mod Tags
+pub mod Counted
+pub mod Sending

@@ -1,0 +1,4 @@
+pub mod Deliveries
+pub mod Work
+pub mod Counts
+pub mod Ending

@@ -1,0 +1,5 @@
+pub mod Beginning
+pub mod Keeping
+pub mod Seating
+pub mod Opening
+pub mod Handing

@@ -1,0 +1,10 @@
+use Rattle.std.proofs.Common.{arith}
+use Rattle.book_lock.proofs.Keeping.{see_allows}
+use Rattle.book_lock.proofs.steps.see.Goals as goal
+
+pub load-requires : goal.load-requires
+load-requires g c = (
+  c.requires.table,
+  omega (arith, c.requires.words),
+  see_allows c.args.lock.now.table_id.slots c.args.place.now.id c.args.place.now.me,
+)

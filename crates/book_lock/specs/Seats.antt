@@ -1,0 +1,56 @@
+-- What the seats of a ticket desk keep.
+use Rattle.std.specs.Prelude.{◌≡◌, ℕ, ◌≤◌, List, [], ◌∷◌, ◌++◌, length}
+use Rattle.atomic_table.specs.Seated.{TableId}
+use Rattle.amqp_delivery.specs.declared.info.DisposerView.{DisposerView}
+use Rattle.book_history.specs.History.{Event}
+use Rattle.book_history.specs.Receipts.{Stand}
+use Rattle.book_history.specs.declared.entry.Receipt.{Receipt}
+use Rattle.book_lock.specs.declared.error.TicketError.{TicketError}
+use Rattle.book_lock.specs.declared.error.TicketError.TheVariants.{Memory, Full}
+use Rattle.book_lock.specs.Begins.{Begins}
+
+-- a seat: its number, its view, the receipts of its calls, the beginning of the history that it has seen, and its desk's table
+pub record Seat : Type 0 where
+  pub number : ℕ
+  pub view : DisposerView
+  pub receipts : List Receipt
+  pub front : List Event
+  pub table : TableId
+
+-- the same but for what was seen, which goes on from what was seen before
+pub record Keeps (old new : Seat) : Type 0 where
+  pub number : new.number ≡ old.number
+  pub view : new.view ≡ old.view
+  pub table : new.table ≡ old.table
+  pub receipts : new.receipts ≡ old.receipts
+  pub front : Begins old.front new.front
+
+-- a call was made: what was seen ends with its entry, at the place of its receipt, and goes on from what was seen before
+pub record Adds (old new : Seat) (r : Receipt) : Type 0 where
+  pub number : new.number ≡ old.number
+  pub view : new.view ≡ old.view
+  pub table : new.table ≡ old.table
+  pub receipts : new.receipts ≡ old.receipts ++ r ∷ []
+  pub before : List Event
+  pub goes_on : Begins old.front before
+  pub place : r.place ≡ length before
+  pub front : new.front ≡ before ++ r.entry ∷ []
+
+-- the desk is full only where the ticket is not below the number of calls
+abbrev pub IsFull : ℕ → TicketError → Type 0
+IsFull calls (Memory e) = Unit {0}
+IsFull calls (Full ticket) = calls ≤ ticket
+
+-- a seat that has seen nothing
+abbrev pub new_seat : DisposerView → ℕ → TableId → Seat
+new_seat view k table = record { number = k; view = view; receipts = []; front = []; table = table }
+
+-- all seats are of this table
+abbrev pub AllAt : TableId → List Seat → Type 0
+AllAt table [] = Unit {0}
+AllAt table (s ∷ ss) = (s.table ≡ table) × AllAt table ss
+
+-- the receipts of all seats stand in this history
+abbrev pub AllStand : List Event → List Seat → Type 0
+AllStand history [] = Unit {0}
+AllStand history (s ∷ ss) = Stand 0 history s.receipts × AllStand history ss
