@@ -1,1 +1,3 @@
+pub mod Script
 pub mod Program
+pub mod Show

@@ -3,25 +3,19 @@ use Rattle.std.specs.Prelude.{◌≡◌, List, ℕ, length, Option, Some, None, 
 use Rattle.list_laws.specs.Told.{Gains}
 use Rattle.amqp_wire.specs.declared.status.Status.{Status}
 use Rattle.amqp_wire.specs.declared.status.Status.TheVariants.{Done, Usage, BadScript, BadStep, Memory, ReadFault, WriteFault, TooLong}
-use Rattle.amqp_words.specs.declared.step.Step.{Step}
-use Rattle.amqp_words.specs.declared.trace.Entry.{Entry}
-use Rattle.amqp_world.specs.Explains.{past_of, Explained, AreMade, IsFirstInvalid}
-use Rattle.amqp_script.specs.Script.{Spells, IsFirstBad}
-use Rattle.amqp_script.specs.TraceText.{text_of}
+use Rattle.amqp_calls.specs.declared.step.Step.{Step}
+use Rattle.amqp_script_runs.specs.Runs.{IsTextFor, IsBadFor}
 use Rattle.amqp_streams.specs.Streams.{ReadsScript, WritesFront}
 use Rattle.amqp_requests.specs.Request.{Request, RunScript, DeriveKey, key_text}
+use Rattle.amqp_run.specs.Script.{Says, IsBadLine}
 
--- the text of a trace that explains the steps of the script that a source gave, and that the two ends made
+-- the text of a trace of the steps of the script that a source gave
 pub record IsRunText (left left' : Option (List ℕ)) (text : List ℕ) : Type 0 where
   pub script : List ℕ
   pub steps : List Step
-  pub entries : List Entry
   pub read : ReadsScript left left' script
-  pub spelled : Spells script steps
-  pub form : length entries ≡ length steps
-  pub explained : Explained (past_of steps entries)
-  pub made : AreMade steps entries
-  pub shown : text ≡ text_of entries
+  pub says : Says script steps
+  pub shown : IsTextFor steps text
 
 -- the text of a key; nothing is read for it
 abbrev pub IsAskedText : Option Request → Option (List ℕ) → Option (List ℕ) → List ℕ → Type 0
@@ -45,15 +39,15 @@ pub record WritesSome (IsText : List ℕ → Type 0) (written written' : Option 
 pub record HasBadLine (left left' : Option (List ℕ)) (line : ℕ) : Type 0 where
   pub script : List ℕ
   pub read : ReadsScript left left' script
-  pub bad : IsFirstBad script line
+  pub bad : IsBadLine script line
 
 -- the script that a source gave says steps of which this is the first that is not valid
 pub record HasBadStep (left left' : Option (List ℕ)) (index : ℕ) : Type 0 where
   pub script : List ℕ
   pub steps : List Step
   pub read : ReadsScript left left' script
-  pub spelled : Spells script steps
-  pub bad : IsFirstInvalid steps index
+  pub says : Says script steps
+  pub bad : IsBadFor steps index
 
 -- the program ended before it wrote
 abbrev pub IsUnwritten : Status → Type 0

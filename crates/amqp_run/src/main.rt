@@ -1,34 +1,69 @@
 //! Two ends of AMQP 1.0 in memory, driven by a script.
 //!
 //! `amqp_run world` reads a script from standard input, makes its steps and writes the text of the
-//! trace to standard output (both as the crate `amqp_script` says). `amqp_run kdf HASH ROUNDS LENGTH
-//! PASSWORD SALT` writes a key. `amqp_run decode` reads hexadecimal and writes the protocol headers and
-//! frames that it spells, a line each. A run that does not end with its whole text written says why in one
-//! line on standard error, and ends with the number of its status.
+//! trace to standard output (both as the crate `amqp_session_script` says). `amqp_run show` writes
+//! what both ends said, as lines of text, or with `--svg` as a picture. `amqp_run kdf HASH ROUNDS
+//! LENGTH PASSWORD SALT` writes a key. `amqp_run disposers N M` has threads settle deliveries.
+//! `amqp_run decode` reads hexadecimal and writes the protocol headers and frames that it spells, a
+//! line each. A run that does not end with its whole text written says why in one line on standard
+//! error, and ends with the number of its status.
 #![tactic(auto)]
 
+ghost use Rattle.std.specs.Prelude.{◌≤◌, ◌<◌, IfSome};
+
 pub mod program;
+pub mod script;
+pub mod show;
 
 use crate::program::run_program;
+use crate::show::{form_of, run_show};
 use amqp_decoder::ending::Ending;
 use amqp_decoder::run::run_decode;
+use amqp_disposers::{Ending as DisposersEnding, OpenGate, run_disposers};
+use amqp_script::script::number::number;
 use amqp_streams::standard::{StandardInput, StandardOutput};
 use amqp_text::Text;
 use amqp_wire::status::Status;
 use std::process::ExitCode;
 use std::rt::{Env, Runtime};
+use std::sync::Wait;
+use std::thread::Threads;
 use std::{env, fmt, io};
 
 const HELP: &str = "amqp_run world < SCRIPT
     reads a script, makes its steps and writes the text of the trace
+amqp_run show < SCRIPT
+    reads a script, makes its steps and writes what both ends said: each step
+    and its replies, and each protocol header and frame at the step that
+    ended it
+amqp_run show --svg < SCRIPT
+    writes the same as a picture, in Scalable Vector Graphics
 amqp_run decode < HEX
     reads the bytes of one direction of a connection in hexadecimal, with any
     white space, and writes its protocol headers and frames, a line each:
     offset and size in bytes, the channel, the name and the fields
+amqp_run disposers N M
+    has M threads (1 to 64) accept N deliveries (at most 10000) each, at one
+    settlement book under a lock; writes how many calls its history has, and
+    how many deliveries were settled
 amqp_run kdf HASH ROUNDS LENGTH PASSWORD SALT
     writes a key of PBKDF2 in hexadecimal; HASH is sha1, sha256 or sha512,
     ROUNDS below 2^32, LENGTH at most 4096 bytes
 amqp_run --help | --version
+
+A run that does not write its whole text says why on standard error, and ends
+with a number:
+     0  done
+     2  usage: the words are no command
+     3  bad script N: line N, from 1, is the first outside the grammar
+     4  bad step N: step N, from 0, is the first that is not valid
+     5  no memory
+     6  read fault
+     7  write fault
+     8  too long: more than 16777216 bytes came
+     9  differs: a receipt of a disposer is not in the history
+    11  bad bytes N: no header and no frame begins at byte N
+    12  no hexadecimal
 ";
 
 const VERSION: &str = "amqp_run 0.1.0
@@ -54,10 +89,12 @@ fn print(rt: &impl Print, text: &str) -> Status {
 /// How the process ends: its number, and the line for standard error where there is one.
 #[derive(Drop)]
 enum End {
-    /// Of any command but `decode`.
+    /// Of any command but `decode` and `disposers`.
     Program(Status),
     /// Of `decode`.
     Decoder(Ending),
+    /// Of `disposers`.
+    Disposers(DisposersEnding),
 }
 
 impl End {
@@ -65,6 +102,7 @@ impl End {
         match self {
             End::Program(status) => status.exit_code(),
             End::Decoder(ending) => ending.exit_code(),
+            End::Disposers(ending) => ending.exit_code(),
         }
     }
 }
@@ -74,11 +112,30 @@ impl fmt::Display for End {
         match self {
             End::Program(status) => write!(f, "{status}"),
             End::Decoder(ending) => write!(f, "{ending}"),
+            End::Disposers(ending) => write!(f, "{ending}"),
         }
     }
 }
 
-fn run(rt: &(impl Runtime + AllocGlobal), words: &[Text]) -> End {
+/// How many deliveries and workers the words behind `disposers` ask for: at most 10,000, and 1 to 64.
+fn crowd(words: &[Text]) -> Option<(u32, u32)>
+    ensures { IfSome result (λ c. (c.0 ≤ 10000) × (0 < c.1) × (c.1 ≤ 64)) }
+{
+    let [word, count, workers] = words else {
+        return None;
+    };
+    if word.as_str() != "disposers" {
+        return None;
+    }
+    let count = number(10_000, count.as_str().as_bytes())?;
+    let workers = number(64, workers.as_str().as_bytes())?;
+    if workers == 0 || workers > 64 || count > 10_000 {
+        return None;
+    }
+    Some((count as u32, workers as u32))
+}
+
+fn run(rt: &(impl Runtime + AllocGlobal + Threads + Wait + Sync), words: &[Text]) -> End {
     let mut source = StandardInput::new(rt.reader());
     let mut sink = StandardOutput::new(io::writer(rt));
     if let [word] = words {
@@ -88,6 +145,12 @@ fn run(rt: &(impl Runtime + AllocGlobal), words: &[Text]) -> End {
             "decode" => return End::Decoder(run_decode(rt.alloc(), &mut source, &mut sink)),
             _ => {}
         }
+    }
+    if let Some((count, workers)) = crowd(words) {
+        return End::Disposers(run_disposers(rt, &OpenGate, rt.alloc(), count, workers, &mut sink));
+    }
+    if let Some(form) = form_of(words) {
+        return End::Program(run_show(rt.alloc(), form, &mut source, &mut sink));
     }
     End::Program(run_program(rt.alloc(), words, &mut source, &mut sink))
 }

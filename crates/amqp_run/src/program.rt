@@ -5,14 +5,15 @@ ghost use Rattle.amqp_requests.specs.Request.{RunScript, request_in, text_of_key
 ghost use Rattle.amqp_streams.specs.Streams.{ReadsUpTo};
 ghost use Rattle.amqp_run.specs.Program.{IsRunText, IsAskedText, WritesAll, WritesSome, HasBadLine, HasBadStep, IsUnwritten};
 
+use crate::script::steps_of;
 use amqp_requests::command::{Command, read_command};
 use amqp_requests::key::{KeyRequest, key_line};
-use amqp_script::{ScriptError, parse, text};
+use amqp_script::ScriptError;
+use amqp_script_runs::{RunError, trace_text};
 use amqp_streams::outside::{ReadError, WriteError, read_all, write_all};
 use amqp_text::Text;
 use amqp_wire::source::{Sink, Source};
 use amqp_wire::status::Status;
-use amqp_world::{World, WorldError};
 use std::alloc::Global;
 
 /// The most bytes that a script may have.
@@ -48,19 +49,15 @@ fn run_world<S: Source, K: Sink>(alloc: Global, source: &mut S, sink: &mut K) ->
         Err(ReadError::Failed) => return Status::ReadFault,
         Err(ReadError::TooLong) => return Status::TooLong,
     };
-    let steps = match parse(alloc, script.as_slice()) {
+    let steps = match steps_of(alloc, script.as_slice()) {
         Ok(steps) => steps,
         Err(ScriptError::Memory(_)) => return Status::Memory,
         Err(ScriptError::Bad { line }) => return Status::BadScript { line },
     };
-    let trace = match World::run(alloc, steps.as_slice()) {
-        Ok(trace) => trace,
-        Err(WorldError::BadStep { index }) => return Status::BadStep { index },
-        Err(_) => return Status::Memory,
-    };
-    let text = match text(alloc, &trace) {
+    let text = match trace_text(alloc, steps.as_slice()) {
         Ok(text) => text,
-        Err(_) => return Status::Memory,
+        Err(RunError::BadStep { index }) => return Status::BadStep { index },
+        Err(RunError::Memory(_)) => return Status::Memory,
     };
     match write_all(sink, text.as_slice()) {
         Ok(()) => Status::Done,

@@ -1,7 +1,8 @@
 //! What comes of a script.
-use amqp_script::{ScriptError, parse, text};
+use amqp_script::ScriptError;
+use amqp_script_runs::{RunError, trace_text};
+use amqp_session_script::script::parse;
 use amqp_wire::status::Status;
-use amqp_world::{World, WorldError};
 use std::alloc::Global;
 
 /// The text of the trace of a script, or the status of its run.
@@ -11,13 +12,9 @@ pub fn outcome(alloc: Global, script: &[u8]) -> Result<Vec<u8>, Status> {
         Err(ScriptError::Memory(_)) => return Err(Status::Memory),
         Err(ScriptError::Bad { line }) => return Err(Status::BadScript { line }),
     };
-    let trace = match World::run(alloc, steps.as_slice()) {
-        Ok(trace) => trace,
-        Err(WorldError::BadStep { index }) => return Err(Status::BadStep { index }),
-        Err(_) => return Err(Status::Memory),
-    };
-    match text(alloc, &trace) {
+    match trace_text(alloc, steps.as_slice()) {
         Ok(text) => Ok(text),
-        Err(_) => Err(Status::Memory),
+        Err(RunError::BadStep { index }) => Err(Status::BadStep { index }),
+        Err(RunError::Memory(_)) => Err(Status::Memory),
     }
 }
