@@ -1,8 +1,7 @@
 -- An end with sessions goes on, one part after another.
 use Rattle.std.specs.Prelude.{OnOk}
-use Rattle.std.proofs.Common.{◌≡◌, ◌∙◌, ◌⊎◌, inl, inr, ℕ, List, [], ◌∷◌, ◌++◌, Bool, true, false, Option, Some, None, Result, Ok, Err, refl, sym, ap, subst}
+use Rattle.std.proofs.Common.{◌≡◌, ◌∙◌, inl, inr, ℕ, List, [], ◌∷◌, ◌++◌, Bool, true, false, Option, Some, Result, Ok, Err, refl, sym, ap, subst}
 use Rattle.amqp_wire.specs.declared.link.Link.{Ghosts}
-use Rattle.amqp_wire.specs.Events.{LinkEvent, Went}
 use Rattle.amqp_wire.proofs.Events.{went_then}
 use Rattle.amqp_frames.specs.declared.shared.IncomingSession.{IncomingSession}
 use Rattle.amqp_transport.specs.declared.frames.Frame.{Frame}
@@ -18,12 +17,15 @@ use Rattle.amqp_peer.specs.History.{Local}
 use Rattle.amqp_peer.specs.Peering.{Peering, link_of}
 use Rattle.amqp_peer.specs.Passing.{IsHeldAlone, TakesIncoming, TakesSession, AllocatesLate, freed_in, Passes, PassesIf, PassesLate}
 use Rattle.amqp_peer.specs.Runs.{Worked, Rested, Stepped}
-use Rattle.amqp_session.specs.State.{Framed}
+use Rattle.amqp_calls.specs.declared.call.SessionNumbers.{SessionNumbers}
+use Rattle.amqp_sessions.specs.Calls.{accepted}
+use Rattle.amqp_sessions.specs.Frames.{heard}
 use Rattle.amqp_sessions.specs.State.{State, seen, TakesFrame, TakesChannel}
 use Rattle.amqp_end.specs.declared.end.End.{End}
 use Rattle.amqp_peer.specs.Held.{link_at, IsLate}
-use Rattle.amqp_end.specs.Goes.{Passed, Moved, Goes, GoesOn}
-use Rattle.amqp_end.specs.Moves.{Move, Wrote, Freed, on, after, rest_of}
+use Rattle.amqp_end.specs.Goes.{Passed, Goes as Going, GoesOn}
+use Rattle.amqp_end.specs.Deeds.{Deed, Goes, Moves, Hears, Writes, Seats, Lacks, Frees, Accepts, Tells, IsDeed, Did, framed_of}
+use Rattle.amqp_end.specs.Moves.{Move, on}
 
 -- ---- the connection
 
@@ -80,33 +82,29 @@ freed_link d Moving channel = refl
 pub passed_freed : {L : Type 0} (link : Ghosts L) (a : Peering L) (channel : ℕ) → Passed link a (record a { held = freed_in a.held channel })
 passed_freed link a channel = passed_same link a (record a { held = freed_in a.held channel }) (λ d. freed_link d a.held channel) refl
 
--- ---- the sessions
+-- ---- what was done
 
-pub moved_none : (s : State) → Moved s s
-moved_none s = record { moves = []; runs = refl }
+did_none : {L : Type 0} (link : Ghosts L) (p : Peering L) (s : State) → Did link p s [] p s
+did_none link p s = (refl, refl)
 
-pub moved_one : (m : Move) (s t : State) → t ≡ on m s → Moved s t
-moved_one m s t h = record { moves = m ∷ []; runs = h }
+did_one : {L : Type 0} (link : Ghosts L) (d : Deed) (p p' : Peering L) (s s' : State) → IsDeed link p s d p' s' → Did link p s (d ∷ []) p' s'
+did_one link d p p' s s' h = (p, s, (refl, refl), h)
 
-after_then : (xs ys : List Move) (s : State) → after (ys ++ xs) s ≡ after ys (after xs s)
-after_then xs [] s = refl
-after_then xs (m ∷ ys) s = ap (on m) (after_then xs ys s)
-
-pub moved_then : (s t u : State) → Moved s t → Moved t u → Moved s u
-moved_then s t u x y = record {
-  moves = y.moves ++ x.moves;
-  runs = y.runs ∙ ap (after y.moves) x.runs ∙ sym (after_then x.moves y.moves s);
-}
+did_then : {L : Type 0} (link : Ghosts L) (p q r : Peering L) (s t u : State) (ds es : List Deed) → Did link p s ds q t → Did link q t es r u → Did link p s (es ++ ds) r u
+did_then {L} link p q r s t u ds [] x y =
+    subst (λ (z : Peering L). Did link p s ds z u) (sym y.0) (subst (λ (z : State). Did link p s ds q z) (sym y.1) x)
+did_then link p q r s t u ds (e ∷ es) x y = (y.0, y.1, did_then link p q y.0 s t y.1 ds es x y.2, y.3)
 
 -- ---- both
 
-pub goes_none : {L : Type 0} (link : Ghosts L) (a : End L) → Goes link a a
-goes_none link a = record { passed = passed_none link a.connection; moved = moved_none (seen a.sessions); last = refl; failed = refl }
+pub goes_none : {L : Type 0} (link : Ghosts L) (a : End L) → Going link a a
+goes_none link a = record { passed = passed_none link a.connection; deeds = []; did = did_none link a.connection (seen a.sessions); last = refl; failed = refl }
 
-pub goes_then : {L : Type 0} (link : Ghosts L) (a b c : End L) → Goes link a b → Goes link b c → Goes link a c
+pub goes_then : {L : Type 0} (link : Ghosts L) (a b c : End L) → Going link a b → Going link b c → Going link a c
 goes_then link a b c x y = record {
   passed = passed_then link a.connection b.connection c.connection x.passed y.passed;
-  moved = moved_then (seen a.sessions) (seen b.sessions) (seen c.sessions) x.moved y.moved;
+  deeds = y.deeds ++ x.deeds;
+  did = did_then link a.connection b.connection c.connection (seen a.sessions) (seen b.sessions) (seen c.sessions) x.deeds y.deeds x.did y.did;
   last = y.last ∙ x.last;
   failed = y.failed ∙ x.failed;
 }
@@ -117,24 +115,21 @@ on_none link a = record { goes = goes_none link a; late = λ h. h }
 pub on_then : {L : Type 0} (link : Ghosts L) (a b c : End L) → GoesOn link a b → GoesOn link b c → GoesOn link a c
 on_then link a b c x y = record { goes = goes_then link a b c x.goes y.goes; late = λ h. y.late (x.late h) }
 
+on_deed : {L : Type 0} (link : Ghosts L) (d : Deed) (a b : End L) → Passed link a.connection b.connection → IsDeed link a.connection (seen a.sessions) d b.connection (seen b.sessions) → (IsLate a.connection.held → IsLate b.connection.held) → b.last ≡ a.last → b.failed ≡ a.failed → GoesOn link a b
+on_deed link d a b p h late last failed = record {
+  goes = record { passed = p; deeds = d ∷ []; did = did_one link d a.connection b.connection (seen a.sessions) (seen b.sessions) h; last = last; failed = failed };
+  late = late;
+}
+
 -- the sessions alone make a move
 pub on_move : {L : Type 0} (link : Ghosts L) (m : Move) (a b : End L) → b.connection ≡ a.connection → seen b.sessions ≡ on m (seen a.sessions) → b.last ≡ a.last → b.failed ≡ a.failed → GoesOn link a b
-on_move {L} link m a b same h last failed = record {
-  goes = record {
-    passed = subst (λ (p : Peering L). Passed link a.connection p) (sym same) (passed_none link a.connection);
-    moved = moved_one m (seen a.sessions) (seen b.sessions) h;
-    last = last;
-    failed = failed;
-  };
-  late = λ l. subst (λ (p : Peering L). IsLate p.held) (sym same) l;
-}
+on_move {L} link m a b same h last failed =
+    on_deed link (Moves m) a b (subst (λ (p : Peering L). Passed link a.connection p) (sym same) (passed_none link a.connection)) (same, h)
+    (λ l. subst (λ (p : Peering L). IsLate p.held) (sym same) l) last failed
 
 -- the connection alone goes on
 pub on_connection : {L : Type 0} (link : Ghosts L) (a b : End L) → Passed link a.connection b.connection → (IsLate a.connection.held → IsLate b.connection.held) → seen b.sessions ≡ seen a.sessions → b.last ≡ a.last → b.failed ≡ a.failed → GoesOn link a b
-on_connection link a b p late h last failed = record {
-  goes = record { passed = p; moved = record { moves = []; runs = h }; last = last; failed = failed };
-  late = late;
-}
+on_connection link a b p late h last failed = on_deed link (Goes p.events) a b p (p.went, h) late last failed
 
 -- ---- what happens to a connection that has begun
 
@@ -173,20 +168,36 @@ allocated_link d (Unopened c) r h' t = absurd t
 allocated_link d Moving r h' t = absurd t
 allocated_link {L} d (Late s) r h' t = ap (λ (k : Held L). link_at d k) t.1 ∙ engine_allocated s r t.0 t.2
 
+abbrev seat_of : Result ℕ AllocSessionError → Deed
+seat_of (Ok channel) = Seats channel
+seat_of (Err e) = Lacks e
+
+seat_is : {L : Type 0} (link : Ghosts L) (r : Result ℕ AllocSessionError) (p p' : Peering L) (s s' : State) → AllocatesLate p.held r p'.held → IsHeldAlone p p' → s' ≡ s → IsDeed link p s (seat_of r) p' s'
+seat_is link (Ok channel) p p' s s' t h e = (t, h, e)
+seat_is link (Err x) p p' s s' t h e = (t, h, e)
+
 pub on_allocated : {L : Type 0} (link : Ghosts L) (r : Result ℕ AllocSessionError) (a b : End L) → AllocatesLate a.connection.held r b.connection.held → IsHeldAlone a.connection b.connection → seen b.sessions ≡ seen a.sessions → b.last ≡ a.last → b.failed ≡ a.failed → GoesOn link a b
-on_allocated link r a b t h =
-    on_connection link a b (passed_same link a.connection b.connection (λ d. allocated_link d a.connection.held r b.connection.held t) (held_kind a.connection b.connection h)) (λ l. allocated_late a.connection.held r b.connection.held t)
+on_allocated link r a b t h e =
+    on_deed link (seat_of r) a b (passed_same link a.connection b.connection (λ d. allocated_link d a.connection.held r b.connection.held t) (held_kind a.connection b.connection h))
+    (seat_is link r a.connection b.connection (seen a.sessions) (seen b.sessions) t h e) (λ l. allocated_late a.connection.held r b.connection.held t)
 
-pub on_incoming : {L : Type 0} (link : Ghosts L) (x : Option Frame) (a b : End L) → TakesIncoming a.connection.held x b.connection.held → IsHeldAlone a.connection b.connection → seen b.sessions ≡ seen a.sessions → b.last ≡ a.last → b.failed ≡ a.failed → GoesOn link a b
-on_incoming link x a b t h = on_connection link a b (passed_incoming link a.connection x b.connection t h) (incoming_late a.connection.held x b.connection.held t)
+-- a frame that was read is heard
+pub on_heard : {L : Type 0} (link : Ghosts L) (x : Frame) (a b : End L) → TakesIncoming a.connection.held (Some x) b.connection.held → IsHeldAlone a.connection b.connection → seen b.sessions ≡ heard (framed_of x) (seen a.sessions) → b.last ≡ a.last → b.failed ≡ a.failed → GoesOn link a b
+on_heard link x a b t h e = on_deed link (Hears x) a b (passed_incoming link a.connection (Some x) b.connection t h) (t, h, e) (incoming_late a.connection.held (Some x) b.connection.held t)
 
+-- no session waits
 pub on_session : {L : Type 0} (link : Ghosts L) (x : Option IncomingSession) (a b : End L) → TakesSession a.connection.held x b.connection.held → IsHeldAlone a.connection b.connection → seen b.sessions ≡ seen a.sessions → b.last ≡ a.last → b.failed ≡ a.failed → GoesOn link a b
 on_session link x a b t h = on_connection link a b (passed_session link a.connection x b.connection t h) (session_late a.connection.held x b.connection.held t)
 
+-- the first that waits is accepted
+pub on_accepted : {L : Type 0} (link : Ghosts L) (name : ℕ) (x : SessionNumbers) (channel limit : ℕ) (incoming : IncomingSession) (a b : End L) → TakesSession a.connection.held (Some incoming) b.connection.held → IsHeldAlone a.connection b.connection → seen b.sessions ≡ accepted name x channel limit incoming (seen a.sessions) → b.last ≡ a.last → b.failed ≡ a.failed → GoesOn link a b
+on_accepted link name x channel limit incoming a b t h e =
+    on_deed link (Accepts name x channel limit incoming) a b (passed_session link a.connection (Some incoming) b.connection t h) (t, h, e) (session_late a.connection.held (Some incoming) b.connection.held t)
+
 -- a channel is given back
-pub on_freed : {L : Type 0} (link : Ghosts L) (channel : ℕ) (a b : End L) → b.connection ≡ record a.connection { held = freed_in a.connection.held channel } → seen b.sessions ≡ seen a.sessions → b.last ≡ a.last → b.failed ≡ a.failed → GoesOn link a b
-on_freed {L} link channel a b h =
-    on_connection link a b (subst (λ (p : Peering L). Passed link a.connection p) (sym h) (passed_freed link a.connection channel))
+pub on_freed : {L : Type 0} (link : Ghosts L) (channel : ℕ) (a b : End L) → TakesChannel (seen a.sessions) (Some channel) (seen b.sessions) → b.connection ≡ record a.connection { held = freed_in a.connection.held channel } → b.last ≡ a.last → b.failed ≡ a.failed → GoesOn link a b
+on_freed {L} link channel a b t h =
+    on_deed link (Frees channel) a b (subst (λ (p : Peering L). Passed link a.connection p) (sym h) (passed_freed link a.connection channel)) (t, h)
     (λ l. subst (λ (p : Peering L). IsLate p.held) (sym h) (freed_late a.connection.held channel l))
 
 -- a frame is given to the connection
@@ -201,13 +212,14 @@ passed_late link (Unopened c) x a b h p = absurd p
 passed_late link Moving x a b h p = absurd p
 passed_late link (Late s) x a b h p = passed_if link (is_open s.phase) s x a b h p
 
-pub on_passed : {L : Type 0} (link : Ghosts L) (x : Frame) (a b : End L) → Passes x a.connection b.connection → IsLate b.connection.held → seen b.sessions ≡ seen a.sessions → b.last ≡ a.last → b.failed ≡ a.failed → GoesOn link a b
-on_passed link x a b p late = on_connection link a b (passed_late link a.connection.held x a.connection b.connection refl p) (λ l. late)
+pub on_wrote : {L : Type 0} (link : Ghosts L) (x : Frame) (a b : End L) → TakesFrame (seen a.sessions) (Some (framed_of x)) (seen b.sessions) → Passes x a.connection b.connection → IsLate b.connection.held → b.last ≡ a.last → b.failed ≡ a.failed → GoesOn link a b
+on_wrote link x a b t p late = on_deed link (Writes x) a b (passed_late link a.connection.held x a.connection b.connection refl p) (t, p) (λ l. late)
 
--- the answers of the connection are taken
-pub on_told : {L : Type 0} (link : Ghosts L) (a b : End L) → b.connection ≡ record a.connection { replies = [] } → seen b.sessions ≡ seen a.sessions → b.last ≡ a.last → b.failed ≡ a.failed → GoesOn link a b
-on_told {L} link a b h =
-    on_connection link a b (passed_same link a.connection b.connection (λ d. ap (λ (p : Peering L). link_of d p) h) (ap (λ (p : Peering L). p.kind) h)) (λ l. subst (λ (p : Peering L). IsLate p.held) (sym h) l)
+-- the answers of both are taken
+pub on_told : {L : Type 0} (link : Ghosts L) (a b : End L) → b.connection ≡ record a.connection { replies = [] } → seen b.sessions ≡ record (seen a.sessions) { replies = [] } → b.last ≡ a.last → b.failed ≡ a.failed → GoesOn link a b
+on_told {L} link a b h e =
+    on_deed link Tells a b (passed_same link a.connection b.connection (λ d. ap (λ (p : Peering L). link_of d p) h) (ap (λ (p : Peering L). p.kind) h)) (h, e)
+    (λ l. subst (λ (p : Peering L). IsLate p.held) (sym h) l)
 
 -- a step of the connection
 pub on_worked : {L : Type 0} (link : Ghosts L) (at n : ℕ) (a b : End L) → Worked link at n a.connection b.connection → IsLate b.connection.held → seen b.sessions ≡ seen a.sessions → b.last ≡ a.last → b.failed ≡ a.failed → GoesOn link a b
@@ -216,8 +228,10 @@ on_worked link at n a b w late = on_connection link a b (passed_worked link at n
 pub on_rested : {L : Type 0} (link : Ghosts L) (at n : ℕ) (a b : End L) → Rested link at n a.connection b.connection → IsLate b.connection.held → seen b.sessions ≡ seen a.sessions → b.last ≡ a.last → b.failed ≡ a.failed → GoesOn link a b
 on_rested link at n a b r late = on_connection link a b (passed_rested link at n a.connection b.connection r) (λ l. late)
 
-pub goes_stepped : {L : Type 0} (link : Ghosts L) (first : Local) (a b : End L) → Stepped link a.connection first b.connection → seen b.sessions ≡ seen a.sessions → b.last ≡ a.last → b.failed ≡ a.failed → Goes link a b
-goes_stepped link first a b s h last failed = record { passed = passed_stepped link a.connection first b.connection s; moved = record { moves = []; runs = h }; last = last; failed = failed }
+pub goes_stepped : {L : Type 0} (link : Ghosts L) (first : Local) (a b : End L) → Stepped link a.connection first b.connection → seen b.sessions ≡ seen a.sessions → b.last ≡ a.last → b.failed ≡ a.failed → Going link a b
+goes_stepped link first a b s h last failed =
+    let p = passed_stepped link a.connection first b.connection s in
+    record { passed = p; deeds = Goes p.events ∷ []; did = did_one link (Goes p.events) a.connection b.connection (seen a.sessions) (seen b.sessions) (p.went, h); last = last; failed = failed }
 
 pub on_ok : {A E X Y : Type 0} (r : Result A E) → (X → Y) → OnOk r X → OnOk r Y
 on_ok (Ok a) f x = f x
@@ -226,14 +240,6 @@ on_ok (Err e) f x = tt
 pub on_any : {A E X : Type 0} (r : Result A E) → X → OnOk r X
 on_any (Ok a) x = x
 on_any (Err e) x = tt
-
--- ---- what the end takes of its sessions
-
-pub wrote_move : (s t : State) (x : Framed) → TakesFrame s (Some x) t → t ≡ on Wrote s
-wrote_move s t x h = h.1 ∙ ap (λ (o : List Framed). record s { output = o }) (sym (ap (λ (o : List Framed). rest_of o) h.0))
-
-pub freed_move : (s t : State) (channel : ℕ) → TakesChannel s (Some channel) t → t ≡ on Freed s
-freed_move s t channel h = h.1 ∙ ap (λ (o : List ℕ). record s { freed = o }) (sym (ap (λ (o : List ℕ). rest_of o) h.0))
 
 -- a step of the connection, behind which another follows or none does
 pub on_step : {L : Type 0} (link : Ghosts L) (at : ℕ) (more : Bool) (a b : End L) → (◌≡◌ {A = Result Bool PeerError} (Ok more) (Ok true) → Worked link at 1 a.connection b.connection) → (◌≡◌ {A = Result Bool PeerError} (Ok more) (Ok false) → Rested link at 1 a.connection b.connection) → IsLate b.connection.held

@@ -4,9 +4,9 @@ use Rattle.amqp_wire.specs.declared.link.Link.{Ghosts}
 use Rattle.amqp_wire.specs.Events.{LinkEvent, Went}
 use Rattle.amqp_peer.specs.Held.{IsLate}
 use Rattle.amqp_peer.specs.Peering.{Peering, link_of}
-use Rattle.amqp_sessions.specs.State.{State, seen}
+use Rattle.amqp_sessions.specs.State.{seen}
 use Rattle.amqp_end.specs.declared.end.End.{End}
-use Rattle.amqp_end.specs.Moves.{Move, after}
+use Rattle.amqp_end.specs.Deeds.{Deed, Did}
 
 -- what passed at the link of a connection's end while it went on, by itself and for its sessions; which side it is stays
 pub record Passed {L : Type 0} (link : Ghosts L) (old new : Peering L) : Type 0 where
@@ -14,15 +14,13 @@ pub record Passed {L : Type 0} (link : Ghosts L) (old new : Peering L) : Type 0 
   pub went : (d : L) → Went link (link_of d old) events (link_of d new)
   pub kind : new.kind ≡ old.kind
 
--- the sessions made these moves
-pub record Moved (old new : State) : Type 0 where
-  pub moves : List Move
-  pub runs : new ≡ after moves old
-
--- an end went on: bytes passed at its link, and its sessions made moves
+-- An end went on: its connection and its sessions did this, one after another. Each frame that the sessions heard is one that the connection
+-- had read for them, in order, and each frame that they had to write was given to the connection, in order; channels come from it and go
+-- back to it.
 pub record Goes {L : Type 0} (link : Ghosts L) (old new : End L) : Type 0 where
   pub passed : Passed link old.connection new.connection
-  pub moved : Moved (seen old.sessions) (seen new.sessions)
+  pub deeds : List Deed
+  pub did : Did link old.connection (seen old.sessions) deeds new.connection (seen new.sessions)
   pub last : new.last ≡ old.last
   pub failed : new.failed ≡ old.failed
 

@@ -1,3 +1,4 @@
 pub mod Asks
 pub mod Moves
+pub mod Deeds
 pub mod Goes

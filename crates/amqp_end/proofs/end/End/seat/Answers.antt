@@ -13,3 +13,6 @@ returns-in_ok-refuse-in-Err-ChannelMaxReached g c = record {
       (on_allocated g.L.Link _ c.args.self.now (record c.args.self.now { connection = c.allocate_session.new.self }) c.allocate_session.ensures.allocates c.allocate_session.ensures.rest refl refl refl)
       (on_move g.L.Link (Refused c.args.name LocalChannelMaxReached) (record c.args.self.now { connection = c.allocate_session.new.self }) _ refl c.in_ok-refuse-in-Err-ChannelMaxReached.ensures refl refl);
 }
+
+pub returns-in-Ok : goal.returns-in-Ok
+returns-in-Ok g c = record { ok = on_allocated g.L.Link _ c.args.self.now _ c.allocate_session.ensures.allocates c.allocate_session.ensures.rest refl refl refl }

@@ -1,4 +1,4 @@
-use Rattle.amqp_end.proofs.Goes.{on_none, on_then}
+use Rattle.amqp_end.proofs.Goes.{on_then}
 use Rattle.amqp_end.proofs.end.End.steps.Goals as goal
 
 pub returns-then-not-branch : goal.returns-then-not-branch
