@@ -18,9 +18,9 @@ use Rattle.amqp_end.specs.Moves.{Move, on}
 abbrev pub framed_of : Frame → Framed
 framed_of x = record { channel = x.channel; body = x.body }
 
--- the connection goes on by itself; the sessions move by themselves; a frame that the connection has read for them is heard; a frame that
--- they have to write is given to the connection; a channel is taken, or there is none; a channel of a session that is ended is given back;
--- a session that the peer asks for is accepted; the answers of both are taken out
+-- the connection goes on by itself, of which its link alone is told; the sessions move by themselves; the first frame that waits for them at the
+-- connection is heard; the first that they have to write is given to it; a channel is taken, or there is none; a channel of a session that
+-- is ended is given back; a session that the peer asks for is accepted; the answers of both are taken out
 pub data Deed : Type 0 where
   Goes : List LinkEvent → Deed
   Moves : Move → Deed

@@ -14,9 +14,9 @@ pub record Passed {L : Type 0} (link : Ghosts L) (old new : Peering L) : Type 0 
   pub went : (d : L) → Went link (link_of d old) events (link_of d new)
   pub kind : new.kind ≡ old.kind
 
--- An end went on: its connection and its sessions did this, one after another. Each frame that the sessions heard is one that the connection
--- had read for them, in order, and each frame that they had to write was given to the connection, in order; channels come from it and go
--- back to it.
+-- An end went on: its connection and its sessions did this, one after another. Each frame that the sessions heard was the first that waited for
+-- them at the connection, and each frame that they had to write was given to it, in order. Of what the connection does by itself, its link
+-- alone is told; and not that the channel of a session is one that was taken for it.
 pub record Goes {L : Type 0} (link : Ghosts L) (old new : End L) : Type 0 where
   pub passed : Passed link old.connection new.connection
   pub deeds : List Deed
