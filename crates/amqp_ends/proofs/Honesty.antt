@@ -15,7 +15,7 @@ use Rattle.amqp_engine.specs.declared.error.Error.{Error as ConnectionFault}
 use Rattle.amqp_engine.specs.declared.error.Error.TheVariants as connection
 use Rattle.amqp_engine.specs.declared.phase.BodyKind.{BodyKind}
 use Rattle.amqp_engine.specs.declared.phase.BodyKind.TheVariants as kind
-use Rattle.amqp_engine.specs.Heard.{IsGreeted, IsRejected, IsStray}
+use Rattle.amqp_engine.specs.Heard.{IsRejected}
 use Rattle.amqp_engine.specs.Phases.{kind_of, IsInner}
 use Rattle.sasl_exchange.specs.declared.client.ClientExchange.TheVariants as client
 use Rattle.sasl_exchange.specs.declared.error.NegotiationError.{NegotiationError}
@@ -28,6 +28,7 @@ use Rattle.amqp_opening.specs.Authentication.{peer_mechanism}
 use Rattle.amqp_opening.specs.Opening.{IsOpeningCause, in_negotiation, at_amqp_header, at_plain_header}
 use Rattle.amqp_opening.specs.Opening.{at_link as at_plain_link}
 use Rattle.amqp_words.specs.declared.call.Call.{Call}
+use Rattle.amqp_words.specs.declared.open_error.OpenError.{OpenError}
 use Rattle.amqp_words.specs.declared.open_error.OpenError.TheVariants as failed
 use Rattle.amqp_words.specs.declared.reply.Reply.{Reply}
 use Rattle.amqp_words.specs.declared.reply.Reply.TheVariants as reply
@@ -38,11 +39,11 @@ use Rattle.amqp_peer.specs.History.{Local, Made, Polled, AtLink, Exchanged, Got,
 use Rattle.amqp_peer.proofs.Histories.{link_in-append, given_in-append}
 use Rattle.amqp_ends.specs.Honest.{IsHonest, IsHonestFault, IsHonestNegotiation, AllHonest}
 use Rattle.amqp_engine.specs.State.{IsFramed}
-use Rattle.amqp_ends.specs.Joined.{IsCalm, Meets}
+use Rattle.amqp_ends.specs.Joined.{IsCalm, Meets, MeetsUnstrayed}
 use Rattle.amqp_ends.proofs.Said.{said_tidy}
 use Rattle.amqp_ends.proofs.Hearing.{stream_at, hears, read_before, framed_behind}
 use Rattle.amqp_ends.proofs.Rests.{unspelled_not, foreign_not}
-use Rattle.amqp_ends.proofs.Tidy.{IsTidy, IsCalmKind, tidy_again, tidy_first, calm_last}
+use Rattle.amqp_ends.proofs.Tidy.{IsTidy, tidy_again, tidy_first}
 
 -- ---- the link
 
@@ -83,25 +84,23 @@ inner_not_open k i e = subst IsInner e i
 other_not : (given : List Frame) → IsTidy given → IsOther given → ⊥
 other_not given t o = inner_not_open (kind_of o.first.body) o.other (first_open o.first [] given t o.is)
 
-stray_not_calm : (k : BodyKind) → IsStray k → IsCalmKind k → ⊥
-stray_not_calm kind.Open s c = c
-stray_not_calm kind.Session s c = c
-stray_not_calm kind.Empty s c = s
-stray_not_calm kind.Close s c = s
+-- a frame that was rejected stays among those that were read
+rejected_among : (given before later all : List Frame) → given ≡ before ++ later → IsRejected before → (more : List Frame) → all ≡ given ++ more → HasStray all
+rejected_among given before later all e r more a = record {
+  front = r.front;
+  stray = r.last;
+  more = later ++ more;
+  before = r.before;
+  has_no_place = r.stray;
+  is = a ∙ ap (λ (u : List Frame). u ++ more) (e ∙ ap (λ (u : List Frame). u ++ later) r.is) ∙ ap (λ (u : List Frame). u ++ more) (append_assoc r.front (r.last ∷ []) later) ∙ append_assoc r.front (r.last ∷ later) more;
+}
 
--- no frame behind the Open is out of place
-no_stray : (front : List Frame) (x : Frame) (more : List Frame) → IsGreeted front → IsStray (kind_of x.body) → IsTidy (front ++ x ∷ more) → ⊥
-no_stray front x more g s t =
-    stray_not_calm (kind_of x.body) s (calm_last g.more x more (subst IsTidy (ap (λ (xs : List Frame). xs ++ x ∷ more) g.is) t).1)
-
-rejected_not : (given : List Frame) → IsTidy given → IsRejected given → ⊥
-rejected_not given t r = no_stray r.front r.last [] r.before r.stray (subst IsTidy r.is t)
+once_stray : (later h far : List Local) → MeetsUnstrayed (later ++ h) far → Once (λ g. IsRejected (given_in g)) h → ⊥
+once_stray later h far m o =
+    m.unstrayed (rejected_among (given_in h) (given_in o.earlier) (given_in o.later) (given_in (later ++ h)) (ap given_in o.split ∙ given_in-append o.later o.earlier) o.held (given_in later) (given_in-append later h))
 
 pub other_first_not : (given : List Frame) → IsTidy given → HasOtherFirst given → ⊥
 other_first_not given t o = inner_not_open (kind_of o.first.body) o.other (first_open o.first o.more given t o.is)
-
-pub stray_not : (given : List Frame) → IsTidy given → HasStray given → ⊥
-stray_not given t r = no_stray r.front r.stray r.more r.before r.has_no_place (subst IsTidy r.is t)
 
 -- ---- the transport
 
@@ -177,24 +176,28 @@ negotiation_honest negotiation.FramingError h c o = tt
 
 -- ---- replies
 
-connection_honest : (e : ConnectionFault) (later h far : List Local) → Meets (later ++ h) far → ConnectionCause e h → IsHonest (reply.ConnectionError e)
+connection_honest : (e : ConnectionFault) (later h far : List Local) → MeetsUnstrayed (later ++ h) far → ConnectionCause e h → IsHonest (reply.ConnectionError e)
 connection_honest (connection.Memory a) later h far m c = c
-connection_honest (connection.TransportError e) later h far m c = once_fault later h far m e c
-connection_honest connection.IllegalState later h far m c = once_tidy IsRejected rejected_not later h far m c
-connection_honest connection.NotImplemented later h far m c = once_tidy IsRejected rejected_not later h far m c
-connection_honest connection.NotFound later h far m c = once_tidy IsRejected rejected_not later h far m c
+connection_honest (connection.TransportError e) later h far m c = once_fault later h far m.meets e c
+connection_honest connection.IllegalState later h far m c = once_stray later h far m c
+connection_honest connection.NotImplemented later h far m c = once_stray later h far m c
+connection_honest connection.NotFound later h far m c = once_stray later h far m c
 connection_honest connection.RemoteClosed later h far m c = tt
 connection_honest (connection.RemoteClosedWithError e) later h far m c = tt
 
-reply_honest : (r : Reply) (later h far : List Local) → Meets (later ++ h) far → HasCause h r → IsHonest r
+-- an open or accept is refused honestly, whatever frames of sessions came
+pub opening_honest : (e : OpenError) (later h far : List Local) → Meets (later ++ h) far → HasCause h (reply.OpenError e) → IsHonest (reply.OpenError e)
+opening_honest (failed.Negotiation e) later h far m c = negotiation_honest e h (calm_before later h m.calm) c
+opening_honest (failed.TransportError e) later h far m c = once_fault later h far m e c
+opening_honest failed.RemoteClosed later h far m c = shut_not None (given_in h) (tidy_before later h far m) c
+opening_honest (failed.RemoteClosedWithError e) later h far m c = shut_not (Some e) (given_in h) (tidy_before later h far m) c
+opening_honest failed.IllegalState later h far m c = once_tidy IsOther other_not later h far m c
+
+reply_honest : (r : Reply) (later h far : List Local) → MeetsUnstrayed (later ++ h) far → HasCause h r → IsHonest r
 reply_honest reply.Pending later h far m c = tt
 reply_honest reply.Connection later h far m c = tt
 reply_honest reply.Closed later h far m c = tt
-reply_honest (reply.OpenError (failed.Negotiation e)) later h far m c = negotiation_honest e h (calm_before later h m.calm) c
-reply_honest (reply.OpenError (failed.TransportError e)) later h far m c = once_fault later h far m e c
-reply_honest (reply.OpenError failed.RemoteClosed) later h far m c = shut_not None (given_in h) (tidy_before later h far m) c
-reply_honest (reply.OpenError (failed.RemoteClosedWithError e)) later h far m c = shut_not (Some e) (given_in h) (tidy_before later h far m) c
-reply_honest (reply.OpenError failed.IllegalState) later h far m c = once_tidy IsOther other_not later h far m c
+reply_honest (reply.OpenError e) later h far m c = opening_honest e later h far m.meets c
 reply_honest (reply.ConnectionError e) later h far m c = connection_honest e later h far m c
 
 honest_join : (rs ss : List NamedReply) → AllHonest rs → AllHonest ss → AllHonest (rs ++ ss)
@@ -205,17 +208,17 @@ next : (later : List Local) (x : Local) (h : List Local) → later ++ x ∷ h �
 next later x h = sym (append_assoc later (x ∷ []) h)
 
 -- each reply to an end that meets another is honest
-replies_from : (later h far : List Local) → Meets (later ++ h) far → AllCaused h → AllHonest (replied_in h)
+replies_from : (later h far : List Local) → MeetsUnstrayed (later ++ h) far → AllCaused h → AllHonest (replied_in h)
 replies_from later [] far m c = tt
-replies_from later (Made at name call ∷ h) far m c = replies_from (later ++ Made at name call ∷ []) h far (subst (λ (g : List Local). Meets g far) (next later (Made at name call) h) m) c
-replies_from later (Polled at ∷ h) far m c = replies_from (later ++ Polled at ∷ []) h far (subst (λ (g : List Local). Meets g far) (next later (Polled at) h) m) c
-replies_from later (AtLink x ∷ h) far m c = replies_from (later ++ AtLink x ∷ []) h far (subst (λ (g : List Local). Meets g far) (next later (AtLink x) h) m) c
-replies_from later (Exchanged ∷ h) far m c = replies_from (later ++ Exchanged ∷ []) h far (subst (λ (g : List Local). Meets g far) (next later Exchanged h) m) c
-replies_from later (Got x ∷ h) far m c = replies_from (later ++ Got x ∷ []) h far (subst (λ (g : List Local). Meets g far) (next later (Got x) h) m) c
-replies_from later (Put x ∷ h) far m c = replies_from (later ++ Put x ∷ []) h far (subst (λ (g : List Local). Meets g far) (next later (Put x) h) m) c
+replies_from later (Made at name call ∷ h) far m c = replies_from (later ++ Made at name call ∷ []) h far (subst (λ (g : List Local). MeetsUnstrayed g far) (next later (Made at name call) h) m) c
+replies_from later (Polled at ∷ h) far m c = replies_from (later ++ Polled at ∷ []) h far (subst (λ (g : List Local). MeetsUnstrayed g far) (next later (Polled at) h) m) c
+replies_from later (AtLink x ∷ h) far m c = replies_from (later ++ AtLink x ∷ []) h far (subst (λ (g : List Local). MeetsUnstrayed g far) (next later (AtLink x) h) m) c
+replies_from later (Exchanged ∷ h) far m c = replies_from (later ++ Exchanged ∷ []) h far (subst (λ (g : List Local). MeetsUnstrayed g far) (next later Exchanged h) m) c
+replies_from later (Got x ∷ h) far m c = replies_from (later ++ Got x ∷ []) h far (subst (λ (g : List Local). MeetsUnstrayed g far) (next later (Got x) h) m) c
+replies_from later (Put x ∷ h) far m c = replies_from (later ++ Put x ∷ []) h far (subst (λ (g : List Local). MeetsUnstrayed g far) (next later (Put x) h) m) c
 replies_from later (Replied r ∷ h) far m c =
-    let n = subst (λ (g : List Local). Meets g far) (next later (Replied r) h) m in
+    let n = subst (λ (g : List Local). MeetsUnstrayed g far) (next later (Replied r) h) m in
     honest_join (replied_in h) (r ∷ []) (replies_from (later ++ Replied r ∷ []) h far n c.1) (reply_honest r.reply (later ++ Replied r ∷ []) h far n c.0, tt)
 
-pub honest_replies : (h far : List Local) → Meets h far → AllCaused h → AllHonest (replied_in h)
+pub honest_replies : (h far : List Local) → MeetsUnstrayed h far → AllCaused h → AllHonest (replied_in h)
 honest_replies h far m c = replies_from [] h far m c

@@ -6,6 +6,7 @@ pub mod Said
 pub mod Sizes
 pub mod Honesty
 pub mod Closes
+pub mod Streams
 pub mod Standing
 pub mod QuietFrames
 pub mod QuietEnds

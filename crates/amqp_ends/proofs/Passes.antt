@@ -22,15 +22,15 @@ use Rattle.amqp_peer.specs.Layers.{layer_in, HasExchange, HasLayer, IsResting}
 use Rattle.amqp_peer.specs.Replies.{pending, open_failed}
 use Rattle.amqp_peer.proofs.Histories.{made_in-append}
 use Rattle.amqp_ends.specs.Gates.{Agree}
-use Rattle.amqp_ends.specs.Honest.{AllHonest, IsHonest, IsHonestFault}
-use Rattle.amqp_ends.specs.Joined.{IsCalm}
+use Rattle.amqp_ends.specs.Honest.{IsHonest, IsHonestFault}
+use Rattle.amqp_ends.specs.Joined.{IsCalm, Meets}
 use Rattle.amqp_ends.specs.Passes.{AreAgreed, FacedOnce, FacedWhenTold, HasPassed, IsThrough}
 use Rattle.amqp_ends.specs.Standing.{IsVast, Stands, uncalled, in_headers, behind, parted, refused, broken, vast}
 use Rattle.amqp_ends.specs.Wants.{AreStill}
 use Rattle.amqp_ends.proofs.Agreed.{agreed_not, agreed_turned}
 use Rattle.amqp_ends.proofs.GateFair.{negotiation_fair, silence_fair}
 use Rattle.amqp_ends.proofs.Headers.{broken_header, fault_header, header_unread}
-use Rattle.amqp_ends.proofs.Honesty.{calm_before, honest_replies}
+use Rattle.amqp_ends.proofs.Honesty.{calm_before, opening_honest}
 use Rattle.amqp_ends.proofs.Quiet.{headers_do_not_wait, other_way}
 use Rattle.amqp_ends.proofs.QuietLayers.{asked_layer, heard_said, none_behind}
 use Rattle.amqp_ends.proofs.Wants.{IsTurnedDown, header_out, meets, meets_back, quiet, refused_called, was_called}
@@ -83,12 +83,6 @@ last_reply (Replied q ∷ h) rs r c e =
     let same = last_same (replied_in h) rs q r e in
     record { later = []; before = h; split = ap (λ (z : NamedReply). Replied z ∷ h) same; caused = subst (λ (z : NamedReply). HasCause h z.reply) same c.0 }
 
-first_honest : (r : NamedReply) → AllHonest (r ∷ []) → IsHonest r.reply
-first_honest r (a, b) = a
-
-second_honest : (r q : NamedReply) → AllHonest (r ∷ q ∷ []) → IsHonest q.reply
-second_honest r q (a, (b, c)) = b
-
 -- ---- an end that is refused has written its AMQP header
 
 module _ (h far : List Local) (left far_left : List ℕ) (a : AreStill h far left far_left) (agreed : Agree (layer_in (made_in h)) (layer_in (made_in far))) (faced : FacedWhenTold h far) where
@@ -119,13 +113,18 @@ module _ (h far : List Local) (left far_left : List ℕ) (a : AreStill h far lef
   opens name (failed.RemoteClosedWithError e) l k = absurd k
   opens name failed.IllegalState l k = absurd k
 
+  -- its refusal is honest
+  refused_honestly : (name : ℕ) (e : OpenError) (l : LastReply h (open_failed name e)) → IsHonest (reply.OpenError e)
+  refused_honestly name e l =
+      let told : Local = Replied (open_failed name e) in
+      opening_honest e (l.later ++ told ∷ []) l.before far (subst (λ (g : List Local). Meets g far) (l.split ∙ sym (append_assoc l.later (told ∷ []) l.before)) (meets h far left far_left a)) l.caused
+
+  refused_header : (name : ℕ) (e : OpenError) → LastReply h (open_failed name e) → HasHeader h
+  refused_header name e l = opens name e l (refused_honestly name e l)
+
   turned_down : IsTurnedDown h → HasHeader h
-  turned_down (none, (name, e, inl all)) =
-      let honest : AllHonest (pending name ∷ open_failed name e ∷ []) = subst AllHonest all.0 (honest_replies h far (meets h far left far_left a) a.answered.caused) in
-      opens name e (last_reply h (pending name ∷ []) (open_failed name e) a.answered.caused all.0) (second_honest (pending name) (open_failed name e) honest)
-  turned_down (none, (name, e, inr all)) =
-      let honest : AllHonest (open_failed name e ∷ []) = subst AllHonest all.0 (honest_replies h far (meets h far left far_left a) a.answered.caused) in
-      opens name e (last_reply h [] (open_failed name e) a.answered.caused all.0) (first_honest (open_failed name e) honest)
+  turned_down (none, (name, e, inl all)) = refused_header name e (last_reply h (pending name ∷ []) (open_failed name e) a.answered.caused all.0)
+  turned_down (none, (name, e, inr all)) = refused_header name e (last_reply h [] (open_failed name e) a.answered.caused all.0)
 
 -- ---- an AMQP header stands behind an exchange that has passed
 

@@ -10,11 +10,11 @@ use Rattle.amqp_engine.specs.declared.phase.BodyKind.{BodyKind}
 use Rattle.amqp_engine.specs.declared.phase.BodyKind.TheVariants as kind
 use Rattle.amqp_engine.specs.Phases.{kind_of}
 
--- a frame that may stand behind Open: it is empty, or a Close
+-- a frame that may stand behind Open: it is empty, of a session, or a Close
 abbrev pub IsCalmKind : BodyKind → Type 0
 IsCalmKind kind.Open = ⊥
 IsCalmKind kind.Close = Unit {0}
-IsCalmKind kind.Session = ⊥
+IsCalmKind kind.Session = Unit {0}
 IsCalmKind kind.Empty = Unit {0}
 
 abbrev pub AllCalm : List Frame → Type 0

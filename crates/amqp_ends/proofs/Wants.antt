@@ -2,6 +2,7 @@
 use Rattle.std.proofs.Common.{◌≡◌, ◌⊎◌, ◌≤◌, inl, inr, ℕ, List, [], ◌∷◌, ◌++◌, length, Option, Some, None, refl, sym, ap, ◌∙◌, subst, arith, append-nil}
 use Rattle.std.specs.Prelude.{map}
 use Rattle.amqp_composites.specs.declared.error.Error.{Error as AmqpError}
+use Rattle.amqp_frames.specs.declared.body.FrameBody.TheVariants.{Close as CloseBody}
 use Rattle.amqp_transport.specs.declared.frames.Frame.{Frame}
 use Rattle.amqp_transport.specs.Kinds.{amqp_again}
 use Rattle.amqp_engine.specs.Heard.{AllUnclosed}
@@ -26,9 +27,8 @@ use Rattle.amqp_ends.specs.Quiet.{Begins, BeginsIn, AreOpposite, IsQuiet}
 use Rattle.amqp_ends.specs.Standing.{Stands, uncalled, in_headers, behind, parted, refused, broken, vast}
 use Rattle.amqp_ends.specs.Wants.{IsAnswered, AreStill, LastCloses, HasRefused, HasFailed, own, other, many, IsEnded, failed, Wants}
 use Rattle.amqp_ends.specs.Wants.{refused as was_refused}
-use Rattle.amqp_ends.proofs.Closes.{closed_not, plain_unclosed, unclosed_given}
+use Rattle.amqp_ends.proofs.Closes.{closed_not, plain_unclosed}
 use Rattle.amqp_ends.proofs.Hearing.{hears}
-use Rattle.amqp_ends.proofs.Honesty.{tidy_given, other_first_not, stray_not}
 use Rattle.amqp_ends.proofs.QuietFrames.{all_taken, close_taken}
 use Rattle.amqp_ends.proofs.QuietLayers.{wrote_behind}
 use Rattle.amqp_ends.proofs.Quiet.{headers_do_not_wait, openings_do_not_wait, closes_do_not_wait}
@@ -102,17 +102,21 @@ meets_back h far left far_left a = record { calm = a.far_calm; tied = a.far_tied
 ends_closed : (sent : List Frame) → EndsWithClose sent → AllUnclosed sent → ⊥
 ends_closed sent e a = closed_not sent a (record { front = e.front; channel = e.channel; last = e.last; more = []; is = e.is })
 
--- where this end said none, it was called
-cause_called : (h far : List Local) (error : Option AmqpError) → Meets far h → AllUnclosed (sent_in h) → CloseCause (made_in far) (given_in far) error → LastCloses (made_in far)
-cause_called h far error m u (called name condition earlier is e) = (name, condition, earlier, is)
-cause_called h far error m u (answers c e) = absurd (closed_not (given_in far) (unclosed_given far h m u) c)
-cause_called h far error m u (mistaken o e) = absurd (other_first_not (given_in far) (tidy_given far h m) o)
-cause_called h far error m u (rejected s) = absurd (stray_not (given_in far) (tidy_given far h m) s)
+none_among : (front : List Frame) (x : Frame) (more : List Frame) → front ++ x ∷ more ≡ [] → ⊥
+none_among [] x more e = absurd (cc e)
+none_among (y ∷ front) x more e = absurd (cc e)
 
-parted_called : (h far : List Local) → Meets far h → AllUnclosed (sent_in h) → EndsWithClose (sent_in far) → HasSaid far → LastCloses (made_in far)
-parted_called h far m u e (inl none) = absurd (ends_closed (sent_in far) e (subst AllUnclosed (sym none) tt))
-parted_called h far m u e (inr (inl s)) = absurd (ends_closed (sent_in far) e (plain_unclosed (prepared_in (made_in far)) (sent_in far) s))
-parted_called h far m u e (inr (inr (front, error, s, is, cause))) = cause_called h far error m u cause
+-- where it was given nothing, it was called
+cause_called : (far : List Local) (error : Option AmqpError) → given_in far ≡ [] → CloseCause (made_in far) (given_in far) error → LastCloses (made_in far)
+cause_called far error g (called name condition earlier is e) = (name, condition, earlier, is)
+cause_called far error g (answers c e) = absurd (none_among c.front (record { channel = c.channel; body = CloseBody c.last }) c.more (sym c.is ∙ g))
+cause_called far error g (mistaken o e) = absurd (cc (sym o.is ∙ g))
+cause_called far error g (rejected s) = absurd (none_among s.front s.stray s.more (sym s.is ∙ g))
+
+parted_called : (far : List Local) → given_in far ≡ [] → EndsWithClose (sent_in far) → HasSaid far → LastCloses (made_in far)
+parted_called far g e (inl none) = absurd (ends_closed (sent_in far) e (subst AllUnclosed (sym none) tt))
+parted_called far g e (inr (inl s)) = absurd (ends_closed (sent_in far) e (plain_unclosed (prepared_in (made_in far)) (sent_in far) s))
+parted_called far g e (inr (inr (front, error, s, is, cause))) = cause_called far error g cause
 
 -- ---- an end that is over by its Close
 
@@ -158,8 +162,8 @@ parted_not : (h far : List Local) (left far_left : List ℕ) → AreStill h far 
 parted_not h far left far_left a u c =
     let m = meets_back h far left far_left a in
     let k = hears far h m.left m.tied m.far_tied m.reads in
-    unheard_connects far a.far_answered.caused (none_of k.first k.others (given_in far) (sym k.split ∙ u) k.items)
-    (far_connects h far a.kinds a.far_answered (parted_called h far m (subst AllUnclosed (sym u) tt) c a.far_said))
+    let none : given_in far ≡ [] = none_of k.first k.others (given_in far) (sym k.split ∙ u) k.items in
+    unheard_connects far a.far_answered.caused none (far_connects h far a.kinds a.far_answered (parted_called far none c a.far_said))
 
 -- nor where the other rests behind the headers, having read all
 closed_among : (h far : List Local) (left : List ℕ) → (r : RestsBehind h) → EndsWithClose (sent_in far) → IsAllOut far → IsTied far → left ≡ [] → read_in h ++ left ≡ wrote_in far → ⊥

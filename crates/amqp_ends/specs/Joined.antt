@@ -8,8 +8,8 @@ use Rattle.amqp_transport.specs.Kinds.{amqp_again}
 use Rattle.amqp_words.specs.declared.call.Call.{Call}
 use Rattle.amqp_peer.specs.Calls.{IsClose}
 use Rattle.amqp_peer.specs.Causes.{IsTied}
-use Rattle.amqp_peer.specs.History.{Local, link_in, read_in, wrote_in}
-use Rattle.amqp_peer.specs.Said.{HasSaid}
+use Rattle.amqp_peer.specs.History.{Local, link_in, given_in, read_in, wrote_in}
+use Rattle.amqp_peer.specs.Said.{HasSaid, HasStray}
 
 -- these events tell of a link that did not fail or fill, and whose input did not end
 pub record IsCalm (events : List LinkEvent) : Type 0 where
@@ -26,6 +26,11 @@ pub record Meets (h far : List Local) : Type 0 where
   pub far_said : HasSaid far
   pub left : List ℕ
   pub reads : read_in h ++ left ≡ wrote_in far
+
+-- the same, and no frame that the end was given is astray
+pub record MeetsUnstrayed (h far : List Local) : Type 0 where
+  pub meets : Meets h far
+  pub unstrayed : HasStray (given_in h) → ⊥
 
 -- the frames that were given are the first of those that were queued, as they are read again
 pub record Hears (given sent : List Frame) : Type 0 where

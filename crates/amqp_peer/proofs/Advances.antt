@@ -6,6 +6,7 @@ use Rattle.amqp_wire.specs.declared.link.Link.{Ghosts}
 use Rattle.amqp_wire.specs.declared.link.Stop.TheVariants.{Empty}
 use Rattle.amqp_wire.specs.Events.{LinkEvent, NotRead, NotWritten, Includes, Went, reads_in}
 use Rattle.amqp_wire.proofs.Events.{includes_left, went_then, reads_in-append}
+use Rattle.amqp_transport.specs.declared.frames.Frame.{Frame}
 use Rattle.amqp_transport.specs.Stream.{IsPart}
 use Rattle.amqp_transport.specs.Clocks.{IsDue as IsBeatDue}
 use Rattle.amqp_transport.specs.declared.heart_beat.HeartBeat.{HeartBeat}
@@ -14,6 +15,7 @@ use Rattle.amqp_engine.specs.declared.error.Error.{Error as ConnectionFault}
 use Rattle.amqp_engine.specs.declared.error.Error.TheVariants as connection
 use Rattle.amqp_engine.specs.declared.phase.Phase.{Phase}
 use Rattle.amqp_engine.specs.declared.phase.Phase.TheVariants as p
+use Rattle.amqp_engine.specs.Faults.{AllOwed}
 use Rattle.amqp_engine.specs.Outcomes.{IsOnward, IsWritten, Stepped as EngineStepped}
 use Rattle.amqp_engine.specs.Phases.{state_of, is_stopped, has_failed}
 use Rattle.amqp_engine.specs.Sentence.{Ran}
@@ -27,6 +29,7 @@ use Rattle.amqp_peer.specs.declared.held.Held.TheVariants.{Early, Late, Unopened
 use Rattle.amqp_peer.specs.declared.peer.Progress.{Progress}
 use Rattle.amqp_peer.specs.declared.peer.Progress.TheVariants as progress
 use Rattle.amqp_peer.specs.Causes.{BeginsWithOpen, HasCause}
+use Rattle.amqp_peer.specs.Frames.{sessions_of}
 use Rattle.amqp_peer.specs.Held.{IsAwaiting, IsLeaving, IsSound, IsLate, IsExchanged, IsBusy, IsActive, link_at, is_made, is_made_state, reason_of}
 use Rattle.amqp_peer.specs.History.{Local, Replied, made_in, link_in, given_in, sent_in, replied_in, moment_in, IsInside}
 use Rattle.amqp_peer.specs.Peering.{Peering, Has, HasIn, HasCalled, IsUnmade, IsUnmadeAt, IsMadeIn, IsFaultIn, IsWaiting, IsOpen, IsClosing, HasFailedOpen, HasClosed, IsBrokenIn, IsBrokenHeld, link_of}
@@ -43,6 +46,7 @@ use Rattle.amqp_peer.proofs.Beats.{IsTimed, timed}
 use Rattle.amqp_peer.proofs.Settled.{read_up_left, blocked_left}
 use Rattle.amqp_peer.proofs.Moved.{moved, passed, made_after, link_after, replied_after, running_grows}
 use Rattle.amqp_peer.proofs.Quiet.{quiet_replied, running_quiet, called_quiet, broken_quiet, fault_quiet}
+use Rattle.amqp_peer.proofs.Unsaid.{owed_unsaid, unsaid_join}
 use Rattle.amqp_peer.proofs.Written.{out_running}
 
 -- ---- runs of an end
@@ -53,11 +57,12 @@ record Moves {L : Type 0} (link : Ghosts L) (n : ℕ) (old new : Peering L) (es 
   pub went : (d : L) → Went link (link_of d old) (link_in es) (link_of d new)
   pub answered_is : replied_in es ≡ answers
   pub few : reads_in (link_in es) ≤ n
+  pub unsaid : sessions_of (sent_in es) ≡ []
 
 abbrev advanced : {L : Type 0} (link : Ghosts L) (at n : ℕ) (old new : Peering L) (es : List Local) (answers : List NamedReply) → Moves link n old new es answers → new.replies ≡ old.replies ++ answers → new.kind ≡ old.kind
     → ((h : List Local) → moment_in h ≡ at → Has old h → Has new (es ++ h)) → Advanced link at n old new
 advanced link at n old new es answers m a k g =
-    record { events = es; inside = m.inside; went = m.went; answers = a ∙ ap (λ (u : List NamedReply). old.replies ++ u) (sym m.answered_is); few = m.few; kind = k; grows = g }
+    record { events = es; inside = m.inside; went = m.went; answers = a ∙ ap (λ (u : List NamedReply). old.replies ++ u) (sym m.answered_is); few = m.few; unsaid = m.unsaid; kind = k; grows = g }
 
 -- the link went through what the engine's did
 pub went_late : {L : Type 0} (link : Ghosts L) (held held' : Held L) (s s' : State L) (r : Ran link s s') → held ≡ Late s → held' ≡ Late s' → (d : L) → Went link (link_at d held) (link_in (moved r)) (link_at d held')
@@ -66,17 +71,18 @@ went_late {L} link held held' s s' r e e' d =
     (subst (λ (x : L). Went link s.wire.codec.link (link_in (moved r)) x) (sym (ap (link_at d) e'))
     (subst (λ (es : List LinkEvent). Went link s.wire.codec.link es s'.wire.codec.link) (sym (passed r).link) r.went))
 
-moves : {L : Type 0} (link : Ghosts L) (n : ℕ) (old new : Peering L) (s s' : State L) (r : Ran link s s') → reads_in r.events ≤ n → old.held ≡ Late s → new.held ≡ Late s' → Moves link n old new (moved r) []
-moves link n old new s s' r f e e' =
+moves : {L : Type 0} (link : Ghosts L) (n : ℕ) (old new : Peering L) (s s' : State L) (r : Ran link s s') → reads_in r.events ≤ n → AllOwed s.phase r.queued → old.held ≡ Late s → new.held ≡ Late s' → Moves link n old new (moved r) []
+moves link n old new s s' r f o e e' =
     record {
       inside = (passed r).inside;
       went = went_late link old.held new.held s s' r e e';
       answered_is = (passed r).silent;
       few = subst (λ (es : List LinkEvent). reads_in es ≤ n) (sym (passed r).link) f;
+      unsaid = ap sessions_of (passed r).said ∙ owed_unsaid s.phase r.queued o;
     }
 
 moves_answer : {L : Type 0} (link : Ghosts L) (n : ℕ) (old new : Peering L) (es : List Local) (answer : NamedReply) → Moves link n old new es [] → Moves link n old new (Replied answer ∷ es) (answer ∷ [])
-moves_answer link n old new es answer m = record { inside = m.inside; went = m.went; answered_is = ap (λ (u : List NamedReply). u ++ answer ∷ []) m.answered_is; few = m.few }
+moves_answer link n old new es answer m = record { inside = m.inside; went = m.went; answered_is = ap (λ (u : List NamedReply). u ++ answer ∷ []) m.answered_is; few = m.few; unsaid = m.unsaid }
 
 -- so many frames were read or queued
 worked_frames : {L : Type 0} {link : Ghosts L} {s s' : State L} (r : Ran link s s') → 1 ≤ length r.given + length r.queued → 1 ≤ length (given_in (moved r)) + length (sent_in (moved r))
@@ -99,7 +105,7 @@ pub pending_rests : {L : Type 0} (link : Ghosts L) (at : ℕ) (old : Peering L) 
 pending_rests link at old s s' e part awaits st =
     let r = st.run in
     record {
-      run = advanced link at 1 old (record old { held = Late s' }) (moved r) [] (moves link 1 old (record old { held = Late s' }) s s' r st.few e refl) (sym (append-nil old.replies)) refl
+      run = advanced link at 1 old (record old { held = Late s' }) (moved r) [] (moves link 1 old (record old { held = Late s' }) s s' r st.few st.owed e refl) (sym (append-nil old.replies)) refl
           (λ h t x. moves_in link at old.progress old s s' old.fault h r (timed link at s _ s' st) (inl st.owed) t e
           (λ call k prep u. unmade_same link call old.fault s s' h r (λ z. absurd (cc (failed_stops s.phase z, ap is_stopped st.told.phase, st.told.live))) k st.told.phase u)
           (λ call k prep o f. fault_same old.fault s s' h r (λ z. absurd (cc (failed_stops s.phase z, ap is_stopped st.told.phase, st.told.live))) st.told.phase f)
@@ -130,7 +136,7 @@ failed_advances link at old s s' e l st n sound leaves =
     let r = st.run in
     let new = record old { held = Late s'; fault = first_fault old.fault e } in
     record {
-      run = advanced link at 1 old new (moved r) [] (moves link 1 old new s s' r st.few l refl) (sym (append-nil old.replies)) refl
+      run = advanced link at 1 old new (moved r) [] (moves link 1 old new s s' r st.few st.owed l refl) (sym (append-nil old.replies)) refl
           (λ h t x. moves_in link at old.progress old s s' (first_fault old.fault e) h r (timed link at s _ s' st) (inl st.owed) t l
           (λ call k prep u. unmade_failed link at call old.fault e s s' h st k prep t n u)
           (λ call k prep o f. fault_failed link at call old.fault e s s' h st k o prep t n f) (λ call k prep b. breaks link at call e s s' h st k prep t n) leaves x);
@@ -165,7 +171,7 @@ pub worked_same : {L : Type 0} (link : Ghosts L) (at : ℕ) (old : Peering L) (s
 worked_same link at old s s' e st l n =
     let r = st.run in
     record {
-      run = advanced link at 1 old (record old { held = Late s' }) (moved r) [] (moves link 1 old (record old { held = Late s' }) s s' r st.few e refl) (sym (append-nil old.replies)) refl
+      run = advanced link at 1 old (record old { held = Late s' }) (moved r) [] (moves link 1 old (record old { held = Late s' }) s s' r st.few st.owed e refl) (sym (append-nil old.replies)) refl
           (λ h t x. worked_has link at old.progress old s s' h r (timed link at s _ s' st) (inl st.owed) t e st.told.onward l n x);
       frames = λ a. worked_frames r st.told.worked;
       most = omega arith;
@@ -207,7 +213,7 @@ worked_made {L} link at old s s' e st q n =
     let r = st.run in
     let new = greeted_if true (record old { held = Late s' }) in
     record {
-      run = advanced link at 1 old new (Replied (made_reply old.name) ∷ moved r) (made_reply old.name ∷ []) (moves_answer link 1 old new (moved r) (made_reply old.name) (moves link 1 old new s s' r st.few e refl)) refl refl
+      run = advanced link at 1 old new (Replied (made_reply old.name) ∷ moved r) (made_reply old.name ∷ []) (moves_answer link 1 old new (moved r) (made_reply old.name) (moves link 1 old new s s' r st.few st.owed e refl)) refl refl
           (λ h t x. made_has link at old s s' h st t e n (subst (λ (z : Progress). HasIn z old h) q x));
       frames = λ a. worked_frames r st.told.worked;
       most = omega arith;
@@ -289,7 +295,7 @@ flushed {L} {link} {s} {s'} r w = subst (λ (es : List LinkEvent). IsWritten s'.
 stopped_quiet : {L : Type 0} (link : Ghosts L) (at : ℕ) (old : Peering L) (s s' : State L) → old.held ≡ Late s → (CallWaits old.progress → ⊥) → (st : EngineStepped link at s (Ok step.Stopped) s') → (has_failed s.phase ≡ true → st.run.given ≡ []) → Rested link at 1 old (record old { held = Late s' })
 stopped_quiet link at old s s' e waits st n =
     record {
-      run = advanced link at 1 old (record old { held = Late s' }) (moved st.run) [] (moves link 1 old (record old { held = Late s' }) s s' st.run st.few e refl) (sym (append-nil old.replies)) refl
+      run = advanced link at 1 old (record old { held = Late s' }) (moved st.run) [] (moves link 1 old (record old { held = Late s' }) s s' st.run st.few st.owed e refl) (sym (append-nil old.replies)) refl
           (λ h t x. stopped_has link at old.progress old s s' h st n t e x);
       settled = λ a. absurd (not_active s' st.told.stopped a);
       concluded = λ a. inl (waits, flushed st.run st.told.written);
@@ -302,7 +308,7 @@ stopped_answered : {L : Type 0} (link : Ghosts L) (at : ℕ) (old : Peering L) (
 stopped_answered link at old s s' answer e st g =
     let new = finished (record old { held = Late s' }) answer in
     record {
-      run = advanced link at 1 old new (Replied (answered old.name answer) ∷ moved st.run) (answered old.name answer ∷ []) (moves_answer link 1 old new (moved st.run) (answered old.name answer) (moves link 1 old new s s' st.run st.few e refl)) refl refl g;
+      run = advanced link at 1 old new (Replied (answered old.name answer) ∷ moved st.run) (answered old.name answer ∷ []) (moves_answer link 1 old new (moved st.run) (answered old.name answer) (moves link 1 old new s s' st.run st.few st.owed e refl)) refl refl g;
       settled = λ a. absurd (not_active s' st.told.stopped a);
       concluded = λ a. inl (λ w. w, flushed st.run st.told.written);
       begun = λ x. x;
@@ -338,6 +344,66 @@ greets_in link at progress.Over old s s' p e st l = worked_same link at old s s'
 pub worked_advances : {L : Type 0} (link : Ghosts L) (at : ℕ) (old : Peering L) (s s' : State L) → old.held ≡ Late s → EngineStepped link at s (Ok step.Worked) s' → (IsLeaving s.phase → IsLeaving s'.phase) → Worked link at 1 old (greeted (record old { held = Late s' }))
 worked_advances link at old s s' e st l = greets_in link at old.progress old s s' refl e st l
 
+-- the frames of a step that worked
+pub record Shows {L : Type 0} (link : Ghosts L) (at : ℕ) (given queued : List Frame) (old new : Peering L) : Type 0 where
+  pub run : Worked link at 1 old new
+  pub given_is : given_in run.run.events ≡ given
+  pub sent_is : sent_in run.run.events ≡ queued
+
+shows_same : {L : Type 0} (link : Ghosts L) (at : ℕ) (old : Peering L) (s s' : State L) → old.held ≡ Late s → (st : EngineStepped link at s (Ok step.Worked) s') → (IsLeaving s.phase → IsLeaving s'.phase) → (old.progress ≡ progress.Opening → is_made_state (state_of s'.phase) ≡ false)
+    → Shows link at st.run.given st.run.queued old (record old { held = Late s' })
+unfolding worked_same
+shows_same link at old s s' e st l n = record { run = worked_same link at old s s' e st l n; given_is = (passed st.run).heard; sent_is = (passed st.run).said }
+
+shows_made : {L : Type 0} (link : Ghosts L) (at : ℕ) (old : Peering L) (s s' : State L) → old.held ≡ Late s → (st : EngineStepped link at s (Ok step.Worked) s') → old.progress ≡ progress.Opening → is_made_state (state_of s'.phase) ≡ true
+    → Shows link at st.run.given st.run.queued old (greeted_if true (record old { held = Late s' }))
+unfolding worked_made
+shows_made link at old s s' e st q n = record { run = worked_made link at old s s' e st q n; given_is = (passed st.run).heard; sent_is = (passed st.run).said }
+
+shows_if : {L : Type 0} (link : Ghosts L) (at : ℕ) (b : Bool) (old : Peering L) (s s' : State L) → old.progress ≡ progress.Opening → old.held ≡ Late s → (st : EngineStepped link at s (Ok step.Worked) s') → (IsLeaving s.phase → IsLeaving s'.phase) → is_made_state (state_of s'.phase) ≡ b → Shows link at st.run.given st.run.queued old (greeted_if b (record old { held = Late s' }))
+shows_if link at true old s s' p e st l n = shows_made link at old s s' e st p n
+shows_if link at false old s s' p e st l n = shows_same link at old s s' e st l (λ z. n)
+
+shows_in : {L : Type 0} (link : Ghosts L) (at : ℕ) (q : Progress) (old : Peering L) (s s' : State L) → old.progress ≡ q → old.held ≡ Late s → (st : EngineStepped link at s (Ok step.Worked) s') → (IsLeaving s.phase → IsLeaving s'.phase) → Shows link at st.run.given st.run.queued old (greeted_in q (record old { held = Late s' }))
+shows_in link at progress.Idle old s s' p e st l = shows_same link at old s s' e st l (λ z. absurd (cc (p, z)))
+shows_in link at progress.Opening old s s' p e st l = shows_if link at (is_made_state (state_of s'.phase)) old s s' p e st l refl
+shows_in link at progress.Open old s s' p e st l = shows_same link at old s s' e st l (λ z. absurd (cc (p, z)))
+shows_in link at progress.Closing old s s' p e st l = shows_same link at old s s' e st l (λ z. absurd (cc (p, z)))
+shows_in link at progress.Over old s s' p e st l = shows_same link at old s s' e st l (λ z. absurd (cc (p, z)))
+
+pub worked_shows : {L : Type 0} (link : Ghosts L) (at : ℕ) (old : Peering L) (s s' : State L) → old.held ≡ Late s → (st : EngineStepped link at s (Ok step.Worked) s') → (IsLeaving s.phase → IsLeaving s'.phase) → Shows link at st.run.given st.run.queued old (greeted (record old { held = Late s' }))
+worked_shows link at old s s' e st l = shows_in link at old.progress old s s' refl e st l
+
+pub failed_shows : {L : Type 0} (link : Ghosts L) (at : ℕ) (old : Peering L) (s s' : State L) (e : ConnectionFault) → old.held ≡ Late s → (st : EngineStepped link at s (Err e) s') → ((x : _) → e ≡ connection.Memory x → ⊥) → has_failed s.phase ≡ false → (IsLeaving s.phase → IsLeaving s'.phase)
+    → Shows link at st.run.given st.run.queued old (record old { held = Late s'; fault = first_fault old.fault e })
+unfolding failed_advances
+failed_shows link at old s s' e l st n sound leaves = record { run = failed_advances link at old s s' e l st n sound leaves; given_is = (passed st.run).heard; sent_is = (passed st.run).said }
+
+-- the frames of a step that rests
+pub record Rests {L : Type 0} (link : Ghosts L) (at : ℕ) (given queued : List Frame) (old new : Peering L) : Type 0 where
+  pub run : Rested link at 1 old new
+  pub given_is : given_in run.run.events ≡ given
+  pub sent_is : sent_in run.run.events ≡ queued
+
+pub pending_shows : {L : Type 0} (link : Ghosts L) (at : ℕ) (old : Peering L) (s s' : State L) → old.held ≡ Late s → IsPart s'.wire.codec.input → IsAwaiting s'.phase → (st : EngineStepped link at s (Ok step.Pending) s') → Rests link at st.run.given st.run.queued old (record old { held = Late s' })
+unfolding pending_rests
+pending_shows link at old s s' e part awaits st = record { run = pending_rests link at old s s' e part awaits st; given_is = (passed st.run).heard; sent_is = (passed st.run).said }
+
+stopped_shows_quiet : {L : Type 0} (link : Ghosts L) (at : ℕ) (old : Peering L) (s s' : State L) → old.held ≡ Late s → (CallWaits old.progress → ⊥) → (st : EngineStepped link at s (Ok step.Stopped) s') → (has_failed s.phase ≡ true → st.run.given ≡ []) → Rests link at st.run.given st.run.queued old (record old { held = Late s' })
+unfolding stopped_quiet
+stopped_shows_quiet link at old s s' e waits st n = record { run = stopped_quiet link at old s s' e waits st n; given_is = (passed st.run).heard; sent_is = (passed st.run).said }
+
+stopped_shows_in : {L : Type 0} (link : Ghosts L) (at : ℕ) (q : Progress) (old : Peering L) (s s' : State L) (e : old.progress ≡ q) → old.held ≡ Late s → (st : EngineStepped link at s (Ok step.Stopped) s') → (has_failed s.phase ≡ true → st.run.given ≡ []) → Rests link at st.run.given st.run.queued old (concluded_in q (record old { held = Late s' }))
+unfolding stopped_in stopped_answered stopped_quiet
+stopped_shows_in link at progress.Idle old s s' p e st n = record { run = stopped_in link at progress.Idle old s s' p e st n; given_is = (passed st.run).heard; sent_is = (passed st.run).said }
+stopped_shows_in link at progress.Opening old s s' p e st n = record { run = stopped_in link at progress.Opening old s s' p e st n; given_is = (passed st.run).heard; sent_is = (passed st.run).said }
+stopped_shows_in link at progress.Open old s s' p e st n = record { run = stopped_in link at progress.Open old s s' p e st n; given_is = (passed st.run).heard; sent_is = (passed st.run).said }
+stopped_shows_in link at progress.Closing old s s' p e st n = record { run = stopped_in link at progress.Closing old s s' p e st n; given_is = (passed st.run).heard; sent_is = (passed st.run).said }
+stopped_shows_in link at progress.Over old s s' p e st n = record { run = stopped_in link at progress.Over old s s' p e st n; given_is = (passed st.run).heard; sent_is = (passed st.run).said }
+
+pub stopped_shows : {L : Type 0} (link : Ghosts L) (at : ℕ) (old : Peering L) (s s' : State L) → old.held ≡ Late s → (st : EngineStepped link at s (Ok step.Stopped) s') → (has_failed s.phase ≡ true → st.run.given ≡ []) → Rests link at st.run.given st.run.queued old (concluded (record old { held = Late s' }))
+stopped_shows link at old s s' e st n = stopped_shows_in link at old.progress old s s' refl e st n
+
 -- ---- steps after steps
 
 abbrev pub advanced_then : {L : Type 0} (link : Ghosts L) (at m n : ℕ) (P : List Local → Type 0) (a b c : Peering L) → AdvancedFrom link at m P a b → Advanced link at n b c → AdvancedFrom link at (m + n) P a c
@@ -348,30 +414,31 @@ advanced_then {L} link at m n P a b c x y =
       went = λ d. subst (λ (es : List LinkEvent). Went link (link_of d a) es (link_of d c)) (sym (link_in-append y.events x.events)) (went_then link (link_of d a) (link_of d b) (link_of d c) (link_in x.events) (link_in y.events) (x.went d) (y.went d));
       answers = y.answers ∙ ap (λ (u : List NamedReply). u ++ replied_in y.events) x.answers ∙ append_assoc a.replies (replied_in x.events) (replied_in y.events) ∙ ap (λ (u : List NamedReply). a.replies ++ u) (sym (replied_in-append y.events x.events));
       few = let z = ap reads_in (link_in-append y.events x.events) ∙ reads_in-append (link_in y.events) (link_in x.events) in omega (arith, z, x.few, y.few);
+      unsaid = unsaid_join y.events x.events y.unsaid x.unsaid;
       kind = y.kind ∙ x.kind;
       grows = λ h t p. subst (λ (u : List Local). Has c u) (sym (append_assoc y.events x.events h)) (y.grows (x.events ++ h) (moment_in-inside x.events h x.inside ∙ t) (x.grows h t p));
     }
 
 abbrev pub advanced_more : {L : Type 0} (link : Ghosts L) (at m n : ℕ) (P : List Local → Type 0) (a b : Peering L) → m ≤ n → AdvancedFrom link at m P a b → AdvancedFrom link at n P a b
-advanced_more link at m n P a b l x = record { events = x.events; inside = x.inside; went = x.went; answers = x.answers; few = omega (arith, x.few, l); kind = x.kind; grows = x.grows }
+advanced_more link at m n P a b l x = record { events = x.events; inside = x.inside; went = x.went; answers = x.answers; few = omega (arith, x.few, l); unsaid = x.unsaid; kind = x.kind; grows = x.grows }
 
 abbrev pub advanced_none : {L : Type 0} (link : Ghosts L) (at : ℕ) (a : Peering L) → Advanced link at 0 a a
-advanced_none link at a = record { events = []; inside = tt; went = λ d. refl; answers = sym (append-nil a.replies); few = omega arith; kind = refl; grows = λ h t p. p }
+advanced_none link at a = record { events = []; inside = tt; went = λ d. refl; answers = sym (append-nil a.replies); few = omega arith; unsaid = refl; kind = refl; grows = λ h t p. p }
 
-pub worked_none : {L : Type 0} (link : Ghosts L) (at : ℕ) (a : Peering L) → Worked link at 0 a a
+unfoldable pub worked_none : {L : Type 0} (link : Ghosts L) (at : ℕ) (a : Peering L) → Worked link at 0 a a
 worked_none link at a = record { run = advanced_none link at a; frames = λ z. omega arith; most = omega arith; stays = λ z. z; from = λ z. absurd (omega (arith, z)) }
 
 -- at least one step is among the first or among the others
-one_among : {P : Type 0} (m n : ℕ) → 1 ≤ m + n → (1 ≤ m → P) → (1 ≤ n → P) → P
+pub one_among : {P : Type 0} (m n : ℕ) → 1 ≤ m + n → (1 ≤ m → P) → (1 ≤ n → P) → P
 one_among zero n l f g = g (omega (arith, l))
 one_among (suc m) n l f g = f (omega arith)
 
 -- each step but the last has a frame
-most_then : (m n i j : ℕ) → m ≤ 1 + i → (1 ≤ n → m ≤ i) → n ≤ 1 + j → m + n ≤ 1 + (i + j)
+pub most_then : (m n i j : ℕ) → m ≤ 1 + i → (1 ≤ n → m ≤ i) → n ≤ 1 + j → m + n ≤ 1 + (i + j)
 most_then m zero i j x f y = omega (arith, x)
 most_then m (suc n) i j x f y = let z = f (omega arith) in omega (arith, y, z)
 
-pub worked_then : {L : Type 0} (link : Ghosts L) (at m n : ℕ) (a b c : Peering L) → Worked link at m a b → Worked link at n b c → Worked link at (m + n) a c
+unfoldable pub worked_then : {L : Type 0} (link : Ghosts L) (at m n : ℕ) (a b c : Peering L) → Worked link at m a b → Worked link at n b c → Worked link at (m + n) a c
 worked_then link at m n a b c x y =
     let g = ap length (given_in-append y.run.events x.run.events) ∙ length-append (given_in x.run.events) (given_in y.run.events) in
     let s = ap length (sent_in-append y.run.events x.run.events) ∙ length-append (sent_in x.run.events) (sent_in y.run.events) in
@@ -409,20 +476,20 @@ concluded_left p es fs (inr a) =
     let s = ap length (sent_in-append es fs) ∙ length-append (sent_in fs) (sent_in es) in
     inr (omega (arith, g, s, a))
 
-pub rested_then : {L : Type 0} (link : Ghosts L) (at m n : ℕ) (P : List Local → Type 0) (a b c : Peering L) → AdvancedFrom link at m P a b → Rested link at n b c → RestedFrom link at (m + n) P a c
+unfoldable pub rested_then : {L : Type 0} (link : Ghosts L) (at m n : ℕ) (P : List Local → Type 0) (a b c : Peering L) → AdvancedFrom link at m P a b → Rested link at n b c → RestedFrom link at (m + n) P a c
 rested_then link at m n P a b c x y = record { run = advanced_then link at m n P a b c x y.run; settled = λ z. settled_left at c.held y.run.events x.events (y.settled z); concluded = λ z. concluded_left c y.run.events x.events (y.concluded z); begun = y.begun }
 
-pub rested_more : {L : Type 0} (link : Ghosts L) (at m n : ℕ) (P : List Local → Type 0) (a b : Peering L) → m ≤ n → RestedFrom link at m P a b → RestedFrom link at n P a b
+unfoldable pub rested_more : {L : Type 0} (link : Ghosts L) (at m n : ℕ) (P : List Local → Type 0) (a b : Peering L) → m ≤ n → RestedFrom link at m P a b → RestedFrom link at n P a b
 rested_more link at m n P a b l x = record { run = advanced_more link at m n P a b l x.run; settled = x.settled; concluded = x.concluded; begun = x.begun }
 
 -- all steps were made
-late_exchanged_not : {L : Type 0} (held : Held L) → IsLate held → IsExchanged held → ⊥
+pub late_exchanged_not : {L : Type 0} (held : Held L) → IsLate held → IsExchanged held → ⊥
 late_exchanged_not (Early o p) l e = l
 late_exchanged_not (Late s) l e = e
 late_exchanged_not (Unopened c) l e = l
 late_exchanged_not Moving l e = l
 
-active_sound : (q : Phase) → is_stopped q ≡ false → has_failed q ≡ false
+pub active_sound : (q : Phase) → is_stopped q ≡ false → has_failed q ≡ false
 active_sound p.OpenSent a = refl
 active_sound p.Opened a = refl
 active_sound p.CloseReceived a = refl
@@ -433,11 +500,11 @@ active_sound p.Discarding a = refl
 active_sound p.Ended a = refl
 active_sound p.Failed a = absurd (cc a)
 
-late_sound : {L : Type 0} (held : Held L) → IsLate held → IsActive held → IsSound held
+pub late_sound : {L : Type 0} (held : Held L) → IsLate held → IsActive held → IsSound held
 late_sound (Early o p) l a = l
 late_sound (Late s) l a = active_sound s.phase a
 late_sound (Unopened c) l a = l
 late_sound Moving l a = l
 
-pub rested_spent : {L : Type 0} (link : Ghosts L) (at n : ℕ) (a b : Peering L) → 2 ^ 62 ≤ n → IsLate b.held → Worked link at n a b → Rested link at n a b
+unfoldable pub rested_spent : {L : Type 0} (link : Ghosts L) (at n : ℕ) (a b : Peering L) → 2 ^ 62 ≤ n → IsLate b.held → Worked link at n a b → Rested link at n a b
 rested_spent link at n a b l late x = record { run = x.run; settled = λ z. let i = x.frames (late_sound b.held late z) in inr (inr (inr (omega (arith, l, i)))); concluded = λ z. let i = x.most in inr (omega (arith, l, i)); begun = late_exchanged_not b.held late }

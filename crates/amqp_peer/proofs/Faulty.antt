@@ -105,7 +105,7 @@ broken_after link at call s s' h r fault.FramingError k prep m none (inl c) =
     broken_at fault.FramingError (moved r ++ h) (inl (record { called = called_after call s s' h r k prep; limit = s.wire.codec.decoder; rest = s.wire.codec.input ++ read_of r.events; is_limit = limit_after call s s' h r k prep none; read = read_after call s s' h r k none; refused = c })) tt
 broken_after link at call s s' h r fault.FramingError k prep m none (inr c) = absurd (owes_little s k.runs.limited c)
 
--- a frame of a call was too large, and then nothing was read or queued
+-- a frame of the end's own was too large, and then nothing was read or queued
 pub broken_large : (es h : List Local) → TransportCause fault.FramingError h → given_in es ≡ [] → sent_in es ≡ [] → IsBrokenBy fault.FramingError (es ++ h)
 broken_large es h c g s = record { later = es; earlier = h; split = refl; cause = c; recent = tt; still = (g, s) }
 

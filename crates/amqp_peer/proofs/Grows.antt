@@ -251,7 +251,7 @@ made_came link call fault s s' h r k o e u =
 refused_other : {L : Type 0} (link : Ghosts L) (call : Call) (s s' : State L) (h : List Local) (r : Ran link s s') → IsRunning call s h → s'.phase ≡ p.Refused → IsOther (given_in (moved r ++ h))
 refused_other link call s s' h r k e = mistaken_other s'.reason (given_in (moved r ++ h)) (subst (λ (q : Phase). IsHeard q s'.reason (given_in (moved r ++ h))) e (heard_after link call s s' h r k))
 
-opened_heard : {L : Type 0} (call : Call) (s : State L) (h : List Local) → IsRunning call s h → s.phase ≡ p.Opened → BeginsWithOpen (given_in h)
+pub opened_heard : {L : Type 0} (call : Call) (s : State L) (h : List Local) → IsRunning call s h → s.phase ≡ p.Opened → BeginsWithOpen (given_in h)
 opened_heard call s h k e = greeted_begins (given_in h) (subst (λ (q : Phase). IsHeard q s.reason (given_in h)) e k.runs.heard).0
 
 refusal_other : {L : Type 0} (link : Ghosts L) (call : Call) (q : Phase) (e : ConnectionFault) (s s' : State L) (h : List Local) (r : Ran link s s') → IsRunning call s h → IsFaultless s h → s.phase ≡ q → IsRefusal q e s'.phase → (e ≡ connection.IllegalState) × IsOther (given_in (moved r ++ h))

@@ -2,6 +2,7 @@ pub mod Histories
 pub mod Beats
 pub mod Settled
 pub mod Said
+pub mod Unsaid
 pub mod Moved
 pub mod Written
 pub mod Layers
@@ -22,4 +23,6 @@ pub mod Rest
 pub mod Bound
 pub mod Turns
 pub mod Sessions
+pub mod Hands
+pub mod Sends
 pub mod Broken

@@ -1,13 +1,13 @@
 -- What an end says stays what it may say.
-use Rattle.std.proofs.Common.{◌≡◌, ◌⊎◌, inl, inr, ℕ, List, [], ◌∷◌, ◌++◌, length, Option, Some, None, refl, sym, ap, ◌∙◌, subst, append_assoc, length-append, arith}
+use Rattle.std.proofs.Common.{◌≡◌, ◌⊎◌, inl, inr, true, ℕ, List, [], ◌∷◌, ◌++◌, length, Option, Some, None, refl, sym, ap, ◌∙◌, subst, append_assoc, length-append, arith}
 use Rattle.std.proofs.Math.Path.{ap₂}
 use Rattle.std.proofs.lemmas.List.{append-nil}
 use Rattle.std.proofs.lemmas.Option.{same_Some}
 use Rattle.amqp_composites.specs.declared.error.Error.{Error as AmqpError}
 use Rattle.amqp_frames.specs.declared.body.FrameBody.TheVariants as b
 use Rattle.amqp_frames.specs.declared.shared.ConnectionStopReason.{ConnectionStopReason}
+use Rattle.amqp_frames.specs.Session.{of_session}
 use Rattle.amqp_transport.specs.declared.frames.Frame.{Frame}
-use Rattle.amqp_transport.specs.Kinds.{no_frame}
 use Rattle.amqp_engine.specs.declared.phase.BodyKind.{BodyKind}
 use Rattle.amqp_engine.specs.declared.phase.BodyKind.TheVariants as kind
 use Rattle.amqp_engine.specs.declared.phase.Phase.{Phase}
@@ -24,7 +24,7 @@ use Rattle.amqp_peer.specs.declared.prepared.Prepared.{Prepared}
 use Rattle.amqp_peer.specs.Causes.{prepared_in}
 use Rattle.amqp_peer.specs.History.{Local, made_in, given_in, sent_in}
 use Rattle.amqp_peer.specs.Prepared.{prepared_of, error_for}
-use Rattle.amqp_peer.specs.Said.{AllEmpty, IsPlain, HasClose, HasOtherFirst, HasStray, CloseCause, called, answers, mistaken, rejected, IsSaidFor, HasSaid}
+use Rattle.amqp_peer.specs.Said.{AllMiddle, IsMiddle, IsPlain, HasClose, HasOtherFirst, HasStray, CloseCause, called, answers, mistaken, rejected, IsSaidFor, HasSaid}
 
 -- ---- what was read stays so where more is read
 
@@ -74,18 +74,18 @@ begun_not_closed own front sent error k e s =
 nothing_not_begun : (sent : List Frame) → sent ≡ [] → IsBegun sent → ⊥
 nothing_not_begun sent e s = omega (arith, ap length e, ap length s.is)
 
--- before Close there are Open and empty frames
+-- before Close there are Open, empty frames and frames of sessions
 plain_of : (own : Option Prepared) (calls : List (ℕ × Call)) (given sent : List Frame) → IsSaidFor own calls given sent → IsBegun sent → IsPlain own sent
 plain_of own calls given sent (inl e) s = absurd (nothing_not_begun sent e s)
 plain_of own calls given sent (inr (inl k)) s = k
 plain_of own calls given sent (inr (inr (front, error, k, e, c))) s = absurd (begun_not_closed own front sent error k e s)
 
-empty_push : (xs : List Frame) (x : Frame) → AllEmpty xs → x ≡ no_frame → AllEmpty (xs ++ x ∷ [])
-empty_push [] x a e = (e, tt)
-empty_push (y ∷ ys) x a e = (a.0, empty_push ys x a.1 e)
+middle_push : (xs : List Frame) (x : Frame) → AllMiddle xs → IsMiddle x → AllMiddle (xs ++ x ∷ [])
+middle_push [] x a e = (e, tt)
+middle_push (y ∷ ys) x a e = (a.0, middle_push ys x a.1 e)
 
-plain_push : (own : Option Prepared) (sent : List Frame) (x : Frame) → x ≡ no_frame → IsPlain own sent → IsPlain own (sent ++ x ∷ [])
-plain_push own sent x e k = record { own = k.own; is_own = k.is_own; more = k.more ++ x ∷ []; each = empty_push k.more x k.each e; is = ap (λ (u : List Frame). u ++ x ∷ []) k.is }
+plain_push : (own : Option Prepared) (sent : List Frame) (x : Frame) → IsMiddle x → IsPlain own sent → IsPlain own (sent ++ x ∷ [])
+plain_push own sent x e k = record { own = k.own; is_own = k.is_own; more = k.more ++ x ∷ []; each = middle_push k.more x k.each e; is = ap (λ (u : List Frame). u ++ x ∷ []) k.is }
 
 closed_with : (own : Option Prepared) (calls : List (ℕ × Call)) (given sent : List Frame) (x : Frame) (error : Option AmqpError) → x ≡ close_frame error → IsPlain own sent → CloseCause calls given error → IsSaidFor own calls given (sent ++ x ∷ [])
 closed_with own calls given sent x error e k c = inr (inr (sent, error, k, ap (λ (z : Frame). sent ++ z ∷ []) e, c))
@@ -103,7 +103,7 @@ rejected_stray given h = record { front = h.front; stray = h.last; more = []; be
 
 said_one : (q : Phase) (reason : ConnectionStopReason) (own : Option Prepared) (calls : List (ℕ × Call)) (given sent : List Frame) (x : Frame) → IsOwed q x → IsSaid q sent → IsHeard q reason given → IsSaidFor own calls given sent → IsSaidFor own calls given (sent ++ x ∷ [])
 said_one p.OpenSent reason own calls given sent x o s h k = absurd o
-said_one p.Opened reason own calls given sent x o s h k = inr (inl (plain_push own sent x o (plain_of own calls given sent k s)))
+said_one p.Opened reason own calls given sent x o s h k = inr (inl (plain_push own sent x (inl o) (plain_of own calls given sent k s)))
 said_one p.CloseReceived reason own calls given sent x o s h k = closed_with own calls given sent x None o (plain_of own calls given sent k s) (answers (parted_close reason given h) refl)
 said_one p.Refused reason own calls given sent x o s h k = closed_with own calls given sent x None o (plain_of own calls given sent k s) (mistaken (mistaken_first reason given h) refl)
 said_one (p.Rejected why) reason own calls given sent x o s h k = closed_with own calls given sent x _ o (plain_of own calls given sent k s) (rejected (rejected_stray given h.0))
@@ -119,9 +119,12 @@ said_owed q reason own calls given sent (x ∷ y ∷ xs) o s h k = absurd o
 
 -- ---- what is owed, or the Close of a call
 
--- what is queued is owed, or it is the Close of the last call
+-- what is queued is owed, or it is the Close of the last call, or a frame of a session while the connection is open
 abbrev pub IsDue : List (ℕ × Call) → Phase → List Frame → Type 0
-IsDue calls q queued = AllOwed q queued ⊎ ((name : ℕ) × (condition : Option (List ℕ)) × (earlier : List (ℕ × Call)) × (calls ≡ (name, CloseCall condition) ∷ earlier) × (queued ≡ close_frame (error_for condition) ∷ []))
+IsDue calls q queued =
+    AllOwed q queued
+    ⊎ (((name : ℕ) × (condition : Option (List ℕ)) × (earlier : List (ℕ × Call)) × (calls ≡ (name, CloseCall condition) ∷ earlier) × (queued ≡ close_frame (error_for condition) ∷ []))
+    ⊎ ((x : Frame) × (q ≡ p.Opened) × (of_session x.body ≡ true) × (queued ≡ x ∷ [])))
 
 -- Close is the last frame of what was closed
 abbrev first_or : Frame → List Frame → Frame
@@ -153,11 +156,13 @@ begun_before sent error (inr s) = subst IsBegun (same_before s.front sent s.last
 pub said_due : (q r : Phase) (reason : ConnectionStopReason) (own : Option Prepared) (calls : List (ℕ × Call)) (given sent queued : List Frame) → IsDue calls q queued → IsSaid q sent → IsHeard q reason given → IsSaid r (sent ++ queued)
     → IsSaidFor own calls given sent → IsSaidFor own calls given (sent ++ queued)
 said_due q r reason own calls given sent queued (inl o) s h n k = said_owed q reason own calls given sent queued o s h k
-said_due q r reason own calls given sent queued (inr (name, condition, earlier, c, e)) s h n k =
+said_due q r reason own calls given sent queued (inr (inl (name, condition, earlier, c, e))) s h n k =
     subst (λ (xs : List Frame). IsSaidFor own calls given (sent ++ xs)) (sym e)
     (closed_with own calls given sent (close_frame (error_for condition)) (error_for condition) refl
     (plain_of own calls given sent k (begun_before sent (error_for condition) (said_form r (sent ++ close_frame (error_for condition) ∷ []) (subst (λ (xs : List Frame). IsSaid r (sent ++ xs)) e n))))
     (called name condition earlier c refl))
+said_due q r reason own calls given sent queued (inr (inr (x, o, t, e))) s h n k =
+    subst (λ (xs : List Frame). IsSaidFor own calls given (sent ++ xs)) (sym e) (inr (inl (plain_push own sent x (inr t) (plain_of own calls given sent k (subst (λ (z : Phase). IsSaid z sent) o s)))))
 
 -- ---- a call after the first
 

@@ -40,6 +40,7 @@ use Rattle.amqp_peer.specs.declared.peer.Progress.{Progress}
 use Rattle.amqp_peer.specs.declared.peer.Progress.TheVariants as progress
 use Rattle.amqp_peer.specs.declared.prepared.Prepared.{Prepared}
 use Rattle.amqp_peer.specs.Causes.{closing as own_closing, TransportCause, MadeIn, AreAllowedTexts, is_layer, has_layer, IsOpenCause, not_allowed, OpenCauseIn, BeginsWithOpen, prepared_in}
+use Rattle.amqp_peer.specs.Frames.{sessions_of}
 use Rattle.amqp_peer.specs.Gated.{IsTalk, IsGatedIn}
 use Rattle.amqp_peer.specs.Held.{IsReadyWith, IsMidway, IsBusyWith, IsExchangedWith, IsActive, IsStopped, link_at, EndedEarly}
 use Rattle.amqp_peer.specs.History.{Local, Made, Polled, Replied, made_in, link_in, given_in, replied_in, moment_in, read_in, wrote_in}
@@ -57,6 +58,7 @@ use Rattle.amqp_peer.proofs.Quiet.{quiet_replied, quiet_made, called_quiet, made
 use Rattle.amqp_peer.proofs.Histories.{inside-append, link_in-append, replied_in-append}
 use Rattle.amqp_peer.proofs.Said.{IsDue}
 use Rattle.amqp_peer.proofs.Moved.{moved, passed, made_after, replied_after}
+use Rattle.amqp_peer.proofs.Unsaid.{owed_unsaid, closed_unsaid, unsaid_join}
 use Rattle.amqp_peer.proofs.Written.{queued_nothing}
 use Rattle.amqp_peer.proofs.Layers.{layer_refused}
 use Rattle.amqp_peer.proofs.Refusals.{first_texts, closing_texts}
@@ -90,6 +92,7 @@ begins_with {L} link at n call old new o p0 p c x e prep sasl made held r =
         went = λ d. subst (λ (z : L). Went link z (link_in r.run.events) (link_of d new)) (sym (ap (link_at d) e)) (r.run.went d);
         answers = r.run.answers;
         few = r.run.few;
+        unsaid = r.run.unsaid;
         kind = r.run.kind;
         grows = λ h t a.
             let u = untouched_of call old o p0 h e a in
@@ -112,6 +115,7 @@ begins_plain {L} link at n call old new o p0 p e prep sasl r =
         went = λ d. subst (λ (z : L). Went link z (link_in r.run.events) (link_of d new)) (sym (ap (link_at d) e)) (r.run.went d);
         answers = r.run.answers;
         few = r.run.few;
+        unsaid = r.run.unsaid;
         kind = r.run.kind;
         grows = λ h t a.
             let u = untouched_of call old o p0 h e a in
@@ -178,6 +182,7 @@ begins_refused {L} link at n call old new o p0 c e l sasl r m f =
         went = λ d. sym (ap (link_at d) l);
         answers = refl;
         few = omega arith;
+        unsaid = refl;
         kind = refl;
         grows = λ h t a. inl (record {
           call = call;
@@ -230,6 +235,7 @@ asked_opens {L} link at n call old new texts r =
         went = λ d. subst (λ (u : List LinkEvent). Went link (link_of d old) u (link_of d new)) (sym links) (r.run.went d);
         answers = r.run.answers ∙ append_assoc old.replies (pending old.name ∷ []) (replied_in es) ∙ ap (λ (u : List NamedReply). old.replies ++ u) (sym (replied_in-append es one));
         few = let z = ap reads_in links in omega (arith, z, r.run.few);
+        unsaid = unsaid_join es one r.run.unsaid refl;
         kind = r.run.kind;
         grows = λ h t a. subst (λ (u : List Local). Has new u) (sym (append_assoc es one h)) (r.run.grows (Replied (pending old.name) ∷ h) t (waits_to_open call old h texts a));
       };
@@ -267,6 +273,7 @@ started link at name call old new e r =
       went = r.run.went;
       answers = r.run.answers;
       few = r.run.few;
+      unsaid = r.run.unsaid;
       kind = r.run.kind;
       settled = r.settled;
       concluded = r.concluded;
@@ -279,7 +286,7 @@ started link at name call old new e r =
 -- the Close of the call is queued, or nothing is
 close_due : {L : Type 0} (condition : Option (List ℕ)) (s s' : State L) (calls : List (ℕ × Call)) (name : ℕ) (earlier : List (ℕ × Call)) (queued : List Frame) (result : Result Unit ConnectionFault) → calls ≡ (name, Close condition) ∷ earlier → IsClosedBy s (error_for condition) queued result s'
     → IsDue calls s.phase queued
-close_due condition s s' calls name earlier queued (Ok u) m c = inr (name, condition, earlier, m, c.0)
+close_due condition s s' calls name earlier queued (Ok u) m c = inr (inl (name, condition, earlier, m, c.0))
 close_due condition s s' calls name earlier queued (Err (connection.Memory x)) m c = inl (subst (AllOwed s.phase) (sym c.0) tt)
 close_due condition s s' calls name earlier queued (Err (connection.TransportError transport.FramingError)) m c = inl (subst (AllOwed s.phase) (sym c.0) tt)
 close_due condition s s' calls name earlier queued (Err (connection.TransportError (transport.Memory x))) m c = absurd c
@@ -308,6 +315,7 @@ close_moves {L} link at old s s' fault condition result p e c n g =
       went = went_late link old.held (Late s') s s' r e refl;
       answers = sym (append-nil old.replies) ∙ ap (λ (u : List NamedReply). old.replies ++ u) (sym (passed r).silent);
       few = let z = ap reads_in ((passed r).link ∙ c.silent) in omega (arith, z);
+      unsaid = ap sessions_of (passed r).said ∙ closed_unsaid s s' (error_for condition) r.queued result c.told;
       kind = refl;
       grows = λ h t x.
           let k = is_running x.call old.held s h e x.called in
@@ -350,10 +358,10 @@ close_kept {L} link at old s s' condition p e c = close_moves link at old s s' o
 large_cause : {L : Type 0} (condition : Option (List ℕ)) (s : State L) (old : Peering L) (h : List Local) (call : Call) → IsToClose condition old h → IsRunning call s h → IsTooLarge s.wire.codec.encoder (close_frame (error_for condition)) → TransportCause transport.FramingError h
 large_cause condition s old h call a k l = inr (record { began = k.began; limit = s.wire.codec.encoder; x = close_frame (error_for condition); is_limit = k.runs.bounded.writes; own = own_closing old.name condition ((a.name, a.call) ∷ []) a.made; large = l })
 
-large_breaks : {L : Type 0} {link : Ghosts L} (s s' : State L) (h : List Local) (r : Ran link s s') → r.given ≡ [] → r.queued ≡ [] → TransportCause transport.FramingError h → IsBrokenIn s' (moved r ++ h)
+pub large_breaks : {L : Type 0} {link : Ghosts L} (s s' : State L) (h : List Local) (r : Ran link s s') → r.given ≡ [] → r.queued ≡ [] → TransportCause transport.FramingError h → IsBrokenIn s' (moved r ++ h)
 large_breaks s s' h r g q c z = record { fault = transport.FramingError; how = broken_large (moved r) h c ((passed r).heard ∙ g) ((passed r).said ∙ q) }
 
-large_fault : {L : Type 0} {link : Ghosts L} (fault : Option ConnectionFault) (s s' : State L) (h : List Local) (r : Ran link s s') → s' ≡ failing s → r.given ≡ [] → r.queued ≡ [] → TransportCause transport.FramingError h → IsFaultIn fault s h
+pub large_fault : {L : Type 0} {link : Ghosts L} (fault : Option ConnectionFault) (s s' : State L) (h : List Local) (r : Ran link s s') → s' ≡ failing s → r.given ≡ [] → r.queued ≡ [] → TransportCause transport.FramingError h → IsFaultIn fault s h
     → IsFaultIn (first_fault fault (connection.TransportError transport.FramingError)) s' (moved r ++ h)
 large_fault {L} None s s' h r e g q c f = ((ap (λ (t : State L). has_failed t.phase) e, broken_large (moved r) h c ((passed r).heard ∙ g) ((passed r).said ∙ q)), large_breaks s s' h r g q c)
 large_fault {L} (Some x) s s' h r e g q c f = (late_more x s s' h r (λ z. (g, ap (λ (t : State L). has_failed t.phase) e)) f.0, large_breaks s s' h r g q c)
@@ -399,6 +407,7 @@ asked_waits {L} link at n condition old new r =
         went = λ d. subst (λ (u : List LinkEvent). Went link (link_of d old) u (link_of d new)) (sym links) (r.run.went d);
         answers = r.run.answers ∙ append_assoc old.replies (pending old.name ∷ []) (replied_in es) ∙ ap (λ (u : List NamedReply). old.replies ++ u) (sym (replied_in-append es one));
         few = let z = ap reads_in links in omega (arith, z, r.run.few);
+        unsaid = unsaid_join es one r.run.unsaid refl;
         kind = r.run.kind;
         grows = λ h t a. subst (λ (u : List Local). Has new u) (sym (append_assoc es one h)) (r.run.grows (Replied (pending old.name) ∷ h) t (waits_to_close condition old h a));
       };
@@ -433,6 +442,7 @@ stopped_close {L} link at condition old s s' fault r few m d e z f g =
         went = went_late link old.held (Late s') s s' r e refl;
         answers = ap (λ (u : List NamedReply). old.replies ++ (u ++ answer ∷ [])) (sym (passed r).silent);
         few = subst (λ (es : List LinkEvent). reads_in es ≤ 1) (sym (passed r).link) few;
+        unsaid = ap sessions_of (passed r).said ∙ owed_unsaid s.phase r.queued d;
         kind = refl;
         grows = λ h t a. inr (asked_ends link at condition old s s' fault h r m d t e z (written_after h r f) (g h t) a);
       };
@@ -515,6 +525,7 @@ closed {L} link at n name condition old new l e r =
       went = r.run.went;
       answers = r.run.answers;
       few = omega (arith, r.run.few, l);
+      unsaid = r.run.unsaid;
       kind = r.run.kind;
       settled = r.settled;
       concluded = r.concluded;
@@ -532,6 +543,7 @@ polled link at n old new l r =
       went = r.run.went;
       answers = r.run.answers;
       few = omega (arith, r.run.few, l);
+      unsaid = r.run.unsaid;
       kind = r.run.kind;
       settled = r.settled;
       concluded = r.concluded;
@@ -547,6 +559,7 @@ polled_idle link at old n m =
       went = λ d. refl;
       answers = sym (append-nil old.replies);
       few = omega arith;
+      unsaid = refl;
       kind = refl;
       settled = λ a. absurd (n a);
       concluded = λ a. absurd (m a);

@@ -52,7 +52,7 @@ on_ok (Err e) f p = tt
 
 -- ---- a step of the connection
 
-record LateStep {L : Type 0} (link : Ghosts L) (at : ℕ) (held : Held L) (result : Result EngineStep ConnectionFault) (held' : Held L) : Type 0 where
+pub record LateStep {L : Type 0} (link : Ghosts L) (at : ℕ) (held : Held L) (result : Result EngineStep ConnectionFault) (held' : Held L) : Type 0 where
   pub s : State L
   pub s' : State L
   pub is : held ≡ Late s
@@ -61,7 +61,7 @@ record LateStep {L : Type 0} (link : Ghosts L) (at : ℕ) (held : Held L) (resul
   pub none : has_failed s.phase ≡ true → step.run.given ≡ []
   pub does : Steps link at s result s'
 
-late_step : {L : Type 0} (link : Ghosts L) (at : ℕ) (held : Held L) (result : Result EngineStep ConnectionFault) (held' : Held L) → SteppedLate link at held result held' → LateStep link at held result held'
+pub late_step : {L : Type 0} (link : Ghosts L) (at : ℕ) (held : Held L) (result : Result EngineStep ConnectionFault) (held' : Held L) → SteppedLate link at held result held' → LateStep link at held result held'
 late_step link at (Early o p) result held' h = absurd h
 late_step link at (Late s) result held' h = let k = stays link at s h.0 result h.3 h.2 in record { s = s; s' = h.0; is = refl; becomes = h.1; step = k.step; none = k.none; does = h.3 }
 late_step link at (Unopened c) result held' h = absurd h
@@ -86,7 +86,7 @@ stopped_step {L} link at old held h =
     subst (λ (x : Held L). Rested link at 1 old (concluded (record old { held = x }))) (sym k.becomes) (stopped_rests link at old k.s k.s' k.is k.step k.none)
 
 -- an error that is no want of memory
-record IsKept (e x : ConnectionFault) : Type 0 where
+pub record IsKept (e x : ConnectionFault) : Type 0 where
   pub same : x ≡ e
   pub not_memory : (a : AllocError) → x ≡ connection.Memory a → ⊥
 
@@ -94,7 +94,7 @@ abbrev ok_or : ConnectionFault → Result ConnectionFault AllocError → Connect
 ok_or d (Ok x) = x
 ok_or d (Err a) = d
 
-kept : (e x : ConnectionFault) → without_memory e ≡ Ok x → IsKept e x
+pub kept : (e x : ConnectionFault) → without_memory e ≡ Ok x → IsKept e x
 kept (connection.Memory a) x w = absurd (cc w)
 kept (connection.TransportError t) x w = record { same = sym (ap (ok_or x) w); not_memory = λ a m. absurd (cc (ap (ok_or x) w ∙ m)) }
 kept connection.IllegalState x w = record { same = sym (ap (ok_or x) w); not_memory = λ a m. absurd (cc (ap (ok_or x) w ∙ m)) }
@@ -352,6 +352,7 @@ misfit link at name call old new may n s =
       went = s.went;
       answers = s.answers;
       few = s.few;
+      unsaid = s.unsaid;
       kind = s.kind;
       settled = s.settled;
       concluded = s.concluded;

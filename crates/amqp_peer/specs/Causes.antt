@@ -5,6 +5,7 @@ use Rattle.amqp_performatives.specs.declared.open.Open.{Open}
 use Rattle.amqp_performatives.specs.declared.close.Close.{Close}
 use Rattle.amqp_sasl_bodies.specs.declared.sasl_body.SaslBody.{SaslBody}
 use Rattle.amqp_frames.specs.declared.body.FrameBody.TheVariants as b
+use Rattle.amqp_frames.specs.Session.{of_session}
 use Rattle.amqp_wire.specs.declared.frame.Front.TheVariants.{Refused, Foreign}
 use Rattle.amqp_wire.specs.declared.link.Held.TheVariants.{Full}
 use Rattle.amqp_wire.specs.declared.link.Stop.TheVariants.{End as EndStop}
@@ -240,12 +241,13 @@ pub record HasIdled (h : List Local) : Type 0 where
   pub runs : 0 < idle_with (prepared_in (made_in h))
   pub passed : since_in h + idle_with (prepared_in (made_in h)) ≤ moment_in h
 
--- a frame of a call: the Open of the first, or the Close of the last
+-- a frame of this end's own: the Open of the first call, the Close of the last, or a frame of a session
 pub data IsOwn (calls : List (ℕ × Call)) : Frame → Type 0 where
   opening : (p : Prepared) → prepared_in calls ≡ Some p → IsOwn calls (open_frame p.end)
   closing : (name : ℕ) (condition : Option (List ℕ)) (earlier : List (ℕ × Call)) → calls ≡ (name, CloseCall condition) ∷ earlier → IsOwn calls (close_frame (error_for condition))
+  in_session : (x : Frame) → of_session x.body ≡ true → IsOwn calls x
 
--- behind the headers a frame of a call is above the limit that the peer's Open tells, or above 512 where none was read (part 2, section
+-- behind the headers a frame of its own is above the limit that the peer's Open tells, or above 512 where none was read (part 2, section
 -- 2.4.1)
 pub record IsOverlarge (h : List Local) : Type 0 where
   pub began : Once EndsExchange h

@@ -1,5 +1,6 @@
 pub mod Prepared
 pub mod History
+pub mod Frames
 pub mod Beats
 pub mod Closers
 pub mod Replies
@@ -11,5 +12,6 @@ pub mod Held
 pub mod Layers
 pub mod Peering
 pub mod Runs
+pub mod Handed
 pub mod Passing
 pub mod Rest

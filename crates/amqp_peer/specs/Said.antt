@@ -1,8 +1,9 @@
 -- What an end says on its connection, and why it closes it (OASIS AMQP 1.0, part 2, section 2.4).
-use Rattle.std.specs.Prelude.{◌≡◌, ◌⊎◌, ℕ, List, [], ◌∷◌, ◌++◌, Option, Some, None}
+use Rattle.std.specs.Prelude.{◌≡◌, ◌⊎◌, true, ℕ, List, [], ◌∷◌, ◌++◌, Option, Some, None}
 use Rattle.amqp_performatives.specs.declared.close.Close.{Close}
 use Rattle.amqp_composites.specs.declared.error.Error.{Error as AmqpError}
 use Rattle.amqp_frames.specs.declared.body.FrameBody.TheVariants as b
+use Rattle.amqp_frames.specs.Session.{of_session}
 use Rattle.amqp_transport.specs.declared.frames.Frame.{Frame}
 use Rattle.amqp_transport.specs.Kinds.{no_frame}
 use Rattle.amqp_engine.specs.Heard.{IsGreeted, IsStray}
@@ -15,17 +16,21 @@ use Rattle.amqp_peer.specs.Causes.{prepared_in}
 use Rattle.amqp_peer.specs.History.{Local, made_in, given_in, sent_in}
 use Rattle.amqp_peer.specs.Prepared.{error_for}
 
--- empty frames alone (section 2.4.5)
-abbrev pub AllEmpty : List Frame → Type 0
-AllEmpty [] = Unit {0}
-AllEmpty (x ∷ xs) = (x ≡ no_frame) × AllEmpty xs
+-- an empty frame, or one of a session (sections 2.4.5 and 2.5)
+abbrev pub IsMiddle : Frame → Type 0
+IsMiddle x = (x ≡ no_frame) ⊎ (of_session x.body ≡ true)
 
--- the Open that the first call asks for, and then empty frames (sections 2.4.1 and 2.4.5)
+-- such frames alone
+abbrev pub AllMiddle : List Frame → Type 0
+AllMiddle [] = Unit {0}
+AllMiddle (x ∷ xs) = IsMiddle x × AllMiddle xs
+
+-- the Open that the first call asks for, and then empty frames and frames of sessions (sections 2.4.1, 2.4.5 and 2.5)
 pub record IsPlain (p : Option Prepared) (sent : List Frame) : Type 0 where
   pub own : Prepared
   pub is_own : p ≡ Some own
   pub more : List Frame
-  pub each : AllEmpty more
+  pub each : AllMiddle more
   pub is : sent ≡ open_frame own.end ∷ more
 
 -- ---- what was read, whatever was read after it
@@ -64,7 +69,7 @@ pub data CloseCause (calls : List (ℕ × Call)) (given : List Frame) (error : O
   mistaken : HasOtherFirst given → error ≡ None → CloseCause calls given error
   rejected : HasStray given → CloseCause calls given error
 
--- what an end says: nothing, its Open and empty frames, or these and one Close that has its cause
+-- what an end says: nothing, its Open, empty frames and frames of sessions, or these and one Close that has its cause
 abbrev pub IsSaidFor : Option Prepared → List (ℕ × Call) → List Frame → List Frame → Type 0
 IsSaidFor p calls given sent =
     (sent ≡ []) ⊎ (IsPlain p sent ⊎ ((front : List Frame) × (error : Option AmqpError) × IsPlain p front × (sent ≡ front ++ close_frame error ∷ []) × CloseCause calls given error))

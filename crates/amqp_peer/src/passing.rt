@@ -3,6 +3,7 @@ ghost use Rattle.std.specs.Prelude.{◌≡◌, ◌↔◌, List, true, false, Ok,
 ghost use Rattle.amqp_engine.specs.Channels.{frame_in};
 ghost use Rattle.amqp_peer.specs.declared.peer.PeerError.{PeerError};
 ghost use Rattle.amqp_peer.specs.declared.peer.Progress.{Progress};
+ghost use Rattle.amqp_peer.specs.Handed.{HandsOn, HandsLast, Sent};
 ghost use Rattle.amqp_peer.specs.Held.{IsLate, reason_of};
 ghost use Rattle.amqp_peer.specs.History.{Local};
 ghost use Rattle.amqp_peer.specs.Passing.{is_opened, largest_written, asked_first, TakesIncoming, TakesSession, AllocatesLate, freed_in, IsHeldAlone, Passes};
@@ -65,12 +66,15 @@ impl<L: Link> Peer<L> {
     }
 
     /// One step of the connection at the moment `at`, in milliseconds: what is queued is written, and then an empty frame or a
-    /// Close that is due is queued, or at most one frame is read. Tells whether another step may follow. Want of memory is
+    /// Close that is due is queued, or at most one frame is read, which waits for the sessions where it is one of theirs. Tells
+    /// whether another step may follow. Want of memory is
     /// final: each later step, call and poll answers `Failed`.
     pub fn step(&mut self, at: u64) -> Result<bool, PeerError>
         requires { IsLate self.old.held }
         ensures more { result ≡ Ok true → Worked L.Link at 1 self.old self.new }
         ensures rests { result ≡ Ok false → Rested L.Link at 1 self.old self.new }
+        ensures hands { result ≡ Ok true → HandsOn L.Link at self.old self.new }
+        ensures hands_last { result ≡ Ok false → HandsLast L.Link at self.old self.new }
         ensures late { OnOk result (IsLate self.new.held) }
         ensures alive { OnOk result (self.new.failed ≡ self.old.failed) }
         ensures memory { OnErr result (self.new.failed ≡ true) }
@@ -158,6 +162,7 @@ impl<L: Link> Peer<L> {
     pub fn send(&mut self, frame: SessionFrame) -> Result<(), PeerError>
         requires { IsLate self.old.held }
         ensures passes { OnOk result (Passes (frame_in frame) self.old self.new) }
+        ensures sent { OnOk result (Sent L.Link (frame_in frame) self.old self.new) }
         ensures late { IsLate self.new.held }
         ensures err { OnErr result (self.new ≡ record self.old { failed = true }) }
         ensures failed { IsErrOf result PeerError.Failed ↔ (self.old.failed ≡ true) }

@@ -9,6 +9,7 @@ ghost use Rattle.amqp_opening.specs.declared.authentication.SaslCall.{SaslCall};
 ghost use Rattle.amqp_words.specs.declared.call.Call.{Call};
 ghost use Rattle.amqp_peer.specs.declared.peer.Progress.{Progress};
 ghost use Rattle.amqp_peer.specs.Calls.{IsAllowedLayer};
+ghost use Rattle.amqp_peer.specs.Handed.{HandsOn, HandsLast};
 ghost use Rattle.amqp_peer.specs.Held.{IsThere, IsEarly, IsReady, IsExchanged, IsActive, IsLate, FitsCall, with_link};
 ghost use Rattle.amqp_peer.specs.History.{Made, Polled};
 ghost use Rattle.amqp_peer.specs.Peering.{Peering, fresh, link_of, MayCall};
@@ -355,6 +356,8 @@ impl<L: Link> Peer<L> {
         requires { IsLate self.old.held }
         ensures more { result ≡ Ok true → Worked L.Link at 1 self.old self.new }
         ensures rests { result ≡ Ok false → Rested L.Link at 1 self.old self.new }
+        ensures hands { result ≡ Ok true → HandsOn L.Link at self.old self.new }
+        ensures hands_last { result ≡ Ok false → HandsLast L.Link at self.old self.new }
         ensures late { OnOk result (IsLate self.new.held) }
         ensures alive { self.new.failed ≡ self.old.failed }
     {

@@ -3,9 +3,11 @@ use Rattle.std.proofs.Common.{◌≡◌, ◌+◌, List, ℕ, [], ◌∷◌, ◌+
 use Rattle.amqp_wire.specs.Events.{LinkEvent, read_of, wrote_of}
 use Rattle.amqp_wire.proofs.Events.{read_of-append, wrote_of-append}
 use Rattle.amqp_words.specs.declared.reply.NamedReply.{NamedReply}
-use Rattle.amqp_peer.specs.History.{Local, made_in, link_in, replied_in, read_in, wrote_in, IsInside}
+use Rattle.amqp_peer.specs.Frames.{sessions_of}
+use Rattle.amqp_peer.specs.History.{Local, made_in, link_in, sent_in, replied_in, read_in, wrote_in, IsInside}
 use Rattle.amqp_peer.proofs.Laws.{link_in-append, replied_in-append}
 use Rattle.amqp_peer.proofs.Histories.{made_in-keeps}
+use Rattle.amqp_peer.proofs.Unsaid.{unsaid_join}
 use Rattle.amqp_words.specs.declared.step.End.{End}
 use Rattle.amqp_words.specs.declared.step.Act.{Act}
 use Rattle.amqp_words.specs.declared.step.Act.TheVariants.{Take, TakeAll, Call}
@@ -65,6 +67,14 @@ replied_begun : (at name : ℕ) (act : Act) (h : List Local) → replied_in (beg
 replied_begun at name (Take n) h = refl
 replied_begun at name TakeAll h = refl
 replied_begun at name (Call call) h = refl
+
+sent_begun : (at name : ℕ) (act : Act) (h : List Local) → sent_in (begun at name act ∷ h) ≡ sent_in h
+sent_begun at name (Take n) h = refl
+sent_begun at name TakeAll h = refl
+sent_begun at name (Call call) h = refl
+
+pub unsaid_grown : (es h : List Local) (at name : ℕ) (act : Act) → sessions_of (sent_in es) ≡ [] → sessions_of (sent_in h) ≡ [] → sessions_of (sent_in (es ++ begun at name act ∷ h)) ≡ []
+unsaid_grown es h at name act e k = unsaid_join es (begun at name act ∷ h) e (ap sessions_of (sent_begun at name act h) ∙ k)
 
 pub made_grown : (es h : List Local) (at name : ℕ) (act : Act) → IsInside es → made_in (es ++ begun at name act ∷ h) ≡ called act name (made_in h)
 made_grown es h at name act inside = made_in-keeps es (begun at name act ∷ h) inside ∙ made_begun at name act h

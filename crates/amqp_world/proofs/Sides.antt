@@ -35,13 +35,14 @@ use Rattle.amqp_ends.proofs.Faced.{faced_none}
 use Rattle.amqp_ends.proofs.Passes.{both_through}
 use Rattle.amqp_ends.proofs.QuietFew.{few_frames}
 use Rattle.amqp_ends.proofs.Sizes.{never_refused}
+use Rattle.amqp_ends.proofs.Streams.{meets_unsaid}
 use Rattle.amqp_ends.proofs.Wants.{wants}
 use Rattle.amqp_world.specs.Causes.{IsVast, Adds, NothingInFlight, AreAgreeing, IsHistoried, Histories}
 use Rattle.amqp_world.specs.Explains.{Explains}
 use Rattle.amqp_world.specs.Turn.{CanAct, Turned, piping, drained, given, marked, empty_pipe, pipe_of}
 use Rattle.amqp_world.specs.Related.{Side, Sides}
 use Rattle.amqp_world.proofs.Pipes.{calm_none, never_fills, pipe_emptied}
-use Rattle.amqp_world.proofs.Growth.{wrote_near, wrote_far, taken_near, taken_far, calls_near, calls_far, replied_near, replied_far, follows_near, follows_far, replied_grown, wrote_grown}
+use Rattle.amqp_world.proofs.Growth.{wrote_near, wrote_far, taken_near, taken_far, calls_near, calls_far, replied_near, replied_far, follows_near, follows_far, replied_grown, wrote_grown, unsaid_grown}
 use Rattle.amqp_world.proofs.Turns.{marked_link, stepped_mark, turned_wrote, turned_replied, turned_link}
 use Rattle.amqp_world.proofs.Form.{form_of}
 use Rattle.amqp_world.proofs.Nears.{grown_of, moved_to, near_ran, near_rests, near_read, near_made, near_calm, near_meets, fair_turn, faced_near, faced_far}
@@ -119,7 +120,8 @@ side_near e f x past p q p' q' n m o v near far t =
         sent = wrote_grown es near.h x.step.at name x.step.act ∙ ap (λ (u : List ℕ). wrote_in near.h ++ u) (turned_wrote p q p' q' name x.step.at x.step.act x.entry t) ∙ ap (λ (u : List ℕ). u ++ x.entry.wrote) near.sent ∙ sym (wrote_near e x past n);
         answered = replied_grown es near.h x.step.at name x.step.act ∙ ap (λ (u : List NamedReply). replied_in near.h ++ u) (turned_replied p q p' q' name x.step.at x.step.act x.entry t near.empty) ∙ ap (λ (u : List NamedReply). u ++ x.entry.replies) near.answered ∙ sym (replied_near e x past n);
         calm = near_calm e f x past p q p' q' near t;
-        unclosed = λ nobody. says_no_close h' far.h meets (said_law t.ran h' ran) (subst NoneCloses (sym made) (nobody e)) (far.unclosed (nobody_before x past nobody));
+        unsaid = unsaid_grown es near.h x.step.at name x.step.act t.stepped.unsaid near.unsaid;
+        unclosed = λ nobody. says_no_close h' far.h (meets_unsaid h' far.h meets far.unsaid) (said_law t.ran h' ran) (subst NoneCloses (sym made) (nobody e)) (far.unclosed (nobody_before x past nobody));
         stands = subst (λ (u : List ℕ). Stands h' u) (sym (ap (λ (z : Piped). z.input) same)) (stands_near (given p k t.count) t.ran x.step.at name x.step.act near.h t.stepped rests ran);
         begins = begins_near e x past (calls_near e x past n) near.begins v;
         output = output ∙ ap (λ (u : List ℕ). u ++ x.entry.wrote) near.output ∙ sym (wrote_near e x past n);
@@ -157,6 +159,7 @@ side_far e f x past p q p' q' n m o o' v near far t =
         sent = far.sent ∙ sym (wrote_far f x past m);
         answered = far.answered ∙ sym (replied_far f x past m);
         calm = far.calm;
+        unsaid = far.unsaid;
         unclosed = λ nobody. far.unclosed (nobody_before x past nobody);
         stands = subst (λ (z : Piped). Stands far.h z.input) (sym link) far.stands;
         begins = subst (BeginsIn (kind_of f)) (sym (calls_far f x past m)) far.begins;
@@ -184,6 +187,7 @@ side_start e f =
       sent = refl;
       answered = refl;
       calm = calm_none;
+      unsaid = refl;
       unclosed = λ nobody. tt;
       stands = uncalled refl refl;
       begins = tt;
@@ -325,7 +329,7 @@ sides_listener x past p q p' q' h v s t =
 -- the replies of a step are honest
 honest_turn : (e f : End) (x : Event) (past : List Event) (p' q' : Peering Piped) → other e ≡ f → replied e (x ∷ past) ≡ replied e past ++ x.entry.replies → Side e f p' (x ∷ past) → Side f e q' (x ∷ past) → AllHonest x.entry.replies
 honest_turn e f x past p' q' o replies near far =
-    honest_right (replied e past) x.entry.replies (subst AllHonest (near.answered ∙ replies) (honest_replies near.h far.h (side_meets e f p' q' (x ∷ past) o near far) (causes_law p' near.h near.has)))
+    honest_right (replied e past) x.entry.replies (subst AllHonest (near.answered ∙ replies) (honest_replies near.h far.h (meets_unsaid near.h far.h (side_meets e f p' q' (x ∷ past) o near far) far.unsaid) (causes_law p' near.h near.has)))
 
 -- a step makes an event that is explained
 pub explains_turn : (e f : End) (x : Event) (past : List Event) (p q p' q' : Peering Piped) → is_same e x.step.end ≡ true → is_same f x.step.end ≡ false → x.step.end ≡ e → other e ≡ f → other f ≡ e → IsValid past x.step → (before : Side e f p past) → Side f e q past → AreOpposite (calls e (x ∷ past)) (calls f past) → (t : Turned p q (length past) x.step.at x.step.act p' q' x.entry) → Side e f p' (x ∷ past)

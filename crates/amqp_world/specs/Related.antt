@@ -1,6 +1,7 @@
 -- Both ends against the past.
 use Rattle.std.specs.Prelude.{◌≡◌, ◌≤◌, List, [], ◌++◌, length, Bool, false}
 use Rattle.amqp_wire.specs.Piped.{Piped}
+use Rattle.amqp_peer.specs.Frames.{sessions_of}
 use Rattle.amqp_peer.specs.History.{Local, made_in, link_in, sent_in, replied_in, read_in, wrote_in}
 use Rattle.amqp_peer.specs.Held.{IsExchanged}
 use Rattle.amqp_peer.specs.Peering.{Peering, Has}
@@ -20,7 +21,7 @@ use Rattle.amqp_world.specs.WorldView.{WorldView}
 use Rattle.amqp_world.specs.Turn.{pipe_of}
 
 -- The end e, whose other is f, is where the past leaves it. It has a history that follows the past, with its calls and replies; what it
--- read and what its link still holds is what was moved to it, and what it wrote is its link's output.
+-- read and what its link still holds is what was moved to it, and what it wrote is its link's output. It queued no frame of a session.
 pub record Side (e f : End) (p : Peering Piped) (past : List Event) : Type 0 where
   pub h : List Local
   pub has : Has p h
@@ -30,6 +31,7 @@ pub record Side (e f : End) (p : Peering Piped) (past : List Event) : Type 0 whe
   pub sent : wrote_in h ≡ wrote e past
   pub answered : replied_in h ≡ replied e past
   pub calm : IsCalm (link_in h)
+  pub unsaid : sessions_of (sent_in h) ≡ []
   pub unclosed : NobodyCloses past → AllUnclosed (sent_in h)
   pub stands : Stands h (pipe_of p).input
   pub begins : BeginsIn (kind_of e) (calls e past)

@@ -1,0 +1,35 @@
+//! Laws over an end and the sessions above it (OASIS AMQP 1.0, part 2, section 2.5).
+ghost use Rattle.std.specs.Prelude.{◌≡◌, ℕ, List, [], ◌∷◌, ◌++◌, true, Some};
+ghost use Rattle.amqp_frames.specs.declared.shared.IncomingSession.{IncomingSession};
+ghost use Rattle.amqp_transport.specs.declared.frames.Frame.{Frame};
+ghost use Rattle.amqp_peer.specs.declared.peer.PeerKind.{PeerKind};
+ghost use Rattle.amqp_peer.specs.Frames.{asking};
+ghost use Rattle.amqp_peer.specs.Handed.{hears_in, IsOpenIn, HandsOn, HandsLast, Sent};
+ghost use Rattle.amqp_peer.specs.History.{Local, moment_in};
+ghost use Rattle.amqp_peer.specs.Passing.{TakesIncoming, TakesSession};
+ghost use Rattle.amqp_peer.specs.Peering.{Peering, Has, fresh};
+ghost use Rattle.amqp_end_streams.specs.Streams.{Carries, Serves};
+
+use amqp_wire::link::Link;
+
+/// An end serves its sessions from the start, and goes on to serve them in each step, where a frame is handed up, and where one
+/// is given to it while it is open or hears no more. So what its sessions were handed are the first frames of sessions that it
+/// was given, and what it queued are the first that they gave.
+pub fn ends_serve_their_sessions<L: Link>()
+    ensures begins { (link : L) (kind : PeerKind) → Serves (fresh link kind) [] [] [] [] }
+    ensures goes_on { (at : ℕ) (old new : Peering L) (asked heard gave : List Frame) (h : List Local) (k : HandsOn L.Link at old new)
+        → moment_in h ≡ at → Serves old asked heard gave h → Serves new asked heard gave (k.0.run.events ++ h) }
+    ensures rests { (at : ℕ) (old new : Peering L) (asked heard gave : List Frame) (h : List Local) (k : HandsLast L.Link at old new)
+        → moment_in h ≡ at → Serves old asked heard gave h → Serves new asked heard gave (k.0.run.events ++ h) }
+    ensures hands { (x : Frame) (old new : Peering L) (asked heard gave : List Frame) (h : List Local)
+        → TakesIncoming old.held (Some x) new.held → (Has old h → Has new h)
+        → Serves old asked heard gave h → Serves new asked (heard ++ x ∷ []) gave h }
+    ensures asks { (y : IncomingSession) (old new : Peering L) (asked heard gave : List Frame) (h : List Local)
+        → TakesSession old.held (Some y) new.held → (Has old h → Has new h)
+        → Serves old asked heard gave h → Serves new (asked ++ asking y ∷ []) heard gave h }
+    ensures sends { (x : Frame) (old new : Peering L) (asked heard gave : List Frame) (h : List Local) (k : Sent L.Link x old new)
+        → (hears_in old.held ≡ true → IsOpenIn old.held)
+        → Serves old asked heard gave h → Serves new asked heard (gave ++ x ∷ []) (k.events ++ h) }
+    ensures carries { (p : Peering L) (asked heard gave : List Frame) (h : List Local)
+        → Serves p asked heard gave h → Carries asked heard gave h }
+{}

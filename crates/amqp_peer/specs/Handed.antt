@@ -1,0 +1,81 @@
+-- What an end hands to the sessions above its connection, and what it says for them, in words of its history.
+use Rattle.std.specs.Prelude.{◌≡◌, ◌⊎◌, ℕ, List, [], ◌∷◌, ◌++◌, Bool, true, false, Option, Some}
+use Rattle.amqp_wire.specs.declared.link.Link.{Ghosts}
+use Rattle.amqp_frames.specs.Session.{of_session}
+use Rattle.amqp_transport.specs.declared.frames.Frame.{Frame}
+use Rattle.amqp_engine.specs.declared.phase.Phase.TheVariants as p
+use Rattle.amqp_engine.specs.Channels.{Channels, no_channels}
+use Rattle.amqp_engine.specs.Phases.{hears}
+use Rattle.amqp_peer.specs.declared.held.Held.{Held}
+use Rattle.amqp_peer.specs.declared.held.Held.TheVariants.{Early, Late, Unopened, Moving}
+use Rattle.amqp_peer.specs.Frames.{sessions_of, list_of, Comes}
+use Rattle.amqp_peer.specs.Held.{IsSound}
+use Rattle.amqp_peer.specs.History.{Local, given_in, sent_in, replied_in, link_in, IsInside}
+use Rattle.amqp_peer.specs.Peering.{Peering, Has, link_of}
+use Rattle.amqp_peer.specs.Runs.{Worked, Rested}
+
+-- ---- what holds the link
+
+-- frames of the peer are heard: no Close was queued or read, and no frame was rejected
+abbrev pub hears_in : {L : Type 0} → Held L → Bool
+hears_in (Early o p) = true
+hears_in (Late s) = hears s.phase
+hears_in (Unopened c) = false
+hears_in Moving = false
+
+-- the connection is open
+abbrev pub IsOpenIn : {L : Type 0} → Held L → Type 0
+IsOpenIn (Early o p) = ⊥
+IsOpenIn (Late s) = s.phase ≡ p.Opened
+IsOpenIn (Unopened c) = ⊥
+IsOpenIn Moving = ⊥
+
+-- the channels of its sessions, and what waits for them
+abbrev pub channels_in : {L : Type 0} → Held L → Channels
+channels_in (Early o p) = no_channels
+channels_in (Late s) = s.channels
+channels_in (Unopened c) = no_channels
+channels_in Moving = no_channels
+
+-- ---- one step
+
+-- What a step hands to the sessions: where the connection hears behind it, what it was given of sessions is the frame that came to wait for
+-- them. It queues no frame of a session, and the channels of this end that sessions have stay.
+pub record Handed {L : Type 0} (old new : Held L) (events : List Local) : Type 0 where
+  pub frame : Option Frame
+  pub comes : Comes (channels_in old) frame (channels_in new)
+  pub heard : hears_in new ≡ true → sessions_of (given_in events) ≡ list_of frame
+  pub opens : (x : Frame) → frame ≡ Some x → IsOpenIn new
+  pub unsaid : sessions_of (sent_in events) ≡ []
+  pub listens : hears_in new ≡ true → hears_in old ≡ true
+  pub seats : (channels_in new).seats ≡ (channels_in old).seats
+
+-- a step after which another may follow
+abbrev pub HandsOn : {L : Type 0} → Ghosts L → ℕ → Peering L → Peering L → Type 0
+HandsOn link at old new = (w : Worked link at 1 old new) × Handed old.held new.held w.run.events
+
+-- a step after which nothing more can be done now
+abbrev pub HandsLast : {L : Type 0} → Ghosts L → ℕ → Peering L → Peering L → Type 0
+HandsLast link at old new = (r : Rested link at 1 old new) × Handed old.held new.held r.run.events
+
+-- ---- one frame
+
+-- A frame of a session was given to the connection: nothing passed at the link, nothing was read, and nothing was answered. It is queued,
+-- behind all that was, where the connection is open, unless it was too large for the peer, and then the connection has failed; where it is
+-- not open the frame is let go. Each history goes on by it.
+pub record Sent {L : Type 0} (link : Ghosts L) (x : Frame) (old new : Peering L) : Type 0 where
+  pub events : List Local
+  pub inside : IsInside events
+  pub silent : link_in events ≡ []
+  pub deaf : given_in events ≡ []
+  pub mute : replied_in events ≡ []
+  pub said : ((sent_in events ≡ x ∷ []) × IsOpenIn old.held) ⊎ ((sent_in events ≡ []) × (IsOpenIn new.held → ⊥))
+  pub opens : (hears_in old.held ≡ true → IsOpenIn old.held) → hears_in new.held ≡ true → IsOpenIn new.held
+  pub session : of_session x.body ≡ true
+  pub listens : hears_in new.held ≡ true → hears_in old.held ≡ true
+  pub channels : channels_in new.held ≡ channels_in old.held
+  pub replies : new.replies ≡ old.replies
+  pub kind : new.kind ≡ old.kind
+  pub stays : IsSound new.held → IsSound old.held
+  pub link_is : (d : L) → link_of d new ≡ link_of d old
+  pub grows : (h : List Local) → Has old h → Has new (events ++ h)
