@@ -1,21 +1,18 @@
 -- What a run counts.
-use Rattle.std.specs.Prelude.{◌≡◌, ℕ, zero, suc, ◌+◌, ◌*◌, ◌<◌, ◌≤◌, min, Bool, cond, List, [], ◌∷◌, length, refl}
-use Rattle.std.proofs.Common.{arith, sym, ◌∙◌, ap, subst, suc-mul}
+use Rattle.std.specs.Prelude.{◌≡◌, ℕ, zero, suc, ◌*◌, ◌<◌, ◌≤◌, min, Bool, cond, List, [], ◌∷◌, length, refl}
+use Rattle.std.proofs.Common.{arith, ◌∙◌, ap, suc-mul}
 use Rattle.std.proofs.Math.Nat.{mul_comm, min-eq_left}
 use Rattle.std.proofs.lemmas.List.Sums.{sum_by-cons}
-use Rattle.amqp_composites.specs.declared.modes.ReceiverSettleMode.TheVariants.{First}
 use Rattle.amqp_delivery.specs.Book.{Book, view_of}
 use Rattle.amqp_delivery.specs.declared.entry.Kept.{Kept}
-use Rattle.amqp_delivery.specs.declared.info.DeliveryInfo.{DeliveryInfo}
-use Rattle.amqp_delivery.specs.declared.orders.Order.{Order}
-use Rattle.book_history.specs.History.{Event, Replays}
+use Rattle.book_history.specs.History.{Event}
 use Rattle.book_history.specs.Counts.{accept_count, settled_in, settled_count}
 use Rattle.book_history.specs.Weights.{weigh, is_tag, IsApart}
 use Rattle.book_history.proofs.Weights.{own_tag, ones_length}
 use Rattle.amqp_disposers.specs.Deliveries.{deliveries_below, registered_all, first_book}
 use Rattle.amqp_disposers.specs.Work.{Ran, total, accepted_total}
 use Rattle.amqp_disposers.specs.Counts.{IsCounted}
-use Rattle.amqp_disposers.proofs.Settling.{first_accept, tag_accept, AllFirst, all_first, accepts_all, account, Settles, settles}
+use Rattle.amqp_disposers.proofs.Settling.{first_accept, tag_accept, AllFirst, all_first, accepts_all, Settles, settles}
 use Rattle.amqp_disposers.proofs.Tags.{tags_weight, tags_length, tags_accepted, count_below, one_each, Registered, registers, all_first_below}
 
 none_left : (es : List (List ℕ × Kept)) → ((t : List ℕ) → weigh (is_tag t) es ≡ 0) → length es ≡ 0

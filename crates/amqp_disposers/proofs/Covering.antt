@@ -1,5 +1,5 @@
 -- What receipts of several seats say of one history.
-use Rattle.std.specs.Prelude.{◌≡◌, ℕ, zero, suc, Bool, true, false, ◌+◌, ◌*◌, ◌<◌, ◌≤◌, ◌==◌, if◌then◌else◌, List, [], ◌∷◌, ◌++◌, map, drop, get_or, length, slice_get, Some, Result, Ok, Err, IfOk, refl}
+use Rattle.std.specs.Prelude.{◌≡◌, ℕ, zero, suc, Bool, true, false, ◌+◌, ◌*◌, ◌<◌, ◌≤◌, ◌==◌, if◌then◌else◌, List, [], ◌∷◌, map, drop, get_or, length, slice_get, Some, Result, Ok, Err, IfOk, refl}
 use Rattle.std.proofs.Common.{arith, sym, ◌∙◌, ap, subst, drop-cons, add-one, suc-mul}
 use Rattle.std.proofs.lemmas.Bool.Decides.{nat_tests}
 use Rattle.std.proofs.lemmas.Option.{slice_get_within, get_or_from_slice_get}
@@ -91,12 +91,12 @@ one_hit : (w : BookCall → ℕ) (n : ℕ) (ss : List Seat) (e : Event) → Numb
 one_hit w n [] e of = omega arith
 one_hit w n (s ∷ ss) e of = one_hit_at w n s ss e of.0 of.1 (one_hit w (n + 1) ss e of.1) (e.seat == s.number) refl
 
-grows : (w : BookCall → ℕ) (ss : List Seat) (e : Event) (es : List Event) → seats_weight w ss (e ∷ es) ≡ hits w ss e + seats_weight w ss es
+pub grows : (w : BookCall → ℕ) (ss : List Seat) (e : Event) (es : List Event) → seats_weight w ss (e ∷ es) ≡ hits w ss e + seats_weight w ss es
 grows w [] e es = omega arith
 grows w (s ∷ ss) e es = let a = grows w ss e es in omega arith
 
 -- all seats together weigh no more than the history
-seats_le : (w : BookCall → ℕ) (n : ℕ) (ss : List Seat) (h : List Event) → Numbered n ss → seats_weight w ss h ≤ total w h
+pub seats_le : (w : BookCall → ℕ) (n : ℕ) (ss : List Seat) (h : List Event) → Numbered n ss → seats_weight w ss h ≤ total w h
 seats_le w n [] [] of = omega arith
 seats_le w n (s ∷ ss) [] of = let a = seats_le w (n + 1) ss [] of.1 in omega arith
 seats_le w n ss (e ∷ es) of = let a = seats_le w n ss es of in let b = one_hit w n ss e of in let c = grows w ss e es in omega arith

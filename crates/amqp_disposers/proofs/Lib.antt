@@ -4,3 +4,4 @@ pub mod Settling
 pub mod Tags
 pub mod Counted
 pub mod Sending
+pub mod Turning

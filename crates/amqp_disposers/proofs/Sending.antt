@@ -31,6 +31,14 @@ use Rattle.amqp_delivery.specs.contracts.book.BookState as BookState
 use Rattle.book_history.specs.contracts.entry.HistoryEntry as HistoryEntry
 use Rattle.book_history.specs.contracts.entry.Receipt as Receipt
 use Rattle.book_history.specs.contracts.history.History as History
+use Rattle.atomic_table.proofs.owned.Table.TheSendSync as Table
+use Rattle.atomic_table.proofs.shared.Seat.TheSendSync as TableSeat
+use Rattle.atomic_table.proofs.shared.Shared.TheSendSync as TableShared
+use Rattle.atomic_table.proofs.send_lease.SendLease.TheSendSync as SendLease
+use Rattle.book_lock.specs.contracts.ticket_book.TicketBook as TicketBook
+use Rattle.book_lock.specs.contracts.seat.TicketSeat as TicketSeat
+use Rattle.book_lock.specs.contracts.desk.TicketDesk as TicketDesk
+use Rattle.book_lock.specs.declared.ticket_book.TicketName as TicketName
 use Rattle.amqp_threads.specs.contracts.error.DeskError as DeskError
 use Rattle.amqp_threads.specs.contracts.desk.Desk as Desk
 use Rattle.amqp_threads.specs.declared.locked.DeskName as DeskName
@@ -122,3 +130,14 @@ desk_field L n l sends shares = search (book, history, Ledgered.the_send, parts)
 
 pub desk : (L : RattleType) (n : DeskName.Ghosts L.Denot) (l : Ledger.Ghosts L.Denot) → IsSend L → IsSync L → IsSync (Desk.the_row L n l)
 desk L n l sends shares = search (desk_field, sendable) depth 60 fits 20000
+
+-- ---- with tickets
+
+pub ticket_book : (L : RattleType) (n : TicketName.Ghosts L.Denot) → IsSend L → IsSend (TicketBook.the_row L n)
+ticket_book L n sends = search (book, history, parts) depth 60 fits 20000
+
+pub ticket_seat : (L : RattleType) (n : TicketName.Ghosts L.Denot) → IsSend L → IsSend (TicketSeat.the_row L n)
+ticket_seat L n sends = search (ticket_book, receipt, DisposerView.the_field_send, DisposerView.the_send, TableSeat.the_send, parts) depth 60 fits 20000
+
+pub ticket_desk : (L : RattleType) (n : TicketName.Ghosts L.Denot) → IsSend L → IsSync L → IsSync (TicketDesk.the_row L n)
+ticket_desk L n sends shares = search (ticket_book, Table.the_sync, TableShared.the_sync, SendLease.the_sync, parts) depth 60 fits 20000

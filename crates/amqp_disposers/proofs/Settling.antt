@@ -1,8 +1,7 @@
 -- Acceptances in mode First: each settles one delivery, and leaves one less.
-use Rattle.std.specs.Prelude.{◌≡◌, ℕ, zero, suc, ◌+◌, ◌≤◌, Bool, true, false, cond, nat_le, ◌==◌, ◌/◌, List, [], ◌∷◌, ◌++◌, length, Option, None, Some, refl}
+use Rattle.std.specs.Prelude.{◌≡◌, ℕ, zero, suc, ◌+◌, ◌≤◌, Bool, true, false, cond, nat_le, ◌==◌, ◌/◌, List, [], ◌∷◌, length, Option, None, Some, refl}
 use Rattle.std.proofs.Common.{arith, sym, ◌∙◌, ap, subst}
 use Rattle.std.specs.Str.{bytes_eq}
-use Rattle.std.specs.Map.{lookup}
 use Rattle.indexmap.specs.IndexMap.{swap_remove_entry}
 use Rattle.amqp_composites.specs.declared.modes.ReceiverSettleMode.{ReceiverSettleMode}
 use Rattle.amqp_composites.specs.declared.modes.ReceiverSettleMode.TheVariants.{First, Second}
@@ -11,7 +10,6 @@ use Rattle.amqp_delivery.specs.States.{accepted}
 use Rattle.amqp_delivery.specs.Book.{Book, settled_at, settled, processed_one, refill_at, refill, found_in, mode_for, is_first, one_if}
 use Rattle.amqp_delivery.specs.Step.{step, reply_of}
 use Rattle.amqp_delivery.specs.declared.entry.Kept.{Kept}
-use Rattle.amqp_delivery.specs.declared.orders.Order.{Order}
 use Rattle.amqp_delivery.specs.declared.orders.Order.TheVariants.{Disposition, Flow}
 use Rattle.amqp_delivery.specs.declared.info.CreditMode.{CreditMode}
 use Rattle.amqp_delivery.specs.declared.info.CreditMode.TheVariants.{Manual, Auto}

@@ -1,5 +1,5 @@
 -- The deliveries that are registered, by their tags.
-use Rattle.std.specs.Prelude.{◌≡◌, ◌≢◌, ℕ, zero, suc, ◌+◌, ◌<◌, ◌≤◌, Bool, true, false, cond, List, [], ◌∷◌, ◌++◌, length, Option, None, Some, refl}
+use Rattle.std.specs.Prelude.{◌≡◌, ℕ, zero, suc, ◌+◌, ◌<◌, ◌≤◌, Bool, true, false, cond, List, [], ◌∷◌, ◌++◌, length, Option, None, Some, refl}
 use Rattle.std.proofs.Common.{arith, sym, ◌∙◌, ap, subst, length-append}
 use Rattle.std.proofs.lemmas.List.Sums.{sum_by-cons}
 use Rattle.std.proofs.lemmas.Nat.{from_be_bytes-to_be_bytes_4}
@@ -8,13 +8,13 @@ use Rattle.std.specs.Str.{bytes_eq}
 use Rattle.std.specs.Map.{lookup}
 use Rattle.indexmap.specs.IndexMap.{insert_entry}
 use Rattle.amqp_composites.specs.declared.modes.ReceiverSettleMode.TheVariants.{First}
-use Rattle.amqp_delivery.specs.Book.{Book, registered, entry_for, found_in}
+use Rattle.amqp_delivery.specs.Book.{Book, registered, entry_for}
 use Rattle.amqp_delivery.specs.declared.entry.Kept.{Kept}
 use Rattle.amqp_delivery.specs.declared.info.DeliveryInfo.{DeliveryInfo}
 use Rattle.amqp_delivery.specs.declared.info.DisposerView.{DisposerView}
-use Rattle.book_history.specs.Weights.{weigh, is_tag, IsApart}
+use Rattle.book_history.specs.Weights.{weigh, is_tag}
 use Rattle.book_history.proofs.Weights.{same_tag, own_tag, removed_weight}
-use Rattle.amqp_disposers.specs.Deliveries.{delivery_of, deliveries_below, registered_all, first_book}
+use Rattle.amqp_disposers.specs.Deliveries.{delivery_of, deliveries_below, registered_all}
 use Rattle.amqp_disposers.specs.Work.{accepted_total}
 use Rattle.amqp_disposers.proofs.Settling.{first_accept, tag_accept}
 

@@ -1,5 +1,5 @@
 -- What workers give back.
-use Rattle.std.specs.Prelude.{◌≡◌, ℕ, zero, suc, ◌<◌, List, [], ◌∷◌, map, length, slice_index_or, Result, Ok}
+use Rattle.std.specs.Prelude.{◌≡◌, ℕ, suc, ◌<◌, List, [], ◌∷◌, map, length, slice_index_or, Result, Ok}
 use Rattle.std.proofs.Common.{arith, subst, sym}
 use Rattle.amqp_delivery.specs.declared.info.DeliveryInfo.{DeliveryInfo}
 use Rattle.amqp_threads.specs.Seats.{Seat}

@@ -30,3 +30,8 @@ IsEndUnwritten Done = ⊥
 IsEndUnwritten Memory = Unit {0}
 IsEndUnwritten WriteFault = ⊥
 IsEndUnwritten Differs = Unit {0}
+
+-- the desk's answer is want of memory
+abbrev pub IsWantOfMemory : DeskError → Type 0
+IsWantOfMemory (desk.Memory error) = Unit {0}
+IsWantOfMemory (desk.Differs receipt entry) = ⊥

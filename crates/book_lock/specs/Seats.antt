@@ -1,5 +1,5 @@
 -- What the seats of a ticket desk keep.
-use Rattle.std.specs.Prelude.{◌≡◌, ℕ, ◌≤◌, List, [], ◌∷◌, ◌++◌, length}
+use Rattle.std.specs.Prelude.{◌≡◌, ℕ, ◌<◌, ◌≤◌, List, [], ◌∷◌, ◌++◌, map, length}
 use Rattle.atomic_table.specs.Seated.{TableId}
 use Rattle.amqp_delivery.specs.declared.info.DisposerView.{DisposerView}
 use Rattle.book_history.specs.History.{Event}
@@ -7,7 +7,7 @@ use Rattle.book_history.specs.Receipts.{Stand}
 use Rattle.book_history.specs.declared.entry.Receipt.{Receipt}
 use Rattle.book_lock.specs.declared.error.TicketError.{TicketError}
 use Rattle.book_lock.specs.declared.error.TicketError.TheVariants.{Memory, Full}
-use Rattle.book_lock.specs.Begins.{Begins}
+use Rattle.book_lock.specs.Begins.{Begins, of_seat, IsAmong}
 
 -- a seat: its number, its view, the receipts of its calls, the beginning of the history that it has seen, and its desk's table
 pub record Seat : Type 0 where
@@ -16,6 +16,20 @@ pub record Seat : Type 0 where
   pub receipts : List Receipt
   pub front : List Event
   pub table : TableId
+
+-- a note: the beginning of the history that its seat had seen, and the desk's table
+pub record Note : Type 0 where
+  pub front : List Event
+  pub table : TableId
+
+abbrev pub entries : List Receipt → List Event
+entries rs = map (λ r. r.entry) rs
+
+-- in this history each receipt's entry stands at its place, and the entries with this number are those of the receipts, each once,
+-- in their order
+pub record HasOwn (number : ℕ) (receipts : List Receipt) (history : List Event) : Type 0 where
+  pub stand : Stand 0 history receipts
+  pub own : of_seat number history ≡ entries receipts
 
 -- the same but for what was seen, which goes on from what was seen before
 pub record Keeps (old new : Seat) : Type 0 where
@@ -50,7 +64,14 @@ abbrev pub AllAt : TableId → List Seat → Type 0
 AllAt table [] = Unit {0}
 AllAt table (s ∷ ss) = (s.table ≡ table) × AllAt table ss
 
--- the receipts of all seats stand in this history
-abbrev pub AllStand : List Event → List Seat → Type 0
-AllStand history [] = Unit {0}
-AllStand history (s ∷ ss) = Stand 0 history s.receipts × AllStand history ss
+abbrev pub numbers_of : List Seat → List ℕ
+numbers_of ss = map (λ s. s.number) ss
+
+-- each number below the count is that of a seat
+abbrev pub AllHere : ℕ → List Seat → Type 0
+AllHere count ss = (n : ℕ) → n < count → IsAmong n (numbers_of ss)
+
+-- the calls of all seats stand in this history
+abbrev pub AllOwn : List Event → List Seat → Type 0
+AllOwn history [] = Unit {0}
+AllOwn history (s ∷ ss) = HasOwn s.number s.receipts history × AllOwn history ss

@@ -1,5 +1,5 @@
 -- What lies in the slot of a ticketed lock.
-use Rattle.std.specs.Prelude.{[], List}
+use Rattle.std.specs.Prelude.{List}
 use Rattle.amqp_delivery.specs.Book.{Book, empty_book}
 use Rattle.amqp_delivery.specs.declared.info.CreditMode.TheVariants.{Manual}
 use Rattle.amqp_composites.specs.declared.modes.ReceiverSettleMode.TheVariants.{First}

@@ -17,20 +17,25 @@ pub struct TicketView {
     pub front: LinkedList<HistoryEntry>,
     /// Another, which it was told of.
     pub told: LinkedList<HistoryEntry>,
+    /// The numbers with which it makes calls.
+    pub numbers: LinkedList<u64>,
+    /// Those of a seat that it was told of.
+    pub told_numbers: LinkedList<u64>,
 }
 
-/// The rule.
+/// The rule. It is told how many numbers there are, which the first seat has.
 pub(crate) struct InTurns<L: TicketName> {
     of: PhantomData<L>,
 }
 
-impl<L: TicketName> TableRule<Option<TicketBook<L>>, TicketView, ()> for InTurns<L> {
+impl<L: TicketName> TableRule<Option<TicketBook<L>>, TicketView, usize> for InTurns<L> {
+    ghost use Rattle.book_lock.specs.Begins.{from};
     ghost use Rattle.book_lock.specs.Rule.{Kept, newcomer};
     ghost use Rattle.std.specs.Prelude.{[]};
 
-    ghost holds = { λ _ s. Kept s };
+    ghost holds = { λ k s. Kept k s };
 
-    ghost first = { λ _. newcomer [] };
+    ghost first = { λ k. newcomer [] (from 0 k) };
 }
 
 /// A ticket is drawn where the word is the number given.
@@ -69,22 +74,37 @@ impl<L: TicketName> Play<Option<TicketBook<L>>, TicketView> for Sees {
     ghost then = { Seen };
 }
 
-/// Another seat is made, which has seen as much.
+/// Another seat is made, which has seen as much, and takes the first number.
+pub(crate) struct Numbers;
+
+impl Split<TicketView> for Numbers {
+    ghost use Rattle.book_lock.specs.Rule.{first_of, newcomer, numbered, rest_of};
+
+    ghost left = { λ v. numbered v (rest_of v.numbers) };
+
+    ghost right = { λ v. newcomer v.front (first_of v.numbers) };
+}
+
+/// A note is made, which has seen as much, and has no number.
 pub(crate) struct Notes;
 
 impl Split<TicketView> for Notes {
-    ghost use Rattle.book_lock.specs.Rule.{newcomer};
+    ghost use Rattle.book_lock.specs.Rule.{newcomer, numbered};
+    ghost use Rattle.std.specs.Prelude.{[]};
 
-    ghost left = { λ v. v };
+    ghost left = { λ v. numbered v v.numbers };
 
-    ghost right = { λ v. newcomer v.front };
+    ghost right = { λ v. newcomer v.front [] };
 }
 
-impl Join<TicketView> for Notes {
+/// A seat is told what a note, or another seat, has seen.
+pub(crate) struct Tells;
+
+impl Join<TicketView> for Tells {
     ghost use Rattle.book_lock.specs.Rule.{informed, newcomer};
     ghost use Rattle.std.specs.Prelude.{[]};
 
     ghost both = { informed };
 
-    ghost spent = { newcomer [] };
+    ghost spent = { newcomer [] [] };
 }

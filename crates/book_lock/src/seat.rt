@@ -1,14 +1,16 @@
 //! The seats of a ticket desk.
-ghost use Rattle.std.specs.Prelude.{◌≡◌, [], IfOk, IfErr, OnErr};
+ghost use Rattle.std.specs.Prelude.{◌≡◌, ◌<◌, ◌⊎◌, ◌∷◌, [], IfOk, IfErr, OnErr};
 ghost use Rattle.amqp_delivery.specs.declared.calls.BookCall.TheVariants.{Register, Accept, Release, TakeOrders};
 ghost use Rattle.amqp_delivery.specs.Step.{orders};
-ghost use Rattle.book_history.specs.Receipts.{IsOf, HandsOut, Stand};
+ghost use Rattle.book_history.specs.Receipts.{IsOf, HandsOut};
+ghost use Rattle.book_lock.specs.Begins.{Begins};
 ghost use Rattle.book_lock.specs.Calls.{Idle};
-ghost use Rattle.book_lock.specs.Seats.{Adds, Keeps, IsFull};
+ghost use Rattle.book_lock.specs.Seats.{Adds, HasOwn, Keeps, IsFull};
 
 use crate::desk::TicketDesk;
 use crate::error::TicketError;
-use crate::steps::Place;
+use crate::note::TicketNote;
+use crate::steps::{Place, copy, join, see};
 use crate::ticket_book::TicketName;
 use crate::turns::run_turn;
 use amqp_delivery::{BookCall, DeliveryInfo, DisposerView, OrderList};
@@ -18,7 +20,7 @@ use std::marker::Model;
 use std::sync::Wait;
 
 /// A seat at a ticket desk, which makes calls and keeps their receipts. It has seen a beginning of the history, in which its
-/// receipts stand.
+/// calls stand, each once.
 #[derive(Drop)]
 pub struct TicketSeat<L: TicketName> {
     number: u32,
@@ -29,9 +31,9 @@ pub struct TicketSeat<L: TicketName> {
 }
 
 impl<L: TicketName> Model for TicketSeat<L> {
-    ghost use Rattle.std.specs.Prelude.{◌≡◌, [], false};
-    ghost use Rattle.book_history.specs.Receipts.{Stand};
-    ghost use Rattle.book_lock.specs.Seats.{Seat};
+    ghost use Rattle.std.specs.Prelude.{◌≡◌, ◌∷◌, []};
+    ghost use Rattle.book_lock.specs.Calls.{Idle};
+    ghost use Rattle.book_lock.specs.Seats.{Seat, HasOwn};
 
     ghost Value = { Seat };
 
@@ -42,12 +44,14 @@ impl<L: TicketName> Model for TicketSeat<L> {
 
     ghost view = { λ a. record { number = a.number; view = a.view; receipts = a.receipts.items; front = a.place.me.0.front; table = a.place.table_id } };
 
-    ghost invariant = { λ a. (a.place.me.1 ≡ []) × (a.place.me.0.waits ≡ false) × (a.place.me.0.turn ≡ false) × Stand 0 a.place.me.0.front a.receipts.items };
+    ghost invariant = { λ a. Idle a.place.me × (a.place.me.0.numbers ≡ a.number ∷ []) × HasOwn a.number a.receipts.items a.place.me.0.front };
 }
 
 impl<L: TicketName> TicketSeat<L> {
     pub(crate) fn new(alloc: Global, number: u32, view: DisposerView, place: Place<L>) -> Self
-        requires { Idle place.me }
+        requires idle { Idle place.me }
+        requires numbers { place.me.0.numbers ≡ number ∷ [] }
+        requires front { place.me.0.front ≡ [] }
         ensures { result ≡ record { number = number; view = view; receipts = []; front = place.me.0.front; table = place.table_id } }
     {
         TicketSeat {
@@ -69,7 +73,7 @@ impl<L: TicketName> TicketSeat<L> {
     /// The receipts of the calls that the seat made, in their order.
     pub fn receipts(&self) -> &[Receipt]
         ensures same { result.now ≡ self.now.receipts }
-        ensures stand { Stand 0 self.now.front self.now.receipts }
+        ensures own { HasOwn self.now.number self.now.receipts self.now.front }
     {
         self.receipts.as_slice()
     }
@@ -77,9 +81,10 @@ impl<L: TicketName> TicketSeat<L> {
     /// The seat's place at the lock.
     pub(crate) fn into_place(self) -> Place<L>
         ensures idle { Idle result.me }
+        ensures numbers { result.me.0.numbers ≡ self.number ∷ [] }
         ensures front { result.me.0.front ≡ self.front }
         ensures table { result.table_id ≡ self.table }
-        ensures stand { Stand 0 self.front self.receipts }
+        ensures own { HasOwn self.number self.receipts self.front }
     {
         let TicketSeat {
             number: _,
@@ -100,10 +105,12 @@ impl<L: TicketName> TicketSeat<L> {
     ) -> Result<(Receipt, OrderList), TicketError>
         requires table { self.old.table ≡ desk.now.table.shared.table_id }
         ensures made { IfOk result (λ r. Adds self.old self.new r.0) }
+        ensures within { IfOk result (λ r. r.0.place < desk.now.calls) }
         ensures call { IfOk result (λ r. IsOf self.old.number call.now r.0) }
         ensures orders { IfOk result (λ r. HandsOut call.now r.0.entry.reply r.1.list) }
         ensures error { OnErr result (Keeps self.old self.new) }
         ensures full { IfErr result (IsFull desk.now.calls) }
+        ensures own { HasOwn self.new.number self.new.receipts self.new.front }
     {
         if self.receipts.reserve(1).is_err() {
             return Err(TicketError::Memory(AllocError));
@@ -136,9 +143,11 @@ impl<L: TicketName> TicketSeat<L> {
     ) -> Result<Receipt, TicketError>
         requires table { self.old.table ≡ desk.now.table.shared.table_id }
         ensures made { IfOk result (λ r. Adds self.old self.new r) }
+        ensures within { IfOk result (λ r. r.place < desk.now.calls) }
         ensures call { IfOk result (λ r. IsOf self.old.number (Register info) r) }
         ensures error { OnErr result (Keeps self.old self.new) }
         ensures full { IfErr result (IsFull desk.now.calls) }
+        ensures own { HasOwn self.new.number self.new.receipts self.new.front }
     {
         match self.call(rt, desk, &BookCall::Register(info)) {
             Ok((receipt, _)) => Ok(receipt),
@@ -156,9 +165,11 @@ impl<L: TicketName> TicketSeat<L> {
     ) -> Result<Receipt, TicketError>
         requires table { self.old.table ≡ desk.now.table.shared.table_id }
         ensures made { IfOk result (λ r. Adds self.old self.new r) }
+        ensures within { IfOk result (λ r. r.place < desk.now.calls) }
         ensures call { IfOk result (λ r. IsOf self.old.number (Accept self.old.view info.now) r) }
         ensures error { OnErr result (Keeps self.old self.new) }
         ensures full { IfErr result (IsFull desk.now.calls) }
+        ensures own { HasOwn self.new.number self.new.receipts self.new.front }
     {
         let Ok(info) = info.try_clone(self.alloc) else {
             return Err(TicketError::Memory(AllocError));
@@ -179,9 +190,11 @@ impl<L: TicketName> TicketSeat<L> {
     ) -> Result<Receipt, TicketError>
         requires table { self.old.table ≡ desk.now.table.shared.table_id }
         ensures made { IfOk result (λ r. Adds self.old self.new r) }
+        ensures within { IfOk result (λ r. r.place < desk.now.calls) }
         ensures call { IfOk result (λ r. IsOf self.old.number (Release self.old.view info.now) r) }
         ensures error { OnErr result (Keeps self.old self.new) }
         ensures full { IfErr result (IsFull desk.now.calls) }
+        ensures own { HasOwn self.new.number self.new.receipts self.new.front }
     {
         let Ok(info) = info.try_clone(self.alloc) else {
             return Err(TicketError::Memory(AllocError));
@@ -200,11 +213,37 @@ impl<L: TicketName> TicketSeat<L> {
     ) -> Result<(Receipt, OrderList), TicketError>
         requires table { self.old.table ≡ desk.now.table.shared.table_id }
         ensures made { IfOk result (λ r. Adds self.old self.new r.0) }
+        ensures within { IfOk result (λ r. r.0.place < desk.now.calls) }
         ensures call { IfOk result (λ r. IsOf self.old.number TakeOrders r.0) }
         ensures orders { IfOk result (λ r. r.0.entry.reply ≡ orders r.1.list) }
         ensures error { OnErr result (Keeps self.old self.new) }
         ensures full { IfErr result (IsFull desk.now.calls) }
+        ensures own { HasOwn self.new.number self.new.receipts self.new.front }
     {
         self.call(rt, desk, &BookCall::TakeOrders)
+    }
+
+    /// A note of what this seat has seen, for another seat. It takes no memory.
+    pub fn note(&mut self, desk: &TicketDesk<L>) -> TicketNote<L>
+        requires { self.old.table ≡ desk.now.table.shared.table_id }
+        ensures front { result.front ≡ self.old.front }
+        ensures table { result.table ≡ self.old.table }
+        ensures same { self.new ≡ self.old }
+    {
+        TicketNote::new(copy(&desk.table.shared, &mut self.place))
+    }
+
+    /// Takes in a note of another seat. One of the two had seen what the other had, and perhaps more; the seat has then seen all that
+    /// both had.
+    pub fn meet(&mut self, desk: &TicketDesk<L>, note: TicketNote<L>)
+        requires table { self.old.table ≡ desk.now.table.shared.table_id }
+        requires note { note.table ≡ desk.now.table.shared.table_id }
+        ensures keeps { Keeps self.old self.new }
+        ensures told { Begins note.front self.new.front }
+        ensures one { Begins self.old.front note.front ⊎ Begins note.front self.old.front }
+        ensures own { HasOwn self.new.number self.new.receipts self.new.front }
+    {
+        join(&desk.table.shared, &mut self.place, note.into_place());
+        see(&desk.table.shared, &mut self.place);
     }
 }

@@ -1,16 +1,19 @@
 //! The steps of a seat on the lock.
-ghost use Rattle.std.specs.Prelude.{◌≡◌, ◌+◌, ◌<◌, true, false, [], ◌∷◌, Some, MatchBool};
-ghost use Rattle.book_lock.specs.Rule.{newcomer, informed};
+ghost use Rattle.std.specs.Prelude.{◌≡◌, ℕ, ◌+◌, ◌<◌, true, false, [], ◌∷◌, Some, MatchBool};
+ghost use Rattle.book_lock.specs.Begins.{from, IsAmong};
+ghost use Rattle.book_lock.specs.Rule.{first_of, informed, newcomer, numbered, rest_of};
 ghost use Rattle.book_lock.specs.Plays.{waiting, in_turn, after_turn, seeing};
 ghost use Rattle.book_lock.specs.Calls.{Turns, Sees, Holds};
 ghost use Rattle.book_lock.specs.Tickets.{Held};
 
-use crate::rule::{Advances, Draws, InTurns, Looks, Notes, Sees as Seeing, TicketView};
+use crate::rule::{
+    Advances, Draws, InTurns, Looks, Notes, Numbers, Sees as Seeing, Tells, TicketView,
+};
 use crate::ticket_book::{TicketBook, TicketName};
 use atomic_table::{Seat, Shared};
 
 /// A table of the lock.
-pub(crate) type Lock<L> = Shared<Option<TicketBook<L>>, TicketView, (), InTurns<L>>;
+pub(crate) type Lock<L> = Shared<Option<TicketBook<L>>, TicketView, usize, InTurns<L>>;
 
 /// A place at it.
 pub(crate) type Place<L> = Seat<Option<TicketBook<L>>, TicketView>;
@@ -35,6 +38,7 @@ pub(crate) fn look<L: TicketName>(lock: &Lock<L>, place: &mut Place<L>, ticket: 
     requires words { lock.now.table_id.words ≡ 2 }
     requires waits { (place.old.me.0.waits ≡ true) × (place.old.me.0.turn ≡ false) }
     requires ticket { place.old.me.0.ticket ≡ ticket }
+    requires number { (n : ℕ) × IsAmong n place.old.me.0.numbers }
     ensures table { place.new.table_id ≡ place.old.table_id }
     ensures id { place.new.id ≡ place.old.id }
     ensures me { MatchBool result (Turns place.old.me place.new.me) (place.new.me ≡ place.old.me) }
@@ -69,29 +73,47 @@ pub(crate) fn see<L: TicketName>(lock: &Lock<L>, place: &mut Place<L>)
     lock.load::<Seeing>(place, 0);
 }
 
-/// Another place, which has seen as much.
+/// The place of a new seat, which has seen as much, and takes the first of the numbers.
 pub(crate) fn split<L: TicketName>(lock: &Lock<L>, place: &mut Place<L>) -> Place<L>
     requires table { place.old.table_id ≡ lock.now.table_id }
     requires words { lock.now.table_id.words ≡ 2 }
+    requires idle { place.old.me.0.turn ≡ false }
+    requires numbers { (k : ℕ) × (m : ℕ) × (place.old.me.0.numbers ≡ from k m) }
+    requires told { place.old.me.0.told_numbers ≡ [] }
+    ensures table { place.new.table_id ≡ place.old.table_id }
+    ensures id { place.new.id ≡ place.old.id }
+    ensures me { place.new.me ≡ (numbered place.old.me.0 (rest_of place.old.me.0.numbers), place.old.me.1) }
+    ensures other_table { result.table_id ≡ place.old.table_id }
+    ensures other { result.me ≡ (newcomer place.old.me.0.front (first_of place.old.me.0.numbers), []) }
+{
+    lock.split_seat::<Numbers>(place)
+}
+
+/// The place of a note, which has seen as much, and has no number.
+pub(crate) fn copy<L: TicketName>(lock: &Lock<L>, place: &mut Place<L>) -> Place<L>
+    requires table { place.old.table_id ≡ lock.now.table_id }
+    requires words { lock.now.table_id.words ≡ 2 }
+    requires idle { place.old.me.0.turn ≡ false }
     ensures table { place.new.table_id ≡ place.old.table_id }
     ensures id { place.new.id ≡ place.old.id }
     ensures me { place.new.me ≡ place.old.me }
     ensures other_table { result.table_id ≡ place.old.table_id }
-    ensures other { result.me ≡ (newcomer place.old.me.0.front, []) }
+    ensures other { result.me ≡ (newcomer place.old.me.0.front [], []) }
 {
     lock.split_seat::<Notes>(place)
 }
 
-/// Tells a place what another has seen.
+/// Tells a place what another has seen, and gives it the numbers of the other.
 pub(crate) fn join<L: TicketName>(lock: &Lock<L>, place: &mut Place<L>, other: Place<L>)
     requires table { place.old.table_id ≡ lock.now.table_id }
     requires words { lock.now.table_id.words ≡ 2 }
+    requires idle { place.old.me.0.turn ≡ false }
     requires other_table { other.table_id ≡ lock.now.table_id }
     requires other { other.me.1 ≡ [] }
-    requires idle { other.me.0.turn ≡ false }
+    requires other_idle { other.me.0.turn ≡ false }
     ensures table { place.new.table_id ≡ place.old.table_id }
     ensures id { place.new.id ≡ place.old.id }
     ensures me { place.new.me ≡ (informed place.old.me.0 other.me.0, place.old.me.1) }
 {
-    lock.join_seat::<Notes>(place, other);
+    lock.join_seat::<Tells>(place, other);
 }

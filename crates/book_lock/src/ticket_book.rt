@@ -1,8 +1,9 @@
 //! What lies in the slot.
-ghost use Rattle.std.specs.Prelude.{◌≡◌, ◌++◌, ◌∷◌, [], length, IfOk, OnErr};
+ghost use Rattle.std.specs.Prelude.{◌≡◌, ◌+◌, ◌≤◌, ◌++◌, ◌∷◌, [], length, IfOk, OnErr};
 ghost use Rattle.book_history.specs.History.{Replays, event_of};
 ghost use Rattle.book_history.specs.Receipts.{IsOf, HandsOut};
 ghost use Rattle.book_lock.specs.Begins.{Begins};
+ghost use Rattle.book_lock.specs.Calls.{IsWorkOf};
 
 use amqp_delivery::{BookCall, BookState, OrderList};
 use book_history::{History, HistoryEntry, Receipt, make_call};
@@ -99,6 +100,8 @@ impl<L: TicketName> TicketBook<L> {
         ensures both { IfOk result (λ r. r.kept ≡ r.receipt) }
         ensures orders { IfOk result (λ r. HandsOut call.now r.receipt.entry.reply r.orders.list) }
         ensures goes_on { Begins self.old.history self.new.history }
+        ensures work { IsWorkOf seat self.old.history self.new.history }
+        ensures one { length self.new.history ≤ length self.old.history + 1 }
         ensures memory { OnErr result (self.new ≡ self.old) }
     {
         self.history.reserve_one()?;

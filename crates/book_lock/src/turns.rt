@@ -1,6 +1,7 @@
 //! A ticket, the wait for its turn, and the turn.
-ghost use Rattle.std.specs.Prelude.{◌≡◌, ◌+◌, ◌<◌, ◌≤◌, ◌++◌, ◌∷◌, true, false, [], length, MatchResult, IfOk, IfErr, OnErr, Some, None};
+ghost use Rattle.std.specs.Prelude.{◌≡◌, ℕ, ◌+◌, ◌<◌, ◌≤◌, ◌++◌, ◌∷◌, true, false, [], length, MatchResult, IfOk, IfErr, OnErr, Some, None};
 ghost use Rattle.book_history.specs.Receipts.{IsOf, HandsOut};
+ghost use Rattle.book_lock.specs.Begins.{IsAmong};
 ghost use Rattle.book_lock.specs.Plays.{waiting, after_turn};
 ghost use Rattle.book_lock.specs.Calls.{Turns, Begun, Idle, Taken, Passed};
 ghost use Rattle.book_lock.specs.Seats.{IsFull};
@@ -53,6 +54,7 @@ pub(crate) fn wait_turn<L: TicketName, R: Wait>(
     requires words { lock.now.table_id.words ≡ 2 }
     requires waits { (place.old.me.0.waits ≡ true) × (place.old.me.0.turn ≡ false) }
     requires ticket { place.old.me.0.ticket ≡ ticket }
+    requires number { (n : ℕ) × IsAmong n place.old.me.0.numbers }
     ensures table { place.new.table_id ≡ place.old.table_id }
     ensures id { place.new.id ≡ place.old.id }
     ensures me { Turns place.old.me place.new.me }
@@ -108,6 +110,8 @@ pub(crate) fn take_turn<L: TicketName>(
     requires turn { place.old.me.0.turn ≡ true }
     requires ticket { place.old.me.0.ticket ≡ ticket }
     requires begun { Begun place.old.me }
+    requires short { length place.old.me.0.front ≤ ticket }
+    requires number { IsAmong seat place.old.me.0.numbers }
     ensures table { place.new.table_id ≡ place.old.table_id }
     ensures id { place.new.id ≡ place.old.id }
     ensures grown { IfOk result (λ r. place.new.me ≡ (after_turn place.old.me.0 (place.old.me.0.front ++ r.receipt.entry ∷ []), [])) }
@@ -139,9 +143,11 @@ pub(crate) fn run_turn<L: TicketName, R: Wait>(
     requires words { lock.now.table_id.words ≡ 2 }
     requires few { calls ≤ 4294967296 }
     requires idle { Idle place.old.me }
+    requires number { IsAmong seat place.old.me.0.numbers }
     ensures table { place.new.table_id ≡ place.old.table_id }
     ensures id { place.new.id ≡ place.old.id }
     ensures taken { IfOk result (λ r. Taken place.old.me place.new.me r.receipt) }
+    ensures within { IfOk result (λ r. r.receipt.place < calls) }
     ensures call { IfOk result (λ r. IsOf seat call.now r.receipt) }
     ensures both { IfOk result (λ r. r.kept ≡ r.receipt) }
     ensures orders { IfOk result (λ r. HandsOut call.now r.receipt.entry.reply r.orders.list) }

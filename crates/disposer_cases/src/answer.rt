@@ -13,20 +13,41 @@ fn number(word: &str) -> Option<u32> {
     word.parse::<u32>().ok()
 }
 
-/// The deliveries and the workers of a line, and whether the workers have to come in turns.
-fn numbers(line: &str) -> Option<(u32, u32, bool)>
-    ensures most { IfSome result (λ n. n.0 ≤ 10000) }
-    ensures some { IfSome result (λ n. 0 < n.1) }
-    ensures few { IfSome result (λ n. n.1 ≤ 64) }
+/// What a line asks for.
+#[derive(Clone, Copy)]
+struct Asked {
+    deliveries: u32,
+    workers: u32,
+    /// Whether the workers take their turns by tickets.
+    ticket: bool,
+    /// Whether two of them are held until a call of the other was answered.
+    in_turns: bool,
+}
+
+/// The deliveries and the workers of a line, and how the workers share the book.
+fn case_of(line: &str) -> Option<Asked>
+    ensures most { IfSome result (λ n. n.deliveries ≤ 10000) }
+    ensures some { IfSome result (λ n. 0 < n.workers) }
+    ensures few { IfSome result (λ n. n.workers ≤ 64) }
 {
     let (deliveries, rest) = line.split_once(' ')?;
     let deliveries = number(deliveries)?;
-    let (workers, in_turns) = match rest.strip_suffix(" in turns") {
-        Some(workers) => (number(workers)?, true),
-        None => (number(rest)?, false),
+    let (rest, in_turns) = match rest.strip_suffix(" in turns") {
+        Some(rest) => (rest, true),
+        None => (rest, false),
     };
+    let (rest, ticket) = match rest.strip_suffix(" ticket") {
+        Some(rest) => (rest, true),
+        None => (rest, false),
+    };
+    let workers = number(rest)?;
     if deliveries <= 10_000 && 1 <= workers && workers <= 64 {
-        Some((deliveries, workers, in_turns))
+        Some(Asked {
+            deliveries,
+            workers,
+            ticket,
+            in_turns,
+        })
     } else {
         None
     }
@@ -37,15 +58,22 @@ fn written<R: Threads + Wait + Sync, G: Gate + Sync>(
     rt: &R,
     gate: &G,
     alloc: Global,
-    deliveries: u32,
-    workers: u32,
+    asked: Asked,
 ) -> Result<String, AllocError>
-    requires most { deliveries ≤ 10000 }
-    requires some { 0 < workers }
-    requires few { workers ≤ 64 }
+    requires most { asked.deliveries ≤ 10000 }
+    requires some { 0 < asked.workers }
+    requires few { asked.workers ≤ 64 }
 {
     let mut sink = MemorySink::new(alloc, &[])?;
-    match run_disposers(rt, gate, alloc, deliveries, workers, &mut sink) {
+    match run_disposers(
+        rt,
+        gate,
+        alloc,
+        asked.deliveries,
+        asked.workers,
+        &mut sink,
+        asked.ticket,
+    ) {
         Ending::Done => match str::from_utf8(sink.written()) {
             Ok(text) => String::from_str(alloc, text),
             Err(_) => String::from_str(alloc, "no text"),
@@ -60,14 +88,14 @@ pub fn answers<R: Threads + Wait + Sync>(
     alloc: Global,
     given: &str,
 ) -> Result<String, AllocError> {
-    let Some((deliveries, workers, in_turns)) = numbers(given.trim()) else {
+    let Some(asked) = case_of(given.trim()) else {
         return String::from_str(alloc, "malformed");
     };
-    if !in_turns {
-        return written(rt, &OpenGate, alloc, deliveries, workers);
+    if !asked.in_turns {
+        return written(rt, &OpenGate, alloc, asked);
     }
     let gate = InTurns::new();
-    let mut text = written(rt, &gate, alloc, deliveries, workers)?;
+    let mut text = written(rt, &gate, alloc, asked)?;
     text.push_str(if gate.is_passed() {
         "in turns"
     } else {

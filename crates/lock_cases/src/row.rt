@@ -1,10 +1,12 @@
 //! The calls, and what comes of them.
-ghost use Rattle.std.specs.Prelude.{◌≡◌};
+ghost use Rattle.std.specs.Prelude.{◌≡◌, ℕ, ◌<◌, ◌∷◌, [], length, slice_get, Some};
+ghost use Rattle.amqp_delivery.specs.Book.{view_of};
+ghost use Rattle.book_lock.specs.Seats.{new_seat};
 
 use amqp_composites::modes::ReceiverSettleMode;
 use amqp_data::Binary;
 use amqp_delivery::{BookState, CreditMode, DeliveryInfo};
-use book_history::{History, Receipt};
+use book_history::Receipt;
 use book_lock::{TicketDesk, TicketError, TicketName, TicketSeat};
 use std::alloc::{AllocError, Global};
 use std::marker::Brand;
@@ -28,6 +30,12 @@ fn tell(
     Ok(())
 }
 
+/// The delivery of the calls.
+fn delivery(alloc: Global) -> Result<DeliveryInfo, AllocError> {
+    let tag = Binary::from_slice(alloc, b"\0\0\0\x07")?;
+    Ok(DeliveryInfo::new(7, tag, None))
+}
+
 /// Three calls of a seat.
 fn three_calls<L: TicketName, R: Wait>(
     rt: &R,
@@ -37,16 +45,42 @@ fn three_calls<L: TicketName, R: Wait>(
     text: &mut String,
 ) -> Result<(), AllocError>
     requires { seat.old.table ≡ desk.now.table.shared.table_id }
-    ensures { seat.new.table ≡ seat.old.table }
+    ensures table { seat.new.table ≡ seat.old.table }
+    ensures number { seat.new.number ≡ seat.old.number }
 {
-    let tag = Binary::from_slice(alloc, b"\0\0\0\x07")?;
-    let info = DeliveryInfo::new(7, tag, None);
+    let info = delivery(alloc)?;
     let copy = info.try_clone(alloc)?;
     let answer = seat.register(rt, desk, copy);
     tell(alloc, text, answer)?;
     let answer = seat.accept(rt, desk, &info);
     tell(alloc, text, answer)?;
     let answer = seat.accept(rt, desk, &info);
+    tell(alloc, text, answer)
+}
+
+/// A seat registers the delivery; another takes in its note, and accepts the delivery.
+fn noted_calls<L: TicketName, R: Wait>(
+    rt: &R,
+    alloc: Global,
+    desk: &TicketDesk<L>,
+    first: &mut TicketSeat<L>,
+    second: &mut TicketSeat<L>,
+    text: &mut String,
+) -> Result<(), AllocError>
+    requires first { first.old.table ≡ desk.now.table.shared.table_id }
+    requires second { second.old.table ≡ desk.now.table.shared.table_id }
+    ensures first_table { first.new.table ≡ first.old.table }
+    ensures first_number { first.new.number ≡ first.old.number }
+    ensures second_table { second.new.table ≡ second.old.table }
+    ensures second_number { second.new.number ≡ second.old.number }
+{
+    let info = delivery(alloc)?;
+    let copy = info.try_clone(alloc)?;
+    let answer = first.register(rt, desk, copy);
+    tell(alloc, text, answer)?;
+    let note = first.note(desk);
+    second.meet(desk, note);
+    let answer = second.accept(rt, desk, &info);
     tell(alloc, text, answer)
 }
 
@@ -63,27 +97,53 @@ fn row<L: TicketName, R: Wait>(rt: &R, alloc: Global, book: BookState) -> Result
     };
     let mut text = String::new(alloc);
     three_calls(rt, alloc, &desk, &mut seat, &mut text)?;
-    seats.push(seat).map_err(AllocError::from)?;
-    let closed = desk.close(rt, seats);
-    let entries = entries_of(closed);
-    let line = format!(in alloc; "closed with {entries} entries")?;
+    let seats = vec![in alloc; seat]?;
+    let (book, history) = desk.close(seats);
+    drop(book);
+    let entries = history.len();
+    let line = format!(in alloc; "closed with {entries} entries\n")?;
     text.push_str(line.as_str())?;
     Ok(text)
 }
 
-/// How many entries the history has; none where the desk was not closed.
-fn entries_of(closed: Result<(BookState, History), TicketError>) -> usize {
-    match closed {
-        Ok((book, history)) => {
-            drop(book);
-            history.len()
-        }
-        Err(_) => 0,
-    }
+/// A desk for two calls, with two seats, of which one writes the other a note.
+fn noted_row<L: TicketName, R: Wait>(
+    rt: &R,
+    alloc: Global,
+    book: BookState,
+) -> Result<String, AllocError>
+    requires { book.book ≡ L.book }
+{
+    let (desk, mut seats) = match TicketDesk::<L>::new(alloc, book, 2, 2) {
+        Ok(made) => made,
+        Err(_) => return Err(AllocError),
+    };
+    let Some(mut second) = seats.pop() else {
+        return Err(AllocError);
+    };
+    let Some(mut first) = seats.pop() else {
+        return Err(AllocError);
+    };
+    let mut text = String::new(alloc);
+    noted_calls(rt, alloc, &desk, &mut first, &mut second, &mut text)?;
+    let seats = vec![in alloc; first, second]?;
+    let (book, history) = desk.close(seats);
+    drop(book);
+    let entries = history.len();
+    let line = format!(in alloc; "closed with {entries} entries\n")?;
+    text.push_str(line.as_str())?;
+    Ok(text)
+}
+
+/// An empty book.
+fn book(alloc: Global) -> BookState {
+    BookState::new(alloc, ReceiverSettleMode::First, CreditMode::Manual, 0)
 }
 
 /// What the calls come to, a line each.
 pub fn run<R: Wait>(rt: &R, alloc: Global) -> Result<String, AllocError> {
-    let book = BookState::new(alloc, ReceiverSettleMode::First, CreditMode::Manual, 0);
-    row::<Brand, R>(rt, alloc, book)
+    let mut text = row::<Brand, R>(rt, alloc, book(alloc))?;
+    let noted = noted_row::<Brand, R>(rt, alloc, book(alloc))?;
+    text.push_str(noted.as_str())?;
+    Ok(text)
 }

@@ -1,9 +1,9 @@
-use Rattle.std.proofs.Common.{◌≡◌, ℕ, List, length, IfOk, ap, subst, sym, ◌∙◌, arith}
+use Rattle.std.proofs.Common.{List, length, IfOk, ap, subst, sym, arith}
 use Rattle.amqp_delivery.specs.Book.{Book, view_of}
 use Rattle.book_history.specs.History.{Replays}
 use Rattle.amqp_threads.specs.Seats.{Seat}
-use Rattle.amqp_disposers.specs.Work.{AllServe, Ran}
-use Rattle.amqp_disposers.proofs.Covering.{Covers, covers, ran}
+use Rattle.amqp_disposers.specs.Work.{AllServe}
+use Rattle.amqp_disposers.proofs.Covering.{covers, ran}
 use Rattle.amqp_disposers.proofs.run.run_at.Goals as goal
 
 pub close-requires-clause-all : goal.close-requires-clause-all

@@ -8,5 +8,5 @@ join_seat-requires g c = (
   c.requires.other_table,
   c.requires.other,
   omega (arith, c.requires.words),
-  join_allows c.args.place.now.id c.args.other.id c.args.place.now.me.0 c.args.other.me.0 c.requires.idle,
+  join_allows c.args.lock.now.key c.args.place.now.id c.args.other.id c.args.place.now.me.0 c.args.other.me.0 c.requires.idle c.requires.other_idle,
 )

@@ -6,5 +6,5 @@ pub load-requires : goal.load-requires
 load-requires g c = (
   c.requires.table,
   omega (arith, c.requires.words),
-  see_allows c.args.lock.now.table_id.slots c.args.place.now.id c.args.place.now.me,
+  see_allows c.args.lock.now.key c.args.lock.now.table_id.slots c.args.place.now.id c.args.place.now.me,
 )
