@@ -1,5 +1,5 @@
 -- How a delivery is split over frames (OASIS AMQP 1.0, part 2, sections 2.3.1 and 2.6.14).
-use Rattle.std.specs.Prelude.{◌≡◌, ℕ, ◌+◌, ◌<◌, ◌≤◌, ◌⊎◌, true, false, List, [], ◌∷◌, ◌++◌, take, drop, length, Option, Some, None}
+use Rattle.std.specs.Prelude.{◌≡◌, ℕ, ◌+◌, ◌<◌, ◌≤◌, true, false, List, [], ◌∷◌, ◌++◌, take, drop, length, None}
 use Rattle.amqp_data.specs.Data.{Amqp}
 use Rattle.amqp_value.specs.Canonical.{canonical}
 use Rattle.amqp_composites.specs.declared.kind.CompositeKind.TheVariants as kind
@@ -13,11 +13,6 @@ use Rattle.amqp_parts.specs.declared.part.Part.{Part}
 abbrev pub fields_of : Transfer → Amqp
 fields_of x = composite kind.Transfer (transfer_fields x)
 
--- how many bytes they take: none where a length needs more than 32 bits or a value is nested too deep
-abbrev pub Measures : Transfer → Option ℕ → Type 0
-Measures x (Some n) = Fits 34 (fields_of x) × (n ≡ length (canonical (fields_of x)))
-Measures x None = Fits 34 (fields_of x) → ⊥
-
 -- a frame of that size has room for the Transfer and so many bytes behind it: its header has eight (section 2.3.1)
 pub record HasRoom (frame : ℕ) (x : Transfer) (count : ℕ) : Type 0 where
   pub fits : Fits 34 (fields_of x)
@@ -27,16 +22,6 @@ pub record HasRoom (frame : ℕ) (x : Transfer) (count : ℕ) : Type 0 where
 pub record Fills (frame : ℕ) (x : Transfer) (count : ℕ) : Type 0 where
   pub fits : Fits 34 (fields_of x)
   pub full : 8 + length (canonical (fields_of x)) + count ≡ frame
-
--- what is left of a frame of that size behind its header and so many bytes
-abbrev pub Leaves : ℕ → ℕ → Option ℕ → Type 0
-Leaves frame fields (Some n) = 8 + fields + n ≡ frame
-Leaves frame fields None = frame < 8 + fields
-
--- how many bytes fill it; none where the Transfer itself has no room
-abbrev pub IsRoom : ℕ → Transfer → Option ℕ → Type 0
-IsRoom frame x (Some n) = Fills frame x n
-IsRoom frame x None = HasRoom frame x 0 → ⊥
 
 abbrev pub saying_more : Transfer → Transfer
 saying_more x = record x { more = true }
@@ -50,16 +35,6 @@ continuation handle = record { handle = handle; delivery_id = None; delivery_tag
 
 abbrev pub last_part : Transfer → List ℕ → Part
 last_part x payload = record { transfer = saying_last x; payload = payload }
-
--- how many of those bytes fill a frame, where it is one at least and some are left
-abbrev pub MayFill : ℕ → Transfer → ℕ → Option ℕ → Type 0
-MayFill frame x len (Some n) = (0 < n) × (n < len) × Fills frame x n
-MayFill frame x len None = (n : ℕ) → 0 < n → n < len → Fills frame x n → ⊥
-
--- how many bytes the next part takes, of which x says what it says: where it is the last, all of them
-abbrev pub IsCut : ℕ → Transfer → Transfer → ℕ → Option ℕ → Type 0
-IsCut frame x said len (Some n) = (said ≡ saying_more x) × (HasRoom frame (saying_last x) len → ⊥) × MayFill frame (saying_more x) len (Some n)
-IsCut frame x said len None = (said ≡ saying_last x) × (HasRoom frame (saying_last x) len ⊎ (HasRoom frame (saying_last x) len → ⊥) × MayFill frame (saying_more x) len None)
 
 -- The parts of what is left of a delivery, whose next frame says x. What fits in one frame is the last part; else a part that says
 -- that there is more fills its frame; where no byte would fit, and some be left, all of it is the last part.

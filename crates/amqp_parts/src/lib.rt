@@ -3,9 +3,10 @@
 
 pub use incomplete::{IncompleteTransfer, PartError};
 pub use part::{Part, let_go};
-pub use splitting::split;
+pub use splitting::{Cut, first_part, split};
 
 pub mod incomplete;
+pub mod laws;
 pub mod part;
 mod room;
 pub mod splitting;

@@ -1,6 +1,6 @@
 //! How many bytes stand behind the fields of a Transfer in a frame (OASIS AMQP 1.0, part 2, section 2.3).
-ghost use Rattle.std.specs.Prelude.{IfOk};
-ghost use Rattle.amqp_parts.specs.Split.{Leaves, Measures, IsRoom};
+ghost use Rattle.std.specs.Prelude.{◌≡◌, IfOk};
+ghost use Rattle.amqp_parts.specs.Cut.{measured, behind, room_for};
 
 use amqp_composites::CompositeKind;
 use amqp_described::put_alone;
@@ -13,7 +13,7 @@ const HEADER: usize = 8;
 
 /// How many bytes the fields take; none where they have no bytes.
 fn fields_len(alloc: Global, transfer: &Transfer) -> Result<Option<usize>, AllocError>
-    ensures { IfOk result (λ n. Measures transfer.now n) }
+    ensures { IfOk result (λ n. n ≡ measured transfer.now) }
 {
     match put_alone(
         alloc,
@@ -22,30 +22,28 @@ fn fields_len(alloc: Global, transfer: &Transfer) -> Result<Option<usize>, Alloc
     ) {
         Ok(fields) => Ok(Some(fields.len())),
         Err(BaseError::Memory(error)) => Err(error),
-        Err(BaseError::Decode | BaseError::Size) => Ok(None),
+        Err(BaseError::Decode) => Ok(None),
+        Err(BaseError::Size) => Ok(None),
     }
 }
 
 /// What is left of a frame of that size behind its header and the fields.
-fn behind(max_frame: u32, fields: usize) -> Option<usize>
-    ensures { Leaves max_frame fields result }
+fn behind(max_frame: u32, fields: Option<usize>) -> Option<usize>
+    ensures { result ≡ behind max_frame fields }
 {
     (max_frame as usize)
-        .checked_sub(fields)?
+        .checked_sub(fields?)?
         .checked_sub(HEADER)
 }
 
 /// How many bytes may stand behind the fields of the Transfer in a frame of that size; none where the fields do not fit in.
-pub(crate) fn room(
+pub(crate) fn room_for(
     alloc: Global,
     transfer: &Transfer,
     max_frame: u32,
 ) -> Result<Option<usize>, AllocError>
-    ensures { IfOk result (λ n. IsRoom max_frame transfer.now n) }
+    ensures { IfOk result (λ n. n ≡ room_for max_frame transfer.now) }
 {
     let fields = fields_len(alloc, transfer)?;
-    match fields {
-        Some(fields) => Ok(behind(max_frame, fields)),
-        None => Ok(None),
-    }
+    Ok(behind(max_frame, fields))
 }

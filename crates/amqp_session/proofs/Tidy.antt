@@ -1,14 +1,15 @@
 -- Nothing waits that the peer can take, and what was read is reported: each rule of a session keeps this.
-use Rattle.std.proofs.Common.{◌≡◌, ◌<◌, ◌≤◌, refl, ℕ, nat_lt, nat_le, max, true, false, Bool, List, [], ◌∷◌, ◌++◌, Option, Some, None, if◌then◌else◌, arith}
+use Rattle.std.proofs.Common.{◌≡◌, ◌∙◌, ap, ◌<◌, refl, ℕ, zero, suc, nat_eq, nat_lt, max, true, false, Bool, List, [], ◌∷◌, ◌++◌, Option, Some, None, if◌then◌else◌, arith}
+use Rattle.std.specs.Prelude.{not, filter}
 use Rattle.std.proofs.lemmas.Bool.Decides.{nat_tests}
 use Rattle.amqp_composites.specs.declared.error.Error.{Error as AmqpError}
 use Rattle.amqp_composites.specs.declared.modes.Role.{Role}
 use Rattle.amqp_composites.specs.declared.modes.Role.TheVariants as role
 use Rattle.amqp_performatives.specs.declared.attach.Attach.{Attach}
-use Rattle.amqp_performatives.specs.declared.begin.Begin.{Begin}
 use Rattle.amqp_performatives.specs.declared.detach.Detach.{Detach}
 use Rattle.amqp_performatives.specs.declared.flow.Flow.{Flow}
 use Rattle.amqp_performatives.specs.declared.transfer.Transfer.{Transfer}
+use Rattle.amqp_parts.specs.declared.part.Part.{Part}
 use Rattle.amqp_frames.specs.declared.body.FrameBody.{FrameBody}
 use Rattle.amqp_frames.specs.declared.body.FrameBody.TheVariants as b
 use Rattle.amqp_frames.specs.declared.shared.IncomingSession.{IncomingSession}
@@ -18,21 +19,21 @@ use Rattle.amqp_frames.specs.declared.shared.SessionStopReason.{SessionStopReaso
 use Rattle.amqp_session.specs.declared.error.Error.TheVariants as error
 use Rattle.amqp_session.specs.declared.error.Fault.{Fault}
 use Rattle.amqp_session.specs.declared.error.Fault.TheVariants as fault
-use Rattle.amqp_session.specs.declared.session.HeldTransfer.{HeldTransfer}
 use Rattle.amqp_session.specs.declared.session.LinkInput.{LinkInput}
 use Rattle.amqp_session.specs.declared.session.LinkInput.TheVariants as input
 use Rattle.amqp_session.specs.declared.session.SessionState.{SessionState}
 use Rattle.amqp_session.specs.declared.session.SessionState.TheVariants as state
 use Rattle.amqp_session.specs.declared.settings.SessionSettings.{SessionSettings}
-use Rattle.amqp_session.specs.declared.windows.Windows.{Windows}
 use Rattle.amqp_session.specs.Begin.{begun, accepted, mapped}
-use Rattle.amqp_session.specs.Ends.{stopped, ending, ended, answered, failing, end_asked}
+use Rattle.amqp_session.specs.Ends.{stopping, stopped, own_reason, remote_reason, ending, ended, answered, failing, end_asked, attach_refused}
+use Rattle.amqp_session.specs.Faults.{error_for}
 use Rattle.amqp_session.specs.Frames.{heard_unanswered, heard_mapped, heard_ending, heard_in, heard, told, told_in}
-use Rattle.amqp_session.specs.Hold.{leaving, releasing, released, sending, reporting}
+use Rattle.amqp_session.specs.Hold.{leaving, first_leaving, releasing, released, reporting}
 use Rattle.amqp_session.specs.Laws.{IsTidy}
-use Rattle.amqp_session.specs.Links.{input_at, handing, attach_at, attach_read, detach_at, transfer_at, report, hand_flow, echo, flowed, is_astray, flow_at}
-use Rattle.amqp_session.specs.State.{State, Framed, Made, saying}
+use Rattle.amqp_session.specs.Links.{input_at, attach_at, attach_read, detach_at, transfer_at, hand_flow, echo, is_astray, flow_at}
+use Rattle.amqp_session.specs.State.{State, Framed, Made, saying, handing}
 use Rattle.amqp_session.specs.Windows.{report_after, is_report_due, windows_flowed}
+use Rattle.amqp_session.proofs.Releases.{releasing_none}
 
 -- what was read is reported
 abbrev pub Reported : State → Type 0
@@ -45,20 +46,26 @@ pub if_state : (P : State → Type 0) (c : Bool) (t s : State) → P t → P s �
 if_state P true t s p q = p
 if_state P false t s p q = q
 
-pub releasing_keeps : (P : State → Type 0) → ((x : HeldTransfer) (xs : List HeldTransfer) (s : State) → P s → P (leaving x (record s { held = xs }))) → (xs : List HeldTransfer) (s : State) → P s → P (releasing xs s)
-releasing_keeps P step [] s p = p
-releasing_keeps P step (x ∷ xs) s p = if_state P (nat_lt 0 s.windows.allowance) (releasing xs (leaving x (record s { held = xs }))) s (releasing_keeps P step xs (leaving x (record s { held = xs })) (step x xs s p)) p
+keeps_by : (P : State → Type 0) → ((x : Part) (xs : List Part) (s : State) → P s → P (leaving x (record s { held = xs }))) → (xs : List Part) (s : State) → P s → P (first_leaving xs s)
+keeps_by P step [] s p = p
+keeps_by P step (x ∷ xs) s p = step x xs s p
 
-free_if : (c : Bool) (t s : State) → nat_lt 0 s.windows.allowance ≡ c → (0 < t.windows.allowance → t.held ≡ []) → 0 < (if c then t else s).windows.allowance → (if c then t else s).held ≡ []
-free_if true t s e h = h
-free_if false t s e h = λ p. absurd (grind (arith, nat_tests))
+pub releasing_keeps : (P : State → Type 0) → ((x : Part) (xs : List Part) (s : State) → P s → P (leaving x (record s { held = xs }))) → (n : ℕ) (s : State) → P s → P (releasing n s)
+unfolding releasing
+releasing_keeps P step zero s p = p
+releasing_keeps P step (suc n) s p = releasing_keeps P step n (first_leaving s.held s) (keeps_by P step s.held s p)
 
-releasing_free : (xs : List HeldTransfer) (s : State) → s.held ≡ xs → 0 < (releasing xs s).windows.allowance → (releasing xs s).held ≡ []
-releasing_free [] s h p = h
-releasing_free (x ∷ xs) s h p = free_if (nat_lt 0 s.windows.allowance) (releasing xs (leaving x (record s { held = xs }))) s refl (releasing_free xs (leaving x (record s { held = xs })) refl) p
+free_by : (n : ℕ) (xs : List Part) (s : State) → s.held ≡ xs → s.windows.allowance ≡ suc n → ((t : State) → t.windows.allowance ≡ n → 0 < (releasing n t).windows.allowance → (releasing n t).held ≡ []) → 0 < (releasing n (first_leaving xs s)).windows.allowance → (releasing n (first_leaving xs s)).held ≡ []
+free_by n [] s h a later p = ap (λ (t : State). t.held) (releasing_none n s h) ∙ h
+free_by n (x ∷ xs) s h a later p = later (leaving x (record s { held = xs })) (omega arith) p
+
+releasing_free : (n : ℕ) (s : State) → s.windows.allowance ≡ n → 0 < (releasing n s).windows.allowance → (releasing n s).held ≡ []
+unfolding releasing
+releasing_free zero s a p = absurd (omega arith)
+releasing_free (suc n) s a p = free_by n s.held s refl a (releasing_free n) p
 
 pub released_tidy : (s : State) → Reported s → IsTidy (released s)
-released_tidy s p = record { free = releasing_free s.held s refl; reported = releasing_keeps Reported (λ x xs t q. q) s.held s p }
+released_tidy s p = record { free = releasing_free s.windows.allowance s refl; reported = releasing_keeps Reported (λ x xs t q. q) s.windows.allowance s p }
 
 pub reporting_tidy : (s : State) → IsTidy s → IsTidy (reporting s)
 reporting_tidy s p = record { free = p.free; reported = some_after _ }
@@ -69,17 +76,29 @@ handing_tidy x s p = record { free = p.free; reported = p.reported }
 pub saying_tidy : (x : FrameBody) (s : State) → IsTidy s → IsTidy (saying x s)
 saying_tidy x s p = record { free = p.free; reported = p.reported }
 
+stopping_tidy : (r : Option SessionStopReason) (why : SessionStopReason) (s : State) → IsTidy s → IsTidy (stopping r why s)
+stopping_tidy None why s p = record { free = p.free; reported = p.reported }
+stopping_tidy (Some first) why s p = p
+
 pub stopped_tidy : (phase : SessionState) (why : SessionStopReason) (s : State) → IsTidy s → IsTidy (stopped phase why s)
-stopped_tidy phase why s p = record { free = λ q. refl; reported = p.reported }
+stopped_tidy phase why s p = stopping_tidy s.stop_reason why (record s { state = phase; held = [] }) (record { free = λ q. refl; reported = p.reported })
 
 pub ending_tidy : (e : Option AmqpError) (s : State) → IsTidy s → IsTidy (ending e s)
-ending_tidy e s p = record { free = λ q. refl; reported = p.reported }
+ending_tidy e s p = saying_tidy (b.End (record { error = e })) (stopped state.EndSent (own_reason e) s) (stopped_tidy state.EndSent (own_reason e) s p)
 
 pub ended_tidy : (e : Option AmqpError) (s : State) → IsTidy s → IsTidy (ended e s)
-ended_tidy e s p = record { free = λ q. refl; reported = p.reported }
+ended_tidy e s p =
+    let t = stopped state.Unmapped (remote_reason e) s in
+    handing_tidy input.Over (saying (b.End (record { error = None })) t) (saying_tidy (b.End (record { error = None })) t (stopped_tidy state.Unmapped (remote_reason e) s p))
 
 pub failing_tidy : (x : Fault) (s : State) → IsTidy s → IsTidy (failing x s).state
-failing_tidy x s p = record { free = λ q. refl; reported = p.reported }
+failing_tidy x s p = let q = ending_tidy (Some (error_for x)) s p in record { free = q.free; reported = q.reported }
+
+pub refused_tidy : (phase : SessionState) (s : State) → IsTidy s → IsTidy (attach_refused phase s).state
+refused_tidy state.BeginSent s p = p
+refused_tidy state.Mapped s p = failing_tidy fault.RemoteAttachingLinkNameNotFound s p
+refused_tidy state.EndSent s p = p
+refused_tidy state.Unmapped s p = p
 
 pub answered_tidy : (e : Option AmqpError) (s : State) → IsTidy s → IsTidy (answered e s).state
 answered_tidy None s p = record { free = p.free; reported = p.reported }
@@ -99,9 +118,8 @@ if_made : (c : Bool) (m n : Made) → IsTidy m.state → IsTidy n.state → IsTi
 if_made true m n p q = p
 if_made false m n p q = q
 
-attach_tidy : (l : Bool) (x : Attach) (s : State) → IsTidy s → IsTidy (attach_read l x s).state
-attach_tidy false x s p = failing_tidy fault.RemoteAttachingLinkNameNotFound s p
-attach_tidy true x s p = if_made (nat_lt s.own_handle_max x.handle) (record { state = s; answer = Some error.FramingError }) (attach_at (input_at x.handle s) x s) p (attach_at_tidy (input_at x.handle s) x s p)
+attach_tidy : (x : Attach) (s : State) → IsTidy s → IsTidy (attach_read x s).state
+attach_tidy x s p = if_made (nat_lt s.own_handle_max x.handle) (record { state = s; answer = Some error.FramingError }) (attach_at (input_at x.handle s) x s) p (attach_at_tidy (input_at x.handle s) x s p)
 
 detach_tidy : (r : Option Role) (x : Detach) (s : State) → IsTidy s → IsTidy (detach_at r x s).state
 detach_tidy None x s p = failing_tidy fault.UnattachedHandle s p
@@ -145,7 +163,7 @@ heard_unanswered_tidy channel b.Empty s p = p
 heard_mapped_tidy : (x : FrameBody) (s : State) → IsTidy s → IsTidy (heard_mapped x s).state
 heard_mapped_tidy (b.Open x) s p = p
 heard_mapped_tidy (b.Begin x) s p = p
-heard_mapped_tidy (b.Attach x) s p = attach_tidy s.is_listener x s p
+heard_mapped_tidy (b.Attach x) s p = attach_tidy x s p
 heard_mapped_tidy (b.Flow x) s p = flow_tidy (is_astray x.handle s) x s p
 heard_mapped_tidy (b.Transfer x payload) s p = transfer_tidy (input_at x.handle s) x payload s p
 heard_mapped_tidy (b.Disposition x) s p = handing_tidy (input.Disposition x) s p
@@ -180,7 +198,7 @@ told_tidy (link.Attach x) s p = saying_tidy (b.Attach x) s p
 told_tidy (link.Flow x) s p = record { free = p.free; reported = some_after _ }
 told_tidy (link.Transfer x payload) s p = released_tidy (record s { held = s.held ++ record { transfer = x; payload = payload } ∷ [] }) p.reported
 told_tidy (link.Disposition x covered) s p = saying_tidy (b.Disposition x) s p
-told_tidy (link.Detach x) s p = saying_tidy (b.Detach x) s p
+told_tidy (link.Detach x) s p = record { free = λ q. ap (λ xs. filter (λ (y : Part). not (nat_eq y.transfer.handle x.handle)) xs) (p.free q); reported = p.reported }
 
 pub told_in_tidy : (phase : SessionState) (x : LinkFrame) (s : State) → IsTidy s → IsTidy (told_in phase x s).state
 told_in_tidy state.BeginSent x s p = p

@@ -1,6 +1,5 @@
 -- What a session does with a frame, in each of its states (OASIS AMQP 1.0, part 2, section 2.5.5).
-use Rattle.std.specs.Prelude.{ℕ, List}
-use Rattle.amqp_composites.specs.declared.modes.Role.{Role}
+use Rattle.std.specs.Prelude.{ℕ}
 use Rattle.amqp_performatives.specs.declared.flow.Flow.{Flow}
 use Rattle.amqp_frames.specs.declared.body.FrameBody.{FrameBody}
 use Rattle.amqp_frames.specs.declared.body.FrameBody.TheVariants as b
@@ -12,9 +11,9 @@ use Rattle.amqp_session.specs.declared.session.SessionState.{SessionState}
 use Rattle.amqp_session.specs.declared.session.SessionState.TheVariants as state
 use Rattle.amqp_session.specs.Begin.{mapped}
 use Rattle.amqp_session.specs.Ends.{ended, answered}
-use Rattle.amqp_session.specs.Hold.{released, sending}
-use Rattle.amqp_session.specs.Links.{input_at, handing, attach_read, detach_at, transfer_at, is_astray, flow_at}
-use Rattle.amqp_session.specs.State.{State, Framed, Made, works, refuses, saying}
+use Rattle.amqp_session.specs.Hold.{released, sending, dropping}
+use Rattle.amqp_session.specs.Links.{input_at, attach_read, detach_at, transfer_at, is_astray, flow_at}
+use Rattle.amqp_session.specs.State.{State, Framed, Made, works, refuses, saying, handing}
 use Rattle.amqp_session.specs.Windows.{stamped, reported}
 
 -- the peer's Begin is awaited
@@ -25,7 +24,7 @@ heard_unanswered channel body s = refuses error.IllegalState s
 
 -- both ends have begun
 abbrev pub heard_mapped : FrameBody → State → Made
-heard_mapped (b.Attach x) s = attach_read s.is_listener x s
+heard_mapped (b.Attach x) s = attach_read x s
 heard_mapped (b.Flow x) s = flow_at (is_astray x.handle s) x s
 heard_mapped (b.Transfer x payload) s = transfer_at (input_at x.handle s) x payload s
 heard_mapped (b.Disposition x) s = works (handing (input.Disposition x) s)
@@ -53,13 +52,13 @@ heard x s = heard_in s.state x s
 abbrev pub telling_flow : Flow → State → State
 telling_flow x s = saying (b.Flow (stamped s.windows x)) (record s { windows = reported s.windows })
 
--- a link writes a frame: a Transfer waits until the peer can take it, no other frame does
+-- a link writes a frame: a Transfer waits until the peer can take it, no other frame does; a Detach drops what waits on its handle
 abbrev pub told : LinkFrame → State → State
 told (link.Attach x) s = saying (b.Attach x) s
 told (link.Flow x) s = telling_flow x s
 told (link.Transfer x payload) s = sending (record { transfer = x; payload = payload }) s
 told (link.Disposition x covered) s = saying (b.Disposition x) s
-told (link.Detach x) s = saying (b.Detach x) s
+told (link.Detach x) s = saying (b.Detach x) (dropping x.handle s)
 
 -- only in a session that both ends have begun
 abbrev pub told_in : SessionState → LinkFrame → State → Made

@@ -1,43 +1,36 @@
 -- What a session does with the frames of its links (OASIS AMQP 1.0, part 2, sections 2.6 and 2.7.2 to 2.7.7).
-use Rattle.std.specs.Prelude.{ℕ, Bool, true, false, nat_lt, nat_eq, List, [], ◌∷◌, ◌++◌, Option, Some, None, is_none, if◌then◌else◌}
+use Rattle.std.specs.Prelude.{ℕ, Bool, true, false, nat_lt, nat_eq, List, Option, Some, None, is_none, if◌then◌else◌}
 use Rattle.std.specs.Map.{lookup, remove_entry}
 use Rattle.indexmap.specs.IndexMap.{insert_entry}
 use Rattle.amqp_composites.specs.declared.modes.Role.{Role}
 use Rattle.amqp_composites.specs.declared.modes.Role.TheVariants as role
 use Rattle.amqp_performatives.specs.declared.attach.Attach.{Attach}
 use Rattle.amqp_performatives.specs.declared.detach.Detach.{Detach}
-use Rattle.amqp_performatives.specs.declared.disposition.Disposition.{Disposition}
 use Rattle.amqp_performatives.specs.declared.flow.Flow.{Flow}
 use Rattle.amqp_performatives.specs.declared.transfer.Transfer.{Transfer}
 use Rattle.amqp_session.specs.declared.error.Error.TheVariants as error
 use Rattle.amqp_session.specs.declared.error.Fault.TheVariants as fault
-use Rattle.amqp_session.specs.declared.session.LinkInput.{LinkInput}
 use Rattle.amqp_session.specs.declared.session.LinkInput.TheVariants as input
 use Rattle.amqp_session.specs.Ends.{failing}
 use Rattle.amqp_session.specs.Hold.{released, reporting}
-use Rattle.amqp_session.specs.State.{State, Made, works, refuses}
+use Rattle.amqp_session.specs.State.{State, Made, works, refuses, handing}
 use Rattle.amqp_session.specs.Windows.{windows_flowed, transfer_read, is_report_due}
 
 -- the peer's role at its handle, where that is attached
 abbrev pub input_at : ℕ → State → Option Role
 input_at handle s = lookup (nat_eq handle) s.inputs
 
--- a frame is handed to the links
-abbrev pub handing : LinkInput → State → State
-handing x s = record s { incoming = s.incoming ++ x ∷ [] }
-
--- the peer attaches a link: its handle is attached, and the Attach waits until a link takes it
+-- the peer attaches a link: its handle is attached, and the links are handed the Attach
 abbrev pub attaching : Attach → State → State
-attaching x s = record s { inputs = insert_entry nat_eq s.inputs x.handle x.role; attaches = s.attaches ++ x ∷ [] }
+attaching x s = handing (input.Attach x) (record s { inputs = insert_entry nat_eq s.inputs x.handle x.role })
 
 abbrev pub attach_at : Option Role → Attach → State → Made
 attach_at (Some r) x s = failing fault.HandleInUse s
 attach_at None x s = works (attaching x s)
 
 -- no handle above the handle-max of the reader (section 2.7.2), and none that is in use (section 2.7.3)
-abbrev pub attach_read : Bool → Attach → State → Made
-attach_read false x s = failing fault.RemoteAttachingLinkNameNotFound s
-attach_read true x s = if nat_lt s.own_handle_max x.handle then refuses error.FramingError s else attach_at (input_at x.handle s) x s
+abbrev pub attach_read : Attach → State → Made
+attach_read x s = if nat_lt s.own_handle_max x.handle then refuses error.FramingError s else attach_at (input_at x.handle s) x s
 
 -- a Detach frees the handle
 abbrev pub detach_at : Option Role → Detach → State → Made

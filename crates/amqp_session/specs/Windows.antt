@@ -1,5 +1,5 @@
 -- The numbers and the windows of a session (OASIS AMQP 1.0, part 2, section 2.5.6).
-use Rattle.std.specs.Prelude.{ℕ, ◌+◌, ◌-◌, ◌/◌, ◌%◌, Bool, false, nat_le, max, min, Option, Some, None, unwrap_or, if◌then◌else◌}
+use Rattle.std.specs.Prelude.{ℕ, ◌+◌, ◌-◌, ◌/◌, ◌%◌, Bool, false, nat_le, max, min, Some, None, unwrap_or, if◌then◌else◌}
 use Rattle.amqp_performatives.specs.declared.begin.Begin.{Begin}
 use Rattle.amqp_performatives.specs.declared.flow.Flow.{Flow}
 use Rattle.amqp_session.specs.declared.windows.Windows.{Windows}

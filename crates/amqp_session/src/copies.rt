@@ -1,9 +1,10 @@
-//! Copies of errors.
+//! Copies of errors, and of reasons for a stop. The one error is want of memory.
 ghost use Rattle.std.specs.Prelude.{◌≡◌, IfOk};
 
 use amqp_composites::error::Error;
 use amqp_data::Text;
 use amqp_fields::FieldMap;
+use amqp_frames::{ConnectionStopReason, SessionStopReason};
 use std::alloc::{AllocError, Global};
 
 fn copied_text(alloc: Global, text: &Option<Text>) -> Result<Option<Text>, AllocError>
@@ -53,4 +54,49 @@ pub(crate) fn copied_error(alloc: Global, error: &Error) -> Result<Error, AllocE
         description,
         info,
     })
+}
+
+fn copied_connection_reason(
+    alloc: Global,
+    reason: &ConnectionStopReason,
+) -> Result<ConnectionStopReason, AllocError>
+    ensures { IfOk result (λ r. r ≡ reason.now) }
+{
+    match reason {
+        ConnectionStopReason::Closed => Ok(ConnectionStopReason::Closed),
+        ConnectionStopReason::RemoteClosed => Ok(ConnectionStopReason::RemoteClosed),
+        ConnectionStopReason::ClosedWithError(error) => {
+            let error = copied_error(alloc, error)?;
+            Ok(ConnectionStopReason::ClosedWithError(error))
+        }
+        ConnectionStopReason::RemoteClosedWithError(error) => {
+            let error = copied_error(alloc, error)?;
+            Ok(ConnectionStopReason::RemoteClosedWithError(error))
+        }
+    }
+}
+
+/// A copy of the reason.
+pub(crate) fn copied_reason(
+    alloc: Global,
+    reason: &SessionStopReason,
+) -> Result<SessionStopReason, AllocError>
+    ensures { IfOk result (λ r. r ≡ reason.now) }
+{
+    match reason {
+        SessionStopReason::Ended => Ok(SessionStopReason::Ended),
+        SessionStopReason::RemoteEnded => Ok(SessionStopReason::RemoteEnded),
+        SessionStopReason::EndedWithError(error) => {
+            let error = copied_error(alloc, error)?;
+            Ok(SessionStopReason::EndedWithError(error))
+        }
+        SessionStopReason::RemoteEndedWithError(error) => {
+            let error = copied_error(alloc, error)?;
+            Ok(SessionStopReason::RemoteEndedWithError(error))
+        }
+        SessionStopReason::ConnectionStopped(reason) => {
+            let reason = copied_connection_reason(alloc, reason)?;
+            Ok(SessionStopReason::ConnectionStopped(reason))
+        }
+    }
 }

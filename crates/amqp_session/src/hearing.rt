@@ -22,16 +22,15 @@ fn discard(body: FrameBody) -> Result<(), Error>
 impl Session {
     /// The peer's answering Begin was read.
     fn on_begin(&mut self, channel: u16, begin: &Begin) -> Result<(), Error>
-        ensures { Answers result (works (released (mapped channel begin.now (seen self.old)))) (seen self.old) (seen self.new) }
+        ensures { Answers result (works (released (mapped channel begin.now (seen self.old)))) (seen self.new) }
     {
-        self.make_room()?;
         self.map(channel, begin);
-        self.release();
+        self.release()?;
         Ok(())
     }
 
     fn hear_unanswered(&mut self, channel: u16, body: FrameBody) -> Result<(), Error>
-        ensures { Answers result (heard_unanswered channel body (seen self.old)) (seen self.old) (seen self.new) }
+        ensures { Answers result (heard_unanswered channel body (seen self.old)) (seen self.new) }
     {
         match body {
             FrameBody::Begin(begin) => self.on_begin(channel, &begin),
@@ -41,7 +40,7 @@ impl Session {
     }
 
     fn hear_mapped(&mut self, body: FrameBody) -> Result<(), Error>
-        ensures { Answers result (heard_mapped body (seen self.old)) (seen self.old) (seen self.new) }
+        ensures { Answers result (heard_mapped body (seen self.old)) (seen self.new) }
     {
         match body {
             FrameBody::Attach(attach) => self.on_attach(attach),
@@ -55,7 +54,7 @@ impl Session {
     }
 
     fn hear_ending(&mut self, body: FrameBody) -> Result<(), Error>
-        ensures { Answers result (heard_ending body (seen self.old)) (seen self.old) (seen self.new) }
+        ensures { Answers result (heard_ending body (seen self.old)) (seen self.new) }
     {
         match body {
             FrameBody::Disposition(disposition) => self.on_disposition(disposition),
@@ -68,11 +67,11 @@ impl Session {
     }
 
     /// A frame was read. Refusals, each exactly where it says: `IllegalState` for a frame that has no place in this state of the
-    /// session; `UnattachedHandle`, `HandleInUse`, `TransferFrameToSender` and `RemoteAttachingLinkNameNotFound`, with which this end
-    /// has ended the session; `FramingError` for a handle above the highest; `RemoteEndedWithError` where the peer answers the End of
-    /// this end for an error of its own.
+    /// session; `UnattachedHandle`, `HandleInUse` and `TransferFrameToSender`, with which this end has ended the session; `FramingError`
+    /// for a handle above the highest; `RemoteEndedWithError` where the peer answers the End of this end for an error of its own. For
+    /// want of memory the session is not known any more.
     pub fn on_frame(&mut self, frame: SessionFrame) -> Result<(), Error>
-        ensures { Answers result (heard (framed frame) (seen self.old)) (seen self.old) (seen self.new) }
+        ensures { Answers result (heard (framed frame) (seen self.old)) (seen self.new) }
     {
         let (channel, body) = frame.into_parts();
         match self.state {

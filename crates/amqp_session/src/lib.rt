@@ -2,7 +2,7 @@
 #![tactic(auto)]
 
 pub use error::{BeginError, Error, Fault};
-pub use session::{HeldTransfer, LinkInput, Session, SessionState};
+pub use session::{LeftDelivery, LinkInput, Session, SessionState};
 pub use settings::SessionSettings;
 pub use windows::Windows;
 

@@ -1,9 +1,8 @@
 //! The frames of links that a session reads (OASIS AMQP 1.0, part 2, sections 2.6 and 2.7).
-ghost use Rattle.std.specs.Prelude.{◌≡◌, ◌≤◌, ◌<◌, ◌+◌, length, Some, OnOk, OnErr, nat_eq};
+ghost use Rattle.std.specs.Prelude.{◌≡◌, Some, OnOk, nat_eq};
 ghost use Rattle.indexmap.specs.IndexMap.{insert_entry};
-ghost use Rattle.std.specs.VecDeque.{deque_len, deque_capacity};
-ghost use Rattle.amqp_session.specs.State.{seen, spare, works, Answers};
-ghost use Rattle.amqp_session.specs.Links.{input_at, handing, attaching, attach_at, attach_read, detach_at, transfer_at, report, hand_flow, echo, flowed, is_astray, flow_at};
+ghost use Rattle.amqp_session.specs.State.{seen, handing, works, Answers};
+ghost use Rattle.amqp_session.specs.Links.{input_at, attaching, attach_at, attach_read, detach_at, transfer_at, report, hand_flow, echo, flowed, is_astray, flow_at};
 ghost use Rattle.amqp_session.specs.Windows.{transfer_read};
 ghost use Rattle.amqp_session.specs.declared.session.LinkInput.TheVariants as input;
 ghost use Rattle.amqp_composites.specs.declared.modes.Role.TheVariants as role;
@@ -27,45 +26,34 @@ impl Session {
         self.inputs.get(&handle).copied()
     }
 
-    /// Hands to the links what was read for them.
-    fn hand(&mut self, input: LinkInput)
-        requires { deque_len self.old.incoming < deque_capacity self.old.incoming }
-        ensures state { seen self.new ≡ handing input (seen self.old) }
-        ensures output { self.new.output ≡ self.old.output }
-    {
-        self.incoming.push_back_reserved(input);
-    }
-
     /// A Disposition was read.
     pub(crate) fn on_disposition(&mut self, disposition: Disposition) -> Result<(), Error>
-        ensures { Answers result (works (handing (input.Disposition disposition) (seen self.old))) (seen self.old) (seen self.new) }
+        ensures { Answers result (works (handing (input.Disposition disposition) (seen self.old))) (seen self.new) }
     {
-        self.incoming.reserve(1)?;
-        self.hand(LinkInput::Disposition(disposition));
+        self.hand(LinkInput::Disposition(disposition))?;
         Ok(())
     }
 
     /// Attaches a handle of the peer.
     fn enter(&mut self, handle: u32, role: Role) -> Result<(), AllocError>
-        ensures ok { OnOk result (seen self.new ≡ record (seen self.old) { inputs = insert_entry nat_eq (seen self.old).inputs handle role }) }
-        ensures err { OnErr result (seen self.new ≡ seen self.old) }
-        ensures attaches { self.new.attaches ≡ self.old.attaches }
+        ensures { OnOk result (seen self.new ≡ record (seen self.old) { inputs = insert_entry nat_eq (seen self.old).inputs handle role }) }
     {
         self.inputs.insert(handle, role)?;
         Ok(())
     }
 
     fn attach(&mut self, attach: Attach) -> Result<(), Error>
-        ensures { Answers result (works (attaching attach (seen self.old))) (seen self.old) (seen self.new) }
+        ensures { Answers result (works (attaching attach (seen self.old))) (seen self.new) }
     {
-        self.attaches.reserve(1)?;
-        self.enter(attach.handle, attach.role)?;
-        self.attaches.push_back_reserved(attach);
+        let handle = attach.handle;
+        let role = attach.role;
+        self.hand(LinkInput::Attach(attach))?;
+        self.enter(handle, role)?;
         Ok(())
     }
 
     fn attach_at(&mut self, attach: Attach) -> Result<(), Error>
-        ensures { Answers result (attach_at (input_at attach.handle (seen self.old)) attach (seen self.old)) (seen self.old) (seen self.new) }
+        ensures { Answers result (attach_at (input_at attach.handle (seen self.old)) attach (seen self.old)) (seen self.new) }
     {
         match self.input_at(attach.handle) {
             Some(_) => self.fail(Fault::HandleInUse),
@@ -75,11 +63,8 @@ impl Session {
 
     /// An Attach was read.
     pub(crate) fn on_attach(&mut self, attach: Attach) -> Result<(), Error>
-        ensures { Answers result (attach_read (seen self.old).is_listener attach (seen self.old)) (seen self.old) (seen self.new) }
+        ensures { Answers result (attach_read attach (seen self.old)) (seen self.new) }
     {
-        if !self.is_listener {
-            return self.fail(Fault::RemoteAttachingLinkNameNotFound);
-        }
         if self.own_handle_max < attach.handle {
             return Err(Error::FramingError);
         }
@@ -87,17 +72,16 @@ impl Session {
     }
 
     fn detach(&mut self, detach: Detach) -> Result<(), Error>
-        ensures { Answers result (detach_at (Some role.Sender) detach (seen self.old)) (seen self.old) (seen self.new) }
+        ensures { Answers result (detach_at (Some role.Sender) detach (seen self.old)) (seen self.new) }
     {
-        self.incoming.reserve(1)?;
         self.inputs.shift_remove(&detach.handle);
-        self.hand(LinkInput::Detach(detach));
+        self.hand(LinkInput::Detach(detach))?;
         Ok(())
     }
 
     /// A Detach was read.
     pub(crate) fn on_detach(&mut self, detach: Detach) -> Result<(), Error>
-        ensures { Answers result (detach_at (input_at detach.handle (seen self.old)) detach (seen self.old)) (seen self.old) (seen self.new) }
+        ensures { Answers result (detach_at (input_at detach.handle (seen self.old)) detach (seen self.old)) (seen self.new) }
     {
         match self.input_at(detach.handle) {
             Some(_) => self.detach(detach),
@@ -106,29 +90,27 @@ impl Session {
     }
 
     /// Reports what was read, where that is due.
-    fn report_if_due(&mut self)
-        requires { 0 < spare self.old }
-        ensures { seen self.new ≡ report (seen self.old) }
+    fn report_if_due(&mut self) -> Result<(), AllocError>
+        ensures { OnOk result (seen self.new ≡ report (seen self.old)) }
     {
         if self.windows.is_report_due() {
-            self.report();
+            return self.report();
         }
+        Ok(())
     }
 
     fn transfer(&mut self, transfer: Transfer, payload: Bytes) -> Result<(), Error>
-        ensures { Answers result (transfer_at (Some role.Sender) transfer payload (seen self.old)) (seen self.old) (seen self.new) }
+        ensures { Answers result (transfer_at (Some role.Sender) transfer payload (seen self.old)) (seen self.new) }
     {
-        self.incoming.reserve(1)?;
-        self.make_room()?;
         self.windows.on_transfer();
-        self.hand(LinkInput::Transfer(transfer, payload));
-        self.report_if_due();
+        self.hand(LinkInput::Transfer(transfer, payload))?;
+        self.report_if_due()?;
         Ok(())
     }
 
     /// A Transfer was read.
     pub(crate) fn on_transfer(&mut self, transfer: Transfer, payload: Bytes) -> Result<(), Error>
-        ensures { Answers result (transfer_at (input_at transfer.handle (seen self.old)) transfer payload (seen self.old)) (seen self.old) (seen self.new) }
+        ensures { Answers result (transfer_at (input_at transfer.handle (seen self.old)) transfer payload (seen self.old)) (seen self.new) }
     {
         match self.input_at(transfer.handle) {
             Some(Role::Sender) => self.transfer(transfer, payload),
@@ -138,36 +120,34 @@ impl Session {
     }
 
     /// Hands a Flow to its link, if it speaks of one.
-    fn hand_flow(&mut self, flow: Flow)
-        requires { deque_len self.old.incoming < deque_capacity self.old.incoming }
-        ensures state { seen self.new ≡ hand_flow flow.handle flow (seen self.old) }
-        ensures output { self.new.output ≡ self.old.output }
+    fn hand_flow(&mut self, flow: Flow) -> Result<(), AllocError>
+        ensures { OnOk result (seen self.new ≡ hand_flow flow.handle flow (seen self.old)) }
     {
         if flow.handle.is_some() {
-            self.hand(LinkInput::Flow(flow));
+            return self.hand(LinkInput::Flow(flow));
         }
+        Ok(())
     }
 
     /// Answers a Flow, where that is asked for.
-    fn echo(&mut self, is_asked: bool)
-        requires { 0 < spare self.old }
-        ensures { seen self.new ≡ echo is_asked (seen self.old) }
+    fn echo(&mut self, is_asked: bool) -> Result<(), AllocError>
+        ensures { OnOk result (seen self.new ≡ echo is_asked (seen self.old)) }
     {
         if is_asked {
-            self.report();
+            return self.report();
         }
+        Ok(())
     }
 
+    /// The session's part of a Flow comes first, then its link's.
     fn flow(&mut self, flow: Flow) -> Result<(), Error>
-        ensures { Answers result (works (flowed flow (seen self.old))) (seen self.old) (seen self.new) }
+        ensures { Answers result (works (flowed flow (seen self.old))) (seen self.new) }
     {
-        self.incoming.reserve(1)?;
-        self.make_room()?;
         let echo = flow.echo;
         self.windows.on_flow(&flow);
-        self.release();
-        self.hand_flow(flow);
-        self.echo(echo);
+        self.release()?;
+        self.hand_flow(flow)?;
+        self.echo(echo)?;
         Ok(())
     }
 
@@ -183,7 +163,7 @@ impl Session {
 
     /// A Flow was read.
     pub(crate) fn on_flow(&mut self, flow: Flow) -> Result<(), Error>
-        ensures { Answers result (flow_at (is_astray flow.handle (seen self.old)) flow (seen self.old)) (seen self.old) (seen self.new) }
+        ensures { Answers result (flow_at (is_astray flow.handle (seen self.old)) flow (seen self.old)) (seen self.new) }
     {
         if self.is_astray(flow.handle) {
             return self.fail(Fault::UnattachedHandle);

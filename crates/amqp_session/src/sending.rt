@@ -1,16 +1,18 @@
 //! What the links of a session write (OASIS AMQP 1.0, part 2, section 2.5.6).
-ghost use Rattle.std.specs.Prelude.{◌≡◌, ◌≤◌, ◌<◌, ◌+◌, length, true};
-ghost use Rattle.std.specs.VecDeque.{deque_len, deque_capacity};
-ghost use Rattle.amqp_frames.specs.Session.{of_session};
-ghost use Rattle.amqp_session.specs.State.{seen, spare, saying, works, Answers};
-ghost use Rattle.amqp_session.specs.Hold.{begins, numbered, leaving, released, sending, reporting};
+ghost use Rattle.std.specs.Prelude.{◌≡◌, ◌<◌, ◌++◌, OnOk};
+ghost use Rattle.amqp_frames.specs.declared.body.FrameBody.TheVariants as b;
+ghost use Rattle.amqp_session.specs.State.{seen, saying, Answers};
+ghost use Rattle.amqp_session.specs.Hold.{begins, numbered, left_of, kept, parting, leaving, released, sending, dropping, reporting};
 ghost use Rattle.amqp_session.specs.Frames.{told, told_in, telling_flow};
 
 use crate::error::Error;
-use crate::session::{HeldTransfer, Session, SessionState};
+use crate::session::{LeftDelivery, LinkInput, Session, SessionState};
 use amqp_frames::{FrameBody, LinkFrame};
+use amqp_parts::{Cut, Part, first_part};
+use amqp_performatives::detach::Detach;
 use amqp_performatives::flow::Flow;
 use amqp_performatives::transfer::Transfer;
+use std::alloc::AllocError;
 
 /// Whether the Transfer begins a delivery: it has a tag.
 fn begins(transfer: &Transfer) -> bool
@@ -31,110 +33,139 @@ fn numbered(number: u32, transfer: Transfer) -> Transfer
 }
 
 impl Session {
-    /// Writes a Transfer, which takes its numbers.
-    fn leave(&mut self, held: HeldTransfer)
-        requires allowance { 0 < self.old.windows.allowance }
-        requires room { 0 < spare self.old }
-        ensures state { seen self.new ≡ leaving held (seen self.old) }
-        ensures held { self.new.held ≡ self.old.held }
-        ensures incoming { self.new.incoming ≡ self.old.incoming }
-        ensures room { spare self.new + 1 ≡ spare self.old }
+    /// Has its link told that a delivery begins to leave, where the Transfer begins one.
+    fn tell_left(&mut self, transfer: &Transfer) -> Result<(), AllocError>
+        ensures { OnOk result (seen self.new ≡ record (seen self.old) { incoming = (seen self.old).incoming ++ left_of transfer.now.delivery_tag (seen self.old).windows.next_delivery_id transfer.now }) }
     {
-        let HeldTransfer { transfer, payload } = held;
+        let Some(tag) = &transfer.delivery_tag else {
+            return Ok(());
+        };
+        let left = LeftDelivery {
+            handle: transfer.handle,
+            delivery_id: self.windows.next_delivery_id,
+            delivery_tag: tag.try_clone(self.alloc)?,
+            settled: transfer.settled.unwrap_or(false),
+        };
+        self.hand(LinkInput::Left(left))
+    }
+
+    /// What is left of a delivery waits in front of all others.
+    fn keep(&mut self, rest: Option<Part>) -> Result<(), AllocError>
+        ensures { OnOk result (seen self.new ≡ record (seen self.old) { held = kept rest (seen self.old).held }) }
+    {
+        match rest {
+            Some(part) => self.held.push_front(part)?,
+            None => {}
+        }
+        Ok(())
+    }
+
+    /// Writes a part of a delivery, and keeps what is left.
+    fn part(&mut self, cut: Cut) -> Result<(), AllocError>
+        ensures { OnOk result (seen self.new ≡ parting cut (seen self.old)) }
+    {
+        let Cut { first, rest } = cut;
+        self.keep(rest)?;
+        let (transfer, payload) = first.into_parts();
+        self.say(FrameBody::Transfer(transfer, payload))
+    }
+
+    /// Writes the first part of what has waited, which takes its numbers.
+    fn leave(&mut self, held: Part) -> Result<(), AllocError>
+        requires { 0 < self.old.windows.allowance }
+        ensures { OnOk result (seen self.new ≡ leaving held (seen self.old)) }
+    {
+        let (transfer, payload) = held.into_parts();
+        self.tell_left(&transfer)?;
         let begins = begins(&transfer);
         let transfer = numbered(self.windows.next_delivery_id, transfer);
+        let cut = first_part(self.alloc, transfer, payload, self.max_frame_size)?;
         self.windows.on_leave(begins);
-        self.say(FrameBody::Transfer(transfer, payload));
+        self.part(cut)
     }
 
     /// Writes what waits, in order, as far as the peer can take it.
-    pub(crate) fn release(&mut self)
-        requires { length self.old.held.items ≤ spare self.old }
-        ensures state { seen self.new ≡ released (seen self.old) }
-        ensures incoming { self.new.incoming ≡ self.old.incoming }
-        ensures room { spare self.old ≤ spare self.new + length self.old.held.items }
+    pub(crate) fn release(&mut self) -> Result<(), AllocError>
+        ensures { OnOk result (seen self.new ≡ released (seen self.old)) }
     {
         while self.windows.allowance > 0 {
             match self.held.pop_front() {
-                Some(held) => self.leave(held),
-                None => return,
+                Some(held) => self.leave(held)?,
+                None => return Ok(()),
             }
         }
+        Ok(())
     }
 
     /// Tells the peer the state of the session.
-    pub(crate) fn report(&mut self)
-        requires { 0 < spare self.old }
-        ensures { seen self.new ≡ reporting (seen self.old) }
+    pub(crate) fn report(&mut self) -> Result<(), AllocError>
+        ensures { OnOk result (seen self.new ≡ reporting (seen self.old)) }
     {
         let flow = self.windows.session_flow();
         self.windows.on_report();
-        self.say(FrameBody::Flow(flow));
+        self.say(FrameBody::Flow(flow))
     }
 
-    /// Holds a Transfer behind all others, and writes it if the peer can take it.
-    fn send_transfer(&mut self, held: HeldTransfer) -> Result<(), Error>
-        ensures { Answers result (works (sending held (seen self.old))) (seen self.old) (seen self.new) }
+    /// Holds a Transfer behind all others, and writes it as far as the peer can take it.
+    fn send_transfer(&mut self, held: Part) -> Result<(), AllocError>
+        ensures { OnOk result (seen self.new ≡ sending held (seen self.old)) }
     {
-        self.held.reserve(1)?;
-        self.make_room()?;
-        self.hold(held);
-        Ok(())
-    }
-
-    fn hold(&mut self, held: HeldTransfer)
-        requires held { deque_len self.old.held < deque_capacity self.old.held }
-        requires room { length self.old.held.items + 1 ≤ spare self.old }
-        ensures { seen self.new ≡ sending held (seen self.old) }
-    {
-        self.held.push_back_reserved(held);
-        self.release();
+        self.held.push_back(held)?;
+        self.release()
     }
 
     /// Writes a link's Flow, with the state of the session in it.
-    fn send_flow(&mut self, flow: Flow) -> Result<(), Error>
-        ensures { Answers result (works (telling_flow flow (seen self.old))) (seen self.old) (seen self.new) }
+    fn send_flow(&mut self, flow: Flow) -> Result<(), AllocError>
+        ensures { OnOk result (seen self.new ≡ telling_flow flow (seen self.old)) }
     {
-        self.make_room()?;
         let flow = self.windows.stamp(flow);
         self.windows.on_report();
-        self.say(FrameBody::Flow(flow));
-        Ok(())
+        self.say(FrameBody::Flow(flow))
     }
 
-    /// Writes a frame that is never held.
-    fn send_body(&mut self, body: FrameBody) -> Result<(), Error>
-        requires { of_session body ≡ true }
-        ensures { Answers result (works (saying body (seen self.old))) (seen self.old) (seen self.new) }
+    /// Writes a Detach, and drops what waits on its handle.
+    fn send_detach(&mut self, detach: Detach) -> Result<(), AllocError>
+        ensures { OnOk result (seen self.new ≡ saying (b.Detach detach) (dropping detach.handle (seen self.old))) }
     {
-        self.make_room()?;
-        self.say(body);
-        Ok(())
+        self.drop_held(detach.handle);
+        self.say(FrameBody::Detach(detach))
     }
 
-    fn send(&mut self, frame: LinkFrame) -> Result<(), Error>
-        ensures { Answers result (works (told frame (seen self.old))) (seen self.old) (seen self.new) }
+    /// Drops what waits on a handle of this end.
+    fn drop_held(&mut self, handle: u32)
+        ensures { seen self.new ≡ dropping handle (seen self.old) }
+    {
+        self.held.retain(|part| part.transfer.handle != handle);
+    }
+
+    fn send(&mut self, frame: LinkFrame) -> Result<(), AllocError>
+        ensures { OnOk result (seen self.new ≡ told frame (seen self.old)) }
     {
         match frame {
-            LinkFrame::Attach(attach) => self.send_body(FrameBody::Attach(attach)),
+            LinkFrame::Attach(attach) => self.say(FrameBody::Attach(attach)),
             LinkFrame::Flow(flow) => self.send_flow(flow),
             LinkFrame::Transfer(transfer, payload) => {
-                self.send_transfer(HeldTransfer { transfer, payload })
+                self.send_transfer(Part { transfer, payload })
             }
             LinkFrame::Disposition(disposition, _) => {
-                self.send_body(FrameBody::Disposition(disposition))
+                self.say(FrameBody::Disposition(disposition))
             }
-            LinkFrame::Detach(detach) => self.send_body(FrameBody::Detach(detach)),
+            LinkFrame::Detach(detach) => self.send_detach(detach),
         }
     }
 
-    /// A link writes a frame: `IllegalState` exactly where the session is not mapped. A Flow gets the state of the session; a
-    /// Transfer waits until the peer can take it, in order, and takes its numbers when it is written.
+    /// A link writes a frame: `IllegalState` exactly where the session is not mapped. A Flow gets the state of the session. A Transfer
+    /// waits whole until the peer can take it, in order; it takes its numbers as it leaves, in parts that the limit of frames has room
+    /// for, each of which takes one of what the peer can take. A Detach drops what waits on its handle. For want of memory the
+    /// session is not known any more.
     pub fn on_link_frame(&mut self, frame: LinkFrame) -> Result<(), Error>
-        ensures { Answers result (told_in (seen self.old).state frame (seen self.old)) (seen self.old) (seen self.new) }
+        ensures { Answers result (told_in (seen self.old).state frame (seen self.old)) (seen self.new) }
     {
         match self.state {
-            SessionState::Mapped => self.send(frame),
+            SessionState::Mapped => {
+                self.send(frame)?;
+                Ok(())
+            }
             SessionState::BeginSent | SessionState::EndSent | SessionState::Unmapped => {
                 discard(frame);
                 Err(Error::IllegalState)

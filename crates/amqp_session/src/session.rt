@@ -1,14 +1,16 @@
 //! A session endpoint: what it is built from, its queues, and what it tells of itself (OASIS AMQP 1.0, part 2, section 2.5).
-ghost use Rattle.std.specs.Prelude.{◌≡◌, ◌≤◌, ◌<◌, ◌+◌, length, true, option_map, IfOk, OnOk};
+ghost use Rattle.std.specs.Prelude.{◌≡◌, length, true, option_map, IfOk, OnOk};
 ghost use Rattle.amqp_frames.specs.Session.{of_session};
-ghost use Rattle.amqp_session.specs.State.{framed, seen, spare, saying, TakesFrame, TakesInput, TakesAttach, first_of};
+ghost use Rattle.amqp_session.specs.State.{framed, seen, saying, handing, TakesFrame, TakesInput};
 ghost use Rattle.amqp_session.specs.Begin.{IsShort, begin_of, asked, mapped, begun, accepted};
 
 use crate::error::{BeginError, Fault};
 use crate::settings::SessionSettings;
 use crate::windows::Windows;
 use amqp_composites::modes::Role;
+use amqp_data::Binary;
 use amqp_frames::{FrameBody, IncomingSession, SessionFrame, SessionStopReason, let_go};
+use amqp_parts::Part;
 use amqp_performatives::attach::Attach;
 use amqp_performatives::begin::Begin;
 use amqp_performatives::detach::Detach;
@@ -33,18 +35,24 @@ pub enum SessionState {
     Unmapped,
 }
 
-/// A Transfer that waits until the peer can take it.
+/// A delivery of this end that has begun to leave.
 #[derive(Drop)]
-pub struct HeldTransfer {
-    /// The Transfer; where it begins a delivery, without the number.
-    pub transfer: Transfer,
-    /// Its bytes.
-    pub payload: Bytes,
+pub struct LeftDelivery {
+    /// The handle of its link at this end.
+    pub handle: u32,
+    /// The number that it has got in the session.
+    pub delivery_id: u32,
+    /// The tag of the delivery on its link.
+    pub delivery_tag: Binary,
+    /// Whether it was settled as it left.
+    pub settled: bool,
 }
 
-/// What a session hands to its links, each with its handle, but for a Disposition.
+/// What a session hands to its links, in the order in which it came.
 #[derive(Drop)]
 pub enum LinkInput {
+    /// The attach of a link of the peer, whose handle is in use from now on.
+    Attach(Attach),
     /// The state of a link's credit.
     Flow(Flow),
     /// A part of a delivery or all of it, and the bytes of it.
@@ -53,14 +61,18 @@ pub enum LinkInput {
     Disposition(Disposition),
     /// The detach of a link.
     Detach(Detach),
+    /// A delivery of this end has begun to leave.
+    Left(LeftDelivery),
+    /// The session has stopped, for the first reason that it had.
+    Stopped(SessionStopReason),
+    /// The peer's End was read, so nothing more comes.
+    Over,
 }
 
 /// One session endpoint.
 pub struct Session {
     pub(crate) alloc: Global,
     pub(crate) state: SessionState,
-    /// Whether the peer may attach links.
-    pub(crate) is_listener: bool,
     pub(crate) channel: u16,
     pub(crate) remote_channel: Option<u16>,
     /// The highest handle that the peer may use.
@@ -69,13 +81,12 @@ pub struct Session {
     pub(crate) handle_max: u32,
     pub(crate) max_frame_size: u32,
     pub(crate) windows: Windows,
-    /// The Transfers that wait, in order.
-    pub(crate) held: VecDeque<HeldTransfer>,
+    /// The Transfers that wait, in order: each whole and without its number, but for the rest of a delivery that has begun, which is
+    /// the first.
+    pub(crate) held: VecDeque<Part>,
     /// The peer's role at each of its handles that is attached.
     pub(crate) inputs: IndexMap<u32, Role>,
-    /// The Attaches of the peer that no link has taken, in order.
-    pub(crate) attaches: VecDeque<Attach>,
-    /// What was read for the links, in order.
+    /// What is handed to the links, in order.
     pub(crate) incoming: VecDeque<LinkInput>,
     /// The frames to be written, in order.
     pub(crate) output: VecDeque<SessionFrame>,
@@ -90,7 +101,6 @@ impl Drop for Session {
         let Session {
             alloc: _,
             state: _,
-            is_listener: _,
             channel: _,
             remote_channel: _,
             own_handle_max: _,
@@ -99,7 +109,6 @@ impl Drop for Session {
             windows: _,
             held,
             inputs,
-            attaches,
             incoming,
             output,
             fault: _,
@@ -107,7 +116,6 @@ impl Drop for Session {
         } = self;
         drop(held);
         drop(inputs);
-        drop(attaches);
         drop(incoming);
         drop(output);
         drop(stop_reason);
@@ -159,11 +167,10 @@ impl Session {
     fn new(
         alloc: Global,
         settings: SessionSettings,
-        is_listener: bool,
         channel: u16,
         remote_channel: Option<u16>,
     ) -> Result<Self, AllocError>
-        ensures { IfOk result (λ s. seen s ≡ asked settings is_listener channel remote_channel) }
+        ensures { IfOk result (λ s. seen s ≡ asked settings channel remote_channel) }
     {
         let mut output = VecDeque::new(alloc);
         output.reserve(1)?;
@@ -179,7 +186,6 @@ impl Session {
         Ok(Session {
             alloc,
             state: SessionState::BeginSent,
-            is_listener,
             channel,
             remote_channel,
             own_handle_max,
@@ -188,7 +194,6 @@ impl Session {
             windows,
             held: VecDeque::new(alloc),
             inputs: IndexMap::new(alloc),
-            attaches: VecDeque::new(alloc),
             incoming: VecDeque::new(alloc),
             output,
             fault: None,
@@ -201,7 +206,7 @@ impl Session {
         ensures session { IfOk result (λ s. seen s ≡ begun settings channel) }
         ensures memory { IsShort result }
     {
-        let session = Session::new(alloc, settings, false, channel, None)?;
+        let session = Session::new(alloc, settings, channel, None)?;
         Ok(session)
     }
 
@@ -219,15 +224,14 @@ impl Session {
             channel: remote_channel,
             begin,
         } = incoming;
-        let mut session = Session::new(alloc, settings, true, channel, Some(remote_channel))?;
+        let mut session = Session::new(alloc, settings, channel, Some(remote_channel))?;
         session.map(remote_channel, &begin);
         Ok(session)
     }
 
     /// Both ends have begun.
     pub(crate) fn map(&mut self, remote_channel: u16, begin: &Begin)
-        ensures state { seen self.new ≡ mapped remote_channel begin.now (seen self.old) }
-        ensures queues { (self.new.held ≡ self.old.held) × (self.new.output ≡ self.old.output) }
+        ensures { seen self.new ≡ mapped remote_channel begin.now (seen self.old) }
     {
         self.state = SessionState::Mapped;
         self.remote_channel = Some(remote_channel);
@@ -235,30 +239,38 @@ impl Session {
         self.windows.on_begin(begin);
     }
 
-    /// Makes room for all that is held and for one more frame.
-    pub(crate) fn make_room(&mut self) -> Result<(), AllocError>
-        ensures same { seen self.new ≡ seen self.old }
-        ensures held { self.new.held ≡ self.old.held }
-        ensures incoming { self.new.incoming ≡ self.old.incoming }
-        ensures room { OnOk result (length self.new.held.items + 1 ≤ spare self.new) }
-    {
-        let Some(more) = self.held.len().checked_add(1) else {
-            return Err(AllocError);
-        };
-        self.output.reserve(more)
-    }
-
     /// Queues a frame.
-    pub(crate) fn say(&mut self, body: FrameBody)
-        requires body { of_session body ≡ true }
-        requires room { 0 < spare self.old }
-        ensures state { seen self.new ≡ saying body (seen self.old) }
-        ensures held { self.new.held ≡ self.old.held }
-        ensures incoming { self.new.incoming ≡ self.old.incoming }
-        ensures room { spare self.new + 1 ≡ spare self.old }
+    pub(crate) fn say(&mut self, body: FrameBody) -> Result<(), AllocError>
+        requires { of_session body ≡ true }
+        ensures { OnOk result (seen self.new ≡ saying body (seen self.old)) }
     {
         let frame = frame(self.channel, body);
-        self.output.push_back_reserved(frame);
+        match self.output.reserve(1) {
+            Ok(()) => {
+                self.output.push_back_reserved(frame);
+                Ok(())
+            }
+            Err(error) => {
+                discard_frame(frame);
+                Err(error)
+            }
+        }
+    }
+
+    /// Hands something to the links.
+    pub(crate) fn hand(&mut self, input: LinkInput) -> Result<(), AllocError>
+        ensures { OnOk result (seen self.new ≡ handing input (seen self.old)) }
+    {
+        match self.incoming.reserve(1) {
+            Ok(()) => {
+                self.incoming.push_back_reserved(input);
+                Ok(())
+            }
+            Err(error) => {
+                discard_input(input);
+                Err(error)
+            }
+        }
     }
 
     /// The channel of this end.
@@ -304,7 +316,7 @@ impl Session {
         self.windows
     }
 
-    /// How many Transfers wait until the peer can take them.
+    /// How many Transfers wait until the peer can take them, with the rest of one that has begun to leave.
     pub fn held_count(&self) -> usize
         ensures { result ≡ length (seen self.now).held }
     {
@@ -325,24 +337,16 @@ impl Session {
         self.output.pop_front()
     }
 
-    /// The first of what was read for the links.
+    /// The first of what is handed to the links.
     pub fn take_for_link(&mut self) -> Option<LinkInput>
         ensures { TakesInput (seen self.old) result (seen self.new) }
     {
         self.incoming.pop_front()
     }
-
-    /// The first Attach of the peer that no link has taken.
-    pub fn next_incoming_attach(&mut self) -> Option<Attach>
-        ensures { TakesAttach (seen self.old) result (seen self.new) }
-    {
-        self.attaches.pop_front()
-    }
-
-    /// The Attach that `next_incoming_attach` would take, lent.
-    pub fn incoming_attach(&self) -> Option<&Attach>
-        ensures { option_map (λ x. x.now) result ≡ first_of (seen self.now).attaches }
-    {
-        self.attaches.front()
-    }
 }
+
+/// Lets a frame go. Its drop has as many places as its performatives have fields; for a caller of this it has one.
+fn discard_frame(_frame: SessionFrame) {}
+
+/// Lets what is handed to the links go, as `discard_frame` does a frame.
+fn discard_input(_input: LinkInput) {}

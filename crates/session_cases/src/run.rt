@@ -10,19 +10,21 @@
 //! | `sends FRAME` | a link writes a frame; only its body counts |
 //! | `ends`, `ends CONDITION` | this end ends the session, for an error |
 //! | `stops` | the connection is closed |
-//! | `attach`, `input` | the first Attach, the first of what was read for the links, is taken |
+//! | `refuses` | the links have no place for an Attach of the peer |
+//! | `input` | the first of what is handed to the links is taken |
 //!
 //! A frame is in hexadecimal, as `case_files` reads it. Of the line of number N, counted from 0, comes first `N error NAME` where it
-//! is refused, `N took FRAME` for what it takes, or `N none` where nothing was there, and then `N wrote FRAME` for each frame that is
-//! to be written.
+//! is refused, or for what it takes `N took FRAME`, `N left handle=HANDLE number=NUMBER tag=TAG settled=BOOL` for a delivery of this
+//! end that has begun to leave, `N stopped REASON` or `N over`, or `N none` where nothing was there, and then `N wrote FRAME` for each
+//! frame that is to be written. A REASON is the name of a variant of `SessionStopReason`, and behind it is the condition of its error.
 use crate::error::CaseError;
 use crate::frame::{read_frame, read_link_frame, write_body};
 use crate::settings::{read_channel, read_settings};
 use amqp_composites::error::Error as AmqpError;
 use amqp_data::Symbol;
 use amqp_frames::{ConnectionStopReason, FrameBody, IncomingSession, SessionStopReason, let_go};
-use amqp_session::{Error, LinkInput, Session};
-use std::alloc::Global;
+use amqp_session::{Error, LeftDelivery, LinkInput, Session};
+use std::alloc::{AllocError, Global};
 
 /// The most frames that come of one line.
 const MOST: u32 = 1000;
@@ -70,28 +72,77 @@ fn error_of(alloc: Global, condition: &str) -> Result<AmqpError, CaseError> {
     }
 }
 
-/// The body of what was read for the links.
-fn body_of(input: LinkInput) -> FrameBody {
-    match input {
-        LinkInput::Flow(flow) => FrameBody::Flow(flow),
-        LinkInput::Transfer(transfer, payload) => FrameBody::Transfer(transfer, payload),
-        LinkInput::Disposition(disposition) => FrameBody::Disposition(disposition),
-        LinkInput::Detach(detach) => FrameBody::Detach(detach),
+/// The text of a delivery that has begun to leave.
+fn left_text(alloc: Global, left: LeftDelivery) -> Result<String, CaseError> {
+    let LeftDelivery {
+        handle,
+        delivery_id,
+        delivery_tag,
+        settled,
+    } = left;
+    let tag = match hex::encode(alloc, delivery_tag.as_slice()) {
+        Ok(tag) => tag,
+        Err(_) => return Err(CaseError::Memory(AllocError)),
+    };
+    let text = format!(in alloc;
+        "left handle={handle} number={delivery_id} tag={tag} settled={settled}"
+    )?;
+    Ok(text)
+}
+
+/// The text of a reason with an error.
+fn error_text(alloc: Global, name: &str, error: AmqpError) -> Result<String, CaseError> {
+    let condition = error.condition;
+    let text = format!(in alloc; "stopped {name} {condition}")?;
+    Ok(text)
+}
+
+/// The text of the reason for which the session has stopped.
+fn stop_text(alloc: Global, reason: SessionStopReason) -> Result<String, CaseError> {
+    match reason {
+        SessionStopReason::Ended => Ok(String::from_str(alloc, "stopped Ended")?),
+        SessionStopReason::EndedWithError(error) => error_text(alloc, "EndedWithError", error),
+        SessionStopReason::RemoteEnded => Ok(String::from_str(alloc, "stopped RemoteEnded")?),
+        SessionStopReason::RemoteEndedWithError(error) => {
+            error_text(alloc, "RemoteEndedWithError", error)
+        }
+        SessionStopReason::ConnectionStopped(reason) => {
+            drop(reason);
+            Ok(String::from_str(alloc, "stopped ConnectionStopped")?)
+        }
     }
 }
 
-/// What a line takes: its frame, on no channel.
-fn taken(alloc: Global, body: Option<FrameBody>) -> Result<String, CaseError> {
-    match body {
-        Some(body) => {
-            let frame = write_body(alloc, 0, body)?;
-            let text = format!(in alloc; "took {frame}")?;
-            Ok(text)
+/// The text of a frame that a line takes, on no channel.
+fn frame_text(alloc: Global, body: FrameBody) -> Result<String, CaseError> {
+    let frame = write_body(alloc, 0, body)?;
+    let text = format!(in alloc; "took {frame}")?;
+    Ok(text)
+}
+
+/// The text of what is handed to the links.
+fn input_text(alloc: Global, input: LinkInput) -> Result<String, CaseError> {
+    match input {
+        LinkInput::Attach(attach) => frame_text(alloc, FrameBody::Attach(attach)),
+        LinkInput::Flow(flow) => frame_text(alloc, FrameBody::Flow(flow)),
+        LinkInput::Transfer(transfer, payload) => {
+            frame_text(alloc, FrameBody::Transfer(transfer, payload))
         }
-        None => {
-            let text = String::from_str(alloc, "none")?;
-            Ok(text)
+        LinkInput::Disposition(disposition) => {
+            frame_text(alloc, FrameBody::Disposition(disposition))
         }
+        LinkInput::Detach(detach) => frame_text(alloc, FrameBody::Detach(detach)),
+        LinkInput::Left(left) => left_text(alloc, left),
+        LinkInput::Stopped(reason) => stop_text(alloc, reason),
+        LinkInput::Over => Ok(String::from_str(alloc, "over")?),
+    }
+}
+
+/// What a line takes of what is handed to the links.
+fn taken(alloc: Global, input: Option<LinkInput>) -> Result<String, CaseError> {
+    match input {
+        Some(input) => input_text(alloc, input),
+        None => Ok(String::from_str(alloc, "none")?),
     }
 }
 
@@ -110,17 +161,12 @@ fn answer(alloc: Global, outcome: Result<(), Error>) -> Result<String, CaseError
 fn act(alloc: Global, session: &mut Session, word: &str) -> Result<String, CaseError> {
     match word {
         "ends" => answer(alloc, session.end()),
+        "refuses" => answer(alloc, session.refuse_attach()),
         "stops" => {
-            session.stop(SessionStopReason::ConnectionStopped(ConnectionStopReason::Closed));
+            session.stop(SessionStopReason::ConnectionStopped(ConnectionStopReason::Closed))?;
             Ok(String::new(alloc))
         }
-        "attach" => taken(
-            alloc,
-            session
-                .next_incoming_attach()
-                .map(|attach| FrameBody::Attach(attach)),
-        ),
-        "input" => taken(alloc, session.take_for_link().map(|input| body_of(input))),
+        "input" => taken(alloc, session.take_for_link()),
         _ => Err(CaseError::Malformed),
     }
 }

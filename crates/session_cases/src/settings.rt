@@ -7,6 +7,7 @@
 //! | `outwindow` | 2048 | outgoing-window |
 //! | `handles` | 255 | handle-max |
 //! | `channel` | 0 | none: the channel of this end |
+//! | `frame` | 512 | none: the limit of frames by which deliveries are split |
 use crate::error::CaseError;
 use amqp_session::SessionSettings;
 
@@ -43,6 +44,6 @@ pub fn read_settings(words: &str) -> Result<SessionSettings, CaseError> {
         offered_capabilities: None,
         desired_capabilities: None,
         properties: None,
-        max_frame_size: 512,
+        max_frame_size: number(words, "frame", 512)?,
     })
 }

@@ -1,14 +1,17 @@
-use Rattle.amqp_parts.proofs.Parts.{goes_on, ends_at, all_bytes}
+use Rattle.amqp_parts.proofs.Parts.{begins, goes_on, goes_out, all_bytes, size_less}
 use Rattle.amqp_parts.proofs.splitting.split.Goals as goal
 
-pub loop-rest-preserved : goal.loop-rest-preserved
-loop-rest-preserved c =
-    rw (c.in_ok-push.ensures.items, c.continuation-following.ensures, c.in_ok-payload.ensures.rest, c.in_ok-payload.ensures.front) (goes_on c.args.max_frame c.args.transfer c.args.payload c.loop-rest.parts.items c.loop-rest.next c.cut.new.transfer c.loop-rest.rest c.in-Some.len c.loop-rest.invariant (rw (← c.len.ensures.value) (rw c.in-Some.is at c.in_ok-len.ensures)))
+pub loop-left-init : goal.loop-left-init
+loop-left-init c = rw (c.in_ok-push.ensures.items, c.new-parts.ensures.items) (begins c.args.max_frame c.args.transfer c.args.payload c.in_ok-first.field-0 c.in_ok-first.ensures)
+
+pub loop-left-smaller : goal.loop-left-smaller
+loop-left-smaller c = size_less c.args.max_frame c.loop-left.left c.in-Some.part c.in_ok-first-2.field-0 c.in-Some.is (rw (← c.into_parts-transfer.ensures.0, ← c.into_parts-transfer.ensures.1) c.in_ok-first-2.ensures)
+
+pub loop-left-preserved : goal.loop-left-preserved
+loop-left-preserved c = rw c.in_ok-push-2.ensures.items (goes_on c.args.max_frame c.args.transfer c.args.payload c.loop-left.parts.items c.loop-left.left c.in-Some.part c.in_ok-first-2.field-0 c.loop-left.invariant c.in-Some.is (rw (← c.into_parts-transfer.ensures.0, ← c.into_parts-transfer.ensures.1) c.in_ok-first-2.ensures))
 
 pub returns-clause-parts : goal.returns-clause-parts
-returns-clause-parts c =
-    rw c.in_ok-push-2.ensures.items (ends_at c.args.max_frame c.args.transfer c.args.payload c.loop-rest.parts.items c.loop-rest.next c.cut.new.transfer c.loop-rest.rest c.in_ok-len.field-0 c.in_default.not-Some c.loop-rest.invariant (rw (← c.len.ensures.value) c.in_ok-len.ensures))
+returns-clause-parts c = goes_out c.args.max_frame c.args.transfer c.args.payload c.loop-left.parts.items c.loop-left.left c.loop-left.invariant c.in_default.not-Some
 
 pub returns-clause-bytes : goal.returns-clause-bytes
-returns-clause-bytes c =
-    rw c.in_ok-push-2.ensures.items (all_bytes c.args.max_frame c.args.transfer c.args.payload _ (ends_at c.args.max_frame c.args.transfer c.args.payload c.loop-rest.parts.items c.loop-rest.next c.cut.new.transfer c.loop-rest.rest c.in_ok-len.field-0 c.in_default.not-Some c.loop-rest.invariant (rw (← c.len.ensures.value) c.in_ok-len.ensures)))
+returns-clause-bytes c = all_bytes c.args.max_frame c.args.transfer c.args.payload c.loop-left.parts.items (goes_out c.args.max_frame c.args.transfer c.args.payload c.loop-left.parts.items c.loop-left.left c.loop-left.invariant c.in_default.not-Some)
