@@ -1,6 +1,7 @@
 //! What an end is asked to do.
 ghost use Rattle.std.specs.Prelude.{◌≡◌, IfOk};
 
+use amqp_link_words::LinkCall;
 use amqp_text::Symbol;
 use amqp_words::Call as ConnectionCall;
 use amqp_words::copies::copied_symbol;
@@ -42,6 +43,8 @@ pub enum Call {
     Connection(ConnectionCall),
     /// For its sessions.
     Session(SessionCall),
+    /// For their links.
+    Link(LinkCall),
 }
 
 impl SessionCall {
@@ -86,6 +89,10 @@ impl Call {
             Call::Session(call) => {
                 let call = call.try_clone(alloc)?;
                 Ok(Call::Session(call))
+            }
+            Call::Link(call) => {
+                let call = call.try_clone(alloc)?;
+                Ok(Call::Link(call))
             }
         }
     }

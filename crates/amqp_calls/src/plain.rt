@@ -18,7 +18,7 @@ fn plain_act(alloc: Global, act: &Act) -> Result<Option<ConnectionAct>, AllocErr
             let call = call.try_clone(alloc)?;
             Ok(Some(ConnectionAct::Call(call)))
         }
-        Act::Call(Call::Session(_)) => Ok(None),
+        Act::Call(Call::Session(_) | Call::Link(_)) => Ok(None),
     }
 }
 

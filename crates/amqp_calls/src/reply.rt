@@ -1,4 +1,5 @@
 //! What an end answers.
+use amqp_link_words::LinkReply;
 use amqp_session::{BeginError, Error as SessionError};
 use amqp_words::Reply as ConnectionReply;
 
@@ -35,6 +36,8 @@ pub enum Reply {
     Connection(ConnectionReply),
     /// To a call for a session.
     Session(SessionReply),
+    /// To a call for a link.
+    Link(LinkReply),
 }
 
 // An answer is let go by a call, so that no caller sees the parts of errors.
@@ -43,6 +46,7 @@ impl Drop for Reply {
         match self {
             Reply::Connection(reply) => drop(reply),
             Reply::Session(reply) => drop(reply),
+            Reply::Link(reply) => drop(reply),
         }
     }
 }

@@ -1,9 +1,17 @@
--- An end with sessions goes on, one part after another.
+-- An end with sessions and links goes on, one part after another.
 use Rattle.std.specs.Prelude.{OnOk}
 use Rattle.std.proofs.Common.{◌≡◌, ◌∙◌, inl, inr, ℕ, List, [], ◌∷◌, ◌++◌, Bool, true, false, Option, Some, Result, Ok, Err, refl, sym, ap, subst}
 use Rattle.amqp_wire.specs.declared.link.Link.{Ghosts}
 use Rattle.amqp_wire.proofs.Events.{went_then}
 use Rattle.amqp_frames.specs.declared.shared.IncomingSession.{IncomingSession}
+use Rattle.amqp_frames.specs.declared.shared.LinkFrame.{LinkFrame}
+use Rattle.amqp_link_words.specs.declared.link_call.LinkCall.{LinkCall}
+use Rattle.amqp_links.specs.declared.output.LinksOutput.TheVariants as out
+use Rattle.amqp_links.specs.Calling.{Calls}
+use Rattle.amqp_links.specs.Inputs.{input_read}
+use Rattle.amqp_links.specs.Parts.{told}
+use Rattle.amqp_links.specs.State.{State as Links, seen as linked, TakesOutput}
+use Rattle.amqp_session.specs.declared.session.LinkInput.{LinkInput}
 use Rattle.amqp_transport.specs.declared.frames.Frame.{Frame}
 use Rattle.amqp_engine.specs.declared.error.AllocSessionError.{AllocSessionError}
 use Rattle.amqp_engine.specs.declared.error.AllocSessionError.TheVariants.{ChannelMaxReached, Memory}
@@ -19,12 +27,13 @@ use Rattle.amqp_peer.specs.Passing.{IsHeldAlone, TakesIncoming, TakesSession, Al
 use Rattle.amqp_peer.specs.Runs.{Worked, Rested, Stepped}
 use Rattle.amqp_calls.specs.declared.call.SessionNumbers.{SessionNumbers}
 use Rattle.amqp_sessions.specs.Calls.{accepted}
-use Rattle.amqp_sessions.specs.Frames.{heard}
-use Rattle.amqp_sessions.specs.State.{State, seen, TakesFrame, TakesChannel}
+use Rattle.amqp_sessions.specs.Frames.{heard, written, refusing}
+use Rattle.amqp_sessions.specs.State.{State, seen, TakesFrame, TakesInput, TakesChannel}
 use Rattle.amqp_end.specs.declared.end.End.{End}
 use Rattle.amqp_peer.specs.Held.{link_at, IsLate}
 use Rattle.amqp_end.specs.Goes.{Passed, Goes as Going, GoesOn}
-use Rattle.amqp_end.specs.Deeds.{Deed, Goes, Moves, Hears, Writes, Seats, Lacks, Frees, Accepts, Tells, IsDeed, Did, framed_of}
+use Rattle.amqp_end.specs.Deeds.{Deed, Goes, Moves, Hears, Writes, Seats, Lacks, Frees, Accepts, Asks, LinksHear, LinksWrite, LinksLack, Tells, IsDeed, Did, framed_of}
+use Rattle.amqp_end.specs.Asks.{limit_for}
 use Rattle.amqp_end.specs.Moves.{Move, on}
 
 -- ---- the connection
@@ -84,27 +93,27 @@ passed_freed link a channel = passed_same link a (record a { held = freed_in a.h
 
 -- ---- what was done
 
-did_none : {L : Type 0} (link : Ghosts L) (p : Peering L) (s : State) → Did link p s [] p s
-did_none link p s = (refl, refl)
+did_none : {L : Type 0} (link : Ghosts L) (p : Peering L) (s : State) (l : Links) → Did link p s l [] p s l
+did_none link p s l = (refl, refl, refl)
 
-did_one : {L : Type 0} (link : Ghosts L) (d : Deed) (p p' : Peering L) (s s' : State) → IsDeed link p s d p' s' → Did link p s (d ∷ []) p' s'
-did_one link d p p' s s' h = (p, s, (refl, refl), h)
+did_one : {L : Type 0} (link : Ghosts L) (d : Deed) (p p' : Peering L) (s s' : State) (l l' : Links) → IsDeed link p s l d p' s' l' → Did link p s l (d ∷ []) p' s' l'
+did_one link d p p' s s' l l' h = (p, s, l, (refl, refl, refl), h)
 
-did_then : {L : Type 0} (link : Ghosts L) (p q r : Peering L) (s t u : State) (ds es : List Deed) → Did link p s ds q t → Did link q t es r u → Did link p s (es ++ ds) r u
-did_then {L} link p q r s t u ds [] x y =
-    subst (λ (z : Peering L). Did link p s ds z u) (sym y.0) (subst (λ (z : State). Did link p s ds q z) (sym y.1) x)
-did_then link p q r s t u ds (e ∷ es) x y = (y.0, y.1, did_then link p q y.0 s t y.1 ds es x y.2, y.3)
+did_then : {L : Type 0} (link : Ghosts L) (p q r : Peering L) (s t u : State) (l m n : Links) (ds es : List Deed) → Did link p s l ds q t m → Did link q t m es r u n → Did link p s l (es ++ ds) r u n
+did_then {L} link p q r s t u l m n ds [] x y =
+    subst (λ (z : Peering L). Did link p s l ds z u n) (sym y.0) (subst (λ (z : State). Did link p s l ds q z n) (sym y.1) (subst (λ (z : Links). Did link p s l ds q t z) (sym y.2) x))
+did_then link p q r s t u l m n ds (e ∷ es) x y = (y.0, y.1, y.2, did_then link p q y.0 s t y.1 l m y.2 ds es x y.3, y.4)
 
 -- ---- both
 
 pub goes_none : {L : Type 0} (link : Ghosts L) (a : End L) → Going link a a
-goes_none link a = record { passed = passed_none link a.connection; deeds = []; did = did_none link a.connection (seen a.sessions); last = refl; failed = refl }
+goes_none link a = record { passed = passed_none link a.connection; deeds = []; did = did_none link a.connection (seen a.sessions) (linked a.links); last = refl; failed = refl }
 
 pub goes_then : {L : Type 0} (link : Ghosts L) (a b c : End L) → Going link a b → Going link b c → Going link a c
 goes_then link a b c x y = record {
   passed = passed_then link a.connection b.connection c.connection x.passed y.passed;
   deeds = y.deeds ++ x.deeds;
-  did = did_then link a.connection b.connection c.connection (seen a.sessions) (seen b.sessions) (seen c.sessions) x.deeds y.deeds x.did y.did;
+  did = did_then link a.connection b.connection c.connection (seen a.sessions) (seen b.sessions) (seen c.sessions) (linked a.links) (linked b.links) (linked c.links) x.deeds y.deeds x.did y.did;
   last = y.last ∙ x.last;
   failed = y.failed ∙ x.failed;
 }
@@ -115,21 +124,25 @@ on_none link a = record { goes = goes_none link a; late = λ h. h }
 pub on_then : {L : Type 0} (link : Ghosts L) (a b c : End L) → GoesOn link a b → GoesOn link b c → GoesOn link a c
 on_then link a b c x y = record { goes = goes_then link a b c x.goes y.goes; late = λ h. y.late (x.late h) }
 
-on_deed : {L : Type 0} (link : Ghosts L) (d : Deed) (a b : End L) → Passed link a.connection b.connection → IsDeed link a.connection (seen a.sessions) d b.connection (seen b.sessions) → (IsLate a.connection.held → IsLate b.connection.held) → b.last ≡ a.last → b.failed ≡ a.failed → GoesOn link a b
+on_deed : {L : Type 0} (link : Ghosts L) (d : Deed) (a b : End L) → Passed link a.connection b.connection → IsDeed link a.connection (seen a.sessions) (linked a.links) d b.connection (seen b.sessions) (linked b.links) → (IsLate a.connection.held → IsLate b.connection.held) → b.last ≡ a.last → b.failed ≡ a.failed → GoesOn link a b
 on_deed link d a b p h late last failed = record {
-  goes = record { passed = p; deeds = d ∷ []; did = did_one link d a.connection b.connection (seen a.sessions) (seen b.sessions) h; last = last; failed = failed };
+  goes = record { passed = p; deeds = d ∷ []; did = did_one link d a.connection b.connection (seen a.sessions) (seen b.sessions) (linked a.links) (linked b.links) h; last = last; failed = failed };
   late = late;
 }
 
--- the sessions alone make a move
-pub on_move : {L : Type 0} (link : Ghosts L) (m : Move) (a b : End L) → b.connection ≡ a.connection → seen b.sessions ≡ on m (seen a.sessions) → b.last ≡ a.last → b.failed ≡ a.failed → GoesOn link a b
-on_move {L} link m a b same h last failed =
-    on_deed link (Moves m) a b (subst (λ (p : Peering L). Passed link a.connection p) (sym same) (passed_none link a.connection)) (same, h)
+-- the connection stays
+on_still : {L : Type 0} (link : Ghosts L) (d : Deed) (a b : End L) → b.connection ≡ a.connection → IsDeed link a.connection (seen a.sessions) (linked a.links) d b.connection (seen b.sessions) (linked b.links) → b.last ≡ a.last → b.failed ≡ a.failed → GoesOn link a b
+on_still {L} link d a b same h last failed =
+    on_deed link d a b (subst (λ (p : Peering L). Passed link a.connection p) (sym same) (passed_none link a.connection)) h
     (λ l. subst (λ (p : Peering L). IsLate p.held) (sym same) l) last failed
 
+-- the sessions alone make a move
+pub on_move : {L : Type 0} (link : Ghosts L) (m : Move) (a b : End L) → b.connection ≡ a.connection → seen b.sessions ≡ on m (seen a.sessions) → linked b.links ≡ linked a.links → b.last ≡ a.last → b.failed ≡ a.failed → GoesOn link a b
+on_move {L} link m a b same h k = on_still link (Moves m) a b same (same, h, k)
+
 -- the connection alone goes on
-pub on_connection : {L : Type 0} (link : Ghosts L) (a b : End L) → Passed link a.connection b.connection → (IsLate a.connection.held → IsLate b.connection.held) → seen b.sessions ≡ seen a.sessions → b.last ≡ a.last → b.failed ≡ a.failed → GoesOn link a b
-on_connection link a b p late h last failed = on_deed link (Goes p.events) a b p (p.went, h) late last failed
+pub on_connection : {L : Type 0} (link : Ghosts L) (a b : End L) → Passed link a.connection b.connection → (IsLate a.connection.held → IsLate b.connection.held) → seen b.sessions ≡ seen a.sessions → linked b.links ≡ linked a.links → b.last ≡ a.last → b.failed ≡ a.failed → GoesOn link a b
+on_connection link a b p late h k last failed = on_deed link (Goes p.events) a b p (p.went, h, k) late last failed
 
 -- ---- what happens to a connection that has begun
 
@@ -172,32 +185,32 @@ abbrev seat_of : Result ℕ AllocSessionError → Deed
 seat_of (Ok channel) = Seats channel
 seat_of (Err e) = Lacks e
 
-seat_is : {L : Type 0} (link : Ghosts L) (r : Result ℕ AllocSessionError) (p p' : Peering L) (s s' : State) → AllocatesLate p.held r p'.held → IsHeldAlone p p' → s' ≡ s → IsDeed link p s (seat_of r) p' s'
-seat_is link (Ok channel) p p' s s' t h e = (t, h, e)
-seat_is link (Err x) p p' s s' t h e = (t, h, e)
+seat_is : {L : Type 0} (link : Ghosts L) (r : Result ℕ AllocSessionError) (p p' : Peering L) (s s' : State) (l l' : Links) → AllocatesLate p.held r p'.held → IsHeldAlone p p' → s' ≡ s → l' ≡ l → IsDeed link p s l (seat_of r) p' s' l'
+seat_is link (Ok channel) p p' s s' l l' t h e k = (t, h, e, k)
+seat_is link (Err x) p p' s s' l l' t h e k = (t, h, e, k)
 
-pub on_allocated : {L : Type 0} (link : Ghosts L) (r : Result ℕ AllocSessionError) (a b : End L) → AllocatesLate a.connection.held r b.connection.held → IsHeldAlone a.connection b.connection → seen b.sessions ≡ seen a.sessions → b.last ≡ a.last → b.failed ≡ a.failed → GoesOn link a b
-on_allocated link r a b t h e =
+pub on_allocated : {L : Type 0} (link : Ghosts L) (r : Result ℕ AllocSessionError) (a b : End L) → AllocatesLate a.connection.held r b.connection.held → IsHeldAlone a.connection b.connection → seen b.sessions ≡ seen a.sessions → linked b.links ≡ linked a.links → b.last ≡ a.last → b.failed ≡ a.failed → GoesOn link a b
+on_allocated link r a b t h e k =
     on_deed link (seat_of r) a b (passed_same link a.connection b.connection (λ d. allocated_link d a.connection.held r b.connection.held t) (held_kind a.connection b.connection h))
-    (seat_is link r a.connection b.connection (seen a.sessions) (seen b.sessions) t h e) (λ l. allocated_late a.connection.held r b.connection.held t)
+    (seat_is link r a.connection b.connection (seen a.sessions) (seen b.sessions) (linked a.links) (linked b.links) t h e k) (λ l. allocated_late a.connection.held r b.connection.held t)
 
 -- a frame that was read is heard
-pub on_heard : {L : Type 0} (link : Ghosts L) (x : Frame) (a b : End L) → TakesIncoming a.connection.held (Some x) b.connection.held → IsHeldAlone a.connection b.connection → seen b.sessions ≡ heard (framed_of x) (seen a.sessions) → b.last ≡ a.last → b.failed ≡ a.failed → GoesOn link a b
-on_heard link x a b t h e = on_deed link (Hears x) a b (passed_incoming link a.connection (Some x) b.connection t h) (t, h, e) (incoming_late a.connection.held (Some x) b.connection.held t)
+pub on_heard : {L : Type 0} (link : Ghosts L) (x : Frame) (a b : End L) → TakesIncoming a.connection.held (Some x) b.connection.held → IsHeldAlone a.connection b.connection → seen b.sessions ≡ heard (framed_of x) (seen a.sessions) → linked b.links ≡ linked a.links → b.last ≡ a.last → b.failed ≡ a.failed → GoesOn link a b
+on_heard link x a b t h e k = on_deed link (Hears x) a b (passed_incoming link a.connection (Some x) b.connection t h) (t, h, e, k) (incoming_late a.connection.held (Some x) b.connection.held t)
 
 -- no session waits
-pub on_session : {L : Type 0} (link : Ghosts L) (x : Option IncomingSession) (a b : End L) → TakesSession a.connection.held x b.connection.held → IsHeldAlone a.connection b.connection → seen b.sessions ≡ seen a.sessions → b.last ≡ a.last → b.failed ≡ a.failed → GoesOn link a b
+pub on_session : {L : Type 0} (link : Ghosts L) (x : Option IncomingSession) (a b : End L) → TakesSession a.connection.held x b.connection.held → IsHeldAlone a.connection b.connection → seen b.sessions ≡ seen a.sessions → linked b.links ≡ linked a.links → b.last ≡ a.last → b.failed ≡ a.failed → GoesOn link a b
 on_session link x a b t h = on_connection link a b (passed_session link a.connection x b.connection t h) (session_late a.connection.held x b.connection.held t)
 
 -- the first that waits is accepted
-pub on_accepted : {L : Type 0} (link : Ghosts L) (name : ℕ) (x : SessionNumbers) (channel limit : ℕ) (incoming : IncomingSession) (a b : End L) → TakesSession a.connection.held (Some incoming) b.connection.held → IsHeldAlone a.connection b.connection → seen b.sessions ≡ accepted name x channel limit incoming (seen a.sessions) → b.last ≡ a.last → b.failed ≡ a.failed → GoesOn link a b
-on_accepted link name x channel limit incoming a b t h e =
-    on_deed link (Accepts name x channel limit incoming) a b (passed_session link a.connection (Some incoming) b.connection t h) (t, h, e) (session_late a.connection.held (Some incoming) b.connection.held t)
+pub on_accepted : {L : Type 0} (link : Ghosts L) (name : ℕ) (x : SessionNumbers) (channel limit : ℕ) (incoming : IncomingSession) (a b : End L) → TakesSession a.connection.held (Some incoming) b.connection.held → IsHeldAlone a.connection b.connection → seen b.sessions ≡ accepted name x channel limit incoming (seen a.sessions) → linked b.links ≡ linked a.links → b.last ≡ a.last → b.failed ≡ a.failed → GoesOn link a b
+on_accepted link name x channel limit incoming a b t h e k =
+    on_deed link (Accepts name x channel limit incoming) a b (passed_session link a.connection (Some incoming) b.connection t h) (t, h, e, k) (session_late a.connection.held (Some incoming) b.connection.held t)
 
 -- a channel is given back
-pub on_freed : {L : Type 0} (link : Ghosts L) (channel : ℕ) (a b : End L) → TakesChannel (seen a.sessions) (Some channel) (seen b.sessions) → b.connection ≡ record a.connection { held = freed_in a.connection.held channel } → b.last ≡ a.last → b.failed ≡ a.failed → GoesOn link a b
-on_freed {L} link channel a b t h =
-    on_deed link (Frees channel) a b (subst (λ (p : Peering L). Passed link a.connection p) (sym h) (passed_freed link a.connection channel)) (t, h)
+pub on_freed : {L : Type 0} (link : Ghosts L) (channel : ℕ) (a b : End L) → TakesChannel (seen a.sessions) (Some channel) (seen b.sessions) → b.connection ≡ record a.connection { held = freed_in a.connection.held channel } → linked b.links ≡ linked a.links → b.last ≡ a.last → b.failed ≡ a.failed → GoesOn link a b
+on_freed {L} link channel a b t h k =
+    on_deed link (Frees channel) a b (subst (λ (p : Peering L). Passed link a.connection p) (sym h) (passed_freed link a.connection channel)) (t, h, k)
     (λ l. subst (λ (p : Peering L). IsLate p.held) (sym h) (freed_late a.connection.held channel l))
 
 -- a frame is given to the connection
@@ -212,26 +225,41 @@ passed_late link (Unopened c) x a b h p = absurd p
 passed_late link Moving x a b h p = absurd p
 passed_late link (Late s) x a b h p = passed_if link (is_open s.phase) s x a b h p
 
-pub on_wrote : {L : Type 0} (link : Ghosts L) (x : Frame) (a b : End L) → TakesFrame (seen a.sessions) (Some (framed_of x)) (seen b.sessions) → Passes x a.connection b.connection → IsLate b.connection.held → b.last ≡ a.last → b.failed ≡ a.failed → GoesOn link a b
-on_wrote link x a b t p late = on_deed link (Writes x) a b (passed_late link a.connection.held x a.connection b.connection refl p) (t, p) (λ l. late)
+pub on_wrote : {L : Type 0} (link : Ghosts L) (x : Frame) (a b : End L) → TakesFrame (seen a.sessions) (Some (framed_of x)) (seen b.sessions) → Passes x a.connection b.connection → IsLate b.connection.held → linked b.links ≡ linked a.links → b.last ≡ a.last → b.failed ≡ a.failed → GoesOn link a b
+on_wrote link x a b t p late k = on_deed link (Writes x) a b (passed_late link a.connection.held x a.connection b.connection refl p) (t, p, k) (λ l. late)
 
--- the answers of both are taken
-pub on_told : {L : Type 0} (link : Ghosts L) (a b : End L) → b.connection ≡ record a.connection { replies = [] } → seen b.sessions ≡ record (seen a.sessions) { replies = [] } → b.last ≡ a.last → b.failed ≡ a.failed → GoesOn link a b
-on_told {L} link a b h e =
-    on_deed link Tells a b (passed_same link a.connection b.connection (λ d. ap (λ (p : Peering L). link_of d p) h) (ap (λ (p : Peering L). p.kind) h)) (h, e)
+-- the answers of all three are taken
+pub on_told : {L : Type 0} (link : Ghosts L) (a b : End L) → b.connection ≡ record a.connection { replies = [] } → seen b.sessions ≡ record (seen a.sessions) { replies = [] } → linked b.links ≡ record (linked a.links) { replies = [] } → b.last ≡ a.last → b.failed ≡ a.failed → GoesOn link a b
+on_told {L} link a b h e k =
+    on_deed link Tells a b (passed_same link a.connection b.connection (λ d. ap (λ (p : Peering L). link_of d p) h) (ap (λ (p : Peering L). p.kind) h)) (h, e, k)
     (λ l. subst (λ (p : Peering L). IsLate p.held) (sym h) l)
 
+-- a call is made on the links
+pub on_asked : {L : Type 0} (link : Ghosts L) (name : ℕ) (call : LinkCall) (a b : End L) → b.connection ≡ a.connection → seen b.sessions ≡ seen a.sessions → Calls name call (limit_for call (seen a.sessions)) (linked a.links) (linked b.links) → b.last ≡ a.last → b.failed ≡ a.failed → GoesOn link a b
+on_asked {L} link name call a b same h k = on_still link (Asks name call) a b same (same, h, k)
+
+-- the links hear their sessions
+pub on_linked : {L : Type 0} (link : Ghosts L) (session : ℕ) (x : LinkInput) (a b : End L) → b.connection ≡ a.connection → TakesInput (seen a.sessions) (Some (session, x)) (seen b.sessions) → linked b.links ≡ input_read session x (linked a.links) → b.last ≡ a.last → b.failed ≡ a.failed → GoesOn link a b
+on_linked {L} link session x a b same h k = on_still link (LinksHear session x) a b same (same, h, k)
+
+-- the sessions get what the links write
+pub on_written : {L : Type 0} (link : Ghosts L) (session : ℕ) (x : LinkFrame) (a b : End L) → b.connection ≡ a.connection → seen b.sessions ≡ written session x (seen a.sessions) → TakesOutput (linked a.links) (Some (told (out.Frame session x))) (linked b.links) → b.last ≡ a.last → b.failed ≡ a.failed → GoesOn link a b
+on_written {L} link session x a b same h k = on_still link (LinksWrite session x) a b same (same, h, k)
+
+pub on_lacking : {L : Type 0} (link : Ghosts L) (session : ℕ) (a b : End L) → b.connection ≡ a.connection → seen b.sessions ≡ refusing session (seen a.sessions) → TakesOutput (linked a.links) (Some (told (out.Astray session))) (linked b.links) → b.last ≡ a.last → b.failed ≡ a.failed → GoesOn link a b
+on_lacking {L} link session a b same h k = on_still link (LinksLack session) a b same (same, h, k)
+
 -- a step of the connection
-pub on_worked : {L : Type 0} (link : Ghosts L) (at n : ℕ) (a b : End L) → Worked link at n a.connection b.connection → IsLate b.connection.held → seen b.sessions ≡ seen a.sessions → b.last ≡ a.last → b.failed ≡ a.failed → GoesOn link a b
+pub on_worked : {L : Type 0} (link : Ghosts L) (at n : ℕ) (a b : End L) → Worked link at n a.connection b.connection → IsLate b.connection.held → seen b.sessions ≡ seen a.sessions → linked b.links ≡ linked a.links → b.last ≡ a.last → b.failed ≡ a.failed → GoesOn link a b
 on_worked link at n a b w late = on_connection link a b (passed_worked link at n a.connection b.connection w) (λ l. late)
 
-pub on_rested : {L : Type 0} (link : Ghosts L) (at n : ℕ) (a b : End L) → Rested link at n a.connection b.connection → IsLate b.connection.held → seen b.sessions ≡ seen a.sessions → b.last ≡ a.last → b.failed ≡ a.failed → GoesOn link a b
+pub on_rested : {L : Type 0} (link : Ghosts L) (at n : ℕ) (a b : End L) → Rested link at n a.connection b.connection → IsLate b.connection.held → seen b.sessions ≡ seen a.sessions → linked b.links ≡ linked a.links → b.last ≡ a.last → b.failed ≡ a.failed → GoesOn link a b
 on_rested link at n a b r late = on_connection link a b (passed_rested link at n a.connection b.connection r) (λ l. late)
 
-pub goes_stepped : {L : Type 0} (link : Ghosts L) (first : Local) (a b : End L) → Stepped link a.connection first b.connection → seen b.sessions ≡ seen a.sessions → b.last ≡ a.last → b.failed ≡ a.failed → Going link a b
-goes_stepped link first a b s h last failed =
+pub goes_stepped : {L : Type 0} (link : Ghosts L) (first : Local) (a b : End L) → Stepped link a.connection first b.connection → seen b.sessions ≡ seen a.sessions → linked b.links ≡ linked a.links → b.last ≡ a.last → b.failed ≡ a.failed → Going link a b
+goes_stepped link first a b s h k last failed =
     let p = passed_stepped link a.connection first b.connection s in
-    record { passed = p; deeds = Goes p.events ∷ []; did = did_one link (Goes p.events) a.connection b.connection (seen a.sessions) (seen b.sessions) (p.went, h); last = last; failed = failed }
+    record { passed = p; deeds = Goes p.events ∷ []; did = did_one link (Goes p.events) a.connection b.connection (seen a.sessions) (seen b.sessions) (linked a.links) (linked b.links) (p.went, h, k); last = last; failed = failed }
 
 pub on_ok : {A E X Y : Type 0} (r : Result A E) → (X → Y) → OnOk r X → OnOk r Y
 on_ok (Ok a) f x = f x
@@ -243,6 +271,6 @@ on_any (Err e) x = tt
 
 -- a step of the connection, behind which another follows or none does
 pub on_step : {L : Type 0} (link : Ghosts L) (at : ℕ) (more : Bool) (a b : End L) → (◌≡◌ {A = Result Bool PeerError} (Ok more) (Ok true) → Worked link at 1 a.connection b.connection) → (◌≡◌ {A = Result Bool PeerError} (Ok more) (Ok false) → Rested link at 1 a.connection b.connection) → IsLate b.connection.held
-    → seen b.sessions ≡ seen a.sessions → b.last ≡ a.last → b.failed ≡ a.failed → GoesOn link a b
+    → seen b.sessions ≡ seen a.sessions → linked b.links ≡ linked a.links → b.last ≡ a.last → b.failed ≡ a.failed → GoesOn link a b
 on_step link at true a b worked rested late = on_worked link at 1 a b (worked refl) late
 on_step link at false a b worked rested late = on_rested link at 1 a b (rested refl) late

@@ -1,7 +1,8 @@
--- An end with sessions that goes on.
+-- An end with sessions and links that goes on.
 use Rattle.std.specs.Prelude.{◌≡◌, List}
 use Rattle.amqp_wire.specs.declared.link.Link.{Ghosts}
 use Rattle.amqp_wire.specs.Events.{LinkEvent, Went}
+use Rattle.amqp_links.specs.State.{seen as linked}
 use Rattle.amqp_peer.specs.Held.{IsLate}
 use Rattle.amqp_peer.specs.Peering.{Peering, link_of}
 use Rattle.amqp_sessions.specs.State.{seen}
@@ -14,13 +15,13 @@ pub record Passed {L : Type 0} (link : Ghosts L) (old new : Peering L) : Type 0 
   pub went : (d : L) → Went link (link_of d old) events (link_of d new)
   pub kind : new.kind ≡ old.kind
 
--- An end went on: its connection and its sessions did this, one after another. Each frame that the sessions heard was the first that waited for
--- them at the connection, and each frame that they had to write was given to it, in order. Of what the connection does by itself, its link
--- alone is told; and not that the channel of a session is one that was taken for it.
+-- An end went on: its connection, its sessions and its links did this, one after another. Each frame that the sessions heard was the first
+-- that waited for them at the connection, and each frame that they had to write was given to it, in order; so it is between the sessions and
+-- the links. Of what the connection does by itself, its link alone is told; and not that the channel of a session is one that was taken for it.
 pub record Goes {L : Type 0} (link : Ghosts L) (old new : End L) : Type 0 where
   pub passed : Passed link old.connection new.connection
   pub deeds : List Deed
-  pub did : Did link old.connection (seen old.sessions) deeds new.connection (seen new.sessions)
+  pub did : Did link old.connection (seen old.sessions) (linked old.links) deeds new.connection (seen new.sessions) (linked new.links)
   pub last : new.last ≡ old.last
   pub failed : new.failed ≡ old.failed
 

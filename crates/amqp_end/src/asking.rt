@@ -54,13 +54,16 @@ impl<L: Link> End<L> {
         self.steps(at)
     }
 
-    /// A `close` stops the sessions.
+    /// A `close` stops the sessions, of which their links hear.
     fn stop_sessions(&mut self, call: &ConnectionCall) -> Result<(), AllocError>
         ensures ok { OnOk result (GoesOn L.Link self.old self.new) }
         ensures connection { self.new.connection ≡ self.old.connection }
     {
         match own_reason(self.alloc, call)? {
-            Some(reason) => self.sessions.halt(&reason),
+            Some(reason) => {
+                self.sessions.halt(&reason)?;
+                self.hand_on_all()
+            }
             None => Ok(()),
         }
     }
@@ -81,11 +84,12 @@ impl<L: Link> End<L> {
         self.steps(at)
     }
 
-    /// The frames of a session go out.
+    /// The frames of a session go out, and its links hear what it has for them.
     fn let_out(&mut self, session: u64) -> Result<(), AllocError>
         ensures { OnOk result (GoesOn L.Link self.old self.new) }
     {
         self.sessions.hand_out(session)?;
+        self.hand_on_all()?;
         self.hand_over()
     }
 

@@ -1,13 +1,15 @@
-//! One end with its sessions: what it is asked to do, and what it answers.
+//! One end with its sessions and their links: what it is asked to do, and what it answers.
 ghost use Rattle.std.specs.Prelude.{◌≡◌, ◌↔◌, [], None, Some, true, false, OnOk, OnErr, IfOk, IfErr, IsTrue, IsErrOf};
 ghost use Rattle.std.specs.Borrow.{Lends, sem};
 ghost use Rattle.amqp_end.specs.contracts.end.End.{the_row};
-ghost use Rattle.amqp_end.specs.Asks.{IsNew, Takes, MayAskFor, MayAsk};
+ghost use Rattle.amqp_end.specs.Asks.{IsNew, Takes, HasSession, TakesForLink, MayAskFor, MayAsk};
 ghost use Rattle.amqp_end.specs.Goes.{Goes};
+ghost use Rattle.amqp_links.specs.State.{seen as linked, no_links};
 ghost use Rattle.amqp_peer.specs.Peering.{fresh, link_of, with_link_of};
 ghost use Rattle.amqp_sessions.specs.State.{seen, none_begun};
 
-use amqp_calls::{Call, NamedReply, SessionCall};
+use amqp_calls::{Call, LinkCall, NamedReply, SessionCall};
+use amqp_links::Links;
 use amqp_peer::{Peer, PeerError, PeerKind};
 use amqp_sessions::Sessions;
 use amqp_wire::link::Link;
@@ -36,10 +38,11 @@ impl From<AllocError> for EndError {
     }
 }
 
-/// One end over a link: its connection, and the sessions on it.
+/// One end over a link: its connection, the sessions on it, and their links.
 pub struct End<L: Link> {
     pub(crate) connection: Peer<L>,
     pub(crate) sessions: Sessions,
+    pub(crate) links: Links,
     /// Whether the sessions were told that the connection has stopped.
     pub(crate) has_concluded: bool,
     /// The answers that were not taken, in order.
@@ -56,6 +59,7 @@ impl<L: Link> Drop for End<L> {
         let End {
             connection,
             sessions,
+            links,
             has_concluded: _,
             replies,
             last: _,
@@ -64,6 +68,7 @@ impl<L: Link> Drop for End<L> {
         } = self;
         drop(connection);
         drop(sessions);
+        drop(links);
         drop(replies);
     }
 }
@@ -80,10 +85,11 @@ pub(crate) fn memory_of(error: PeerError) -> AllocError {
 }
 
 impl<L: Link> End<L> {
-    /// An end over that connection, on which nothing was done.
-    fn new(alloc: Global, connection: Peer<L>) -> Self
+    /// An end over that connection and with those links, on which nothing was done.
+    fn new(alloc: Global, connection: Peer<L>, links: Links) -> Self
         ensures connection { result.connection ≡ connection }
         ensures sessions { seen result.sessions ≡ none_begun }
+        ensures links { result.links ≡ links }
         ensures last { result.last ≡ None }
         ensures replies { result.replies.items ≡ [] }
         ensures alive { result.failed ≡ false }
@@ -91,6 +97,7 @@ impl<L: Link> End<L> {
         End {
             connection,
             sessions: Sessions::new(alloc),
+            links,
             has_concluded: false,
             replies: Vec::new(alloc),
             last: None,
@@ -103,32 +110,35 @@ impl<L: Link> End<L> {
     pub fn client(alloc: Global, link: L) -> Result<Self, (AllocError, L)>
         ensures connection { IfOk result (λ e. e.connection ≡ fresh link PeerKind.Client) }
         ensures sessions { IfOk result (λ e. seen e.sessions ≡ none_begun) }
+        ensures links { IfOk result (λ e. linked e.links ≡ no_links false) }
         ensures last { IfOk result (λ e. e.last ≡ None) }
         ensures replies { IfOk result (λ e. e.replies.items ≡ []) }
         ensures alive { IfOk result (λ e. e.failed ≡ false) }
         ensures err { IfErr result (λ e. e.1 ≡ link) }
     {
         let connection = Peer::client(alloc, link)?;
-        Ok(End::new(alloc, connection))
+        Ok(End::new(alloc, connection, Links::new(alloc, false)))
     }
 
     /// A listener over the link. It takes no memory, so that the error, want of memory, never comes.
     pub fn listener(alloc: Global, link: L) -> Result<Self, (AllocError, L)>
         ensures connection { IfOk result (λ e. e.connection ≡ fresh link PeerKind.Listener) }
         ensures sessions { IfOk result (λ e. seen e.sessions ≡ none_begun) }
+        ensures links { IfOk result (λ e. linked e.links ≡ no_links true) }
         ensures last { IfOk result (λ e. e.last ≡ None) }
         ensures replies { IfOk result (λ e. e.replies.items ≡ []) }
         ensures alive { IfOk result (λ e. e.failed ≡ false) }
         ensures err { IfErr result (λ e. e.1 ≡ link) }
     {
         let connection = Peer::listener(alloc, link)?;
-        Ok(End::new(alloc, connection))
+        Ok(End::new(alloc, connection, Links::new(alloc, true)))
     }
 
     /// Whether a call of this name may be made now. The name is above that of each call before. Calls on the connection as its end
     /// says, but a `close` not while a `begin` or `accept_session` waits; `begin` at a client and `accept_session` at a listener,
     /// after the connection was made and before a `close`, one at a time; `end` on a session that was made, that no `end` has let
-    /// go, and at which no `end` waits.
+    /// go, and at which no `end` and no call for a link waits; on such sessions `sender` and `receiver` at a client and `accept_link`
+    /// at a listener; and these and calls on links as the links say.
     pub fn may_call(&self, name: u64, call: &Call) -> bool
         ensures { IsTrue result ↔ MayAsk self.now name call.now }
     {
@@ -152,11 +162,12 @@ impl<L: Link> End<L> {
                 self.sessions.waiting().is_none() && self.connection.may_call(name, call)
             }
             Call::Session(call) => self.takes_at(call) && self.sessions.may_call(call),
+            Call::Link(call) => self.takes_for_link(call) && self.links.may_call(call),
         }
     }
 
     fn takes_at(&self, call: &SessionCall) -> bool
-        ensures { IsTrue result ↔ Takes self.now.connection call.now }
+        ensures { IsTrue result ↔ Takes self.now.connection (linked self.now.links) call.now }
     {
         match call {
             SessionCall::Begin(_) => {
@@ -165,8 +176,32 @@ impl<L: Link> End<L> {
             SessionCall::Accept(_) => {
                 self.connection.kind() == PeerKind::Listener && self.connection.has_connection()
             }
-            SessionCall::End { .. } => true,
+            SessionCall::End { session, error: _ } => !self.links.is_busy(*session),
         }
+    }
+
+    fn takes_for_link(&self, call: &LinkCall) -> bool
+        ensures { IsTrue result ↔ TakesForLink self.now.connection (seen self.now.sessions) call.now }
+    {
+        match call {
+            LinkCall::Sender { session, .. } | LinkCall::Receiver { session, .. } => {
+                self.has_session(PeerKind::Client, *session)
+            }
+            LinkCall::Accept { session, .. } => self.has_session(PeerKind::Listener, *session),
+            LinkCall::Send { .. }
+            | LinkCall::Outcome { .. }
+            | LinkCall::Recv { .. }
+            | LinkCall::Dispose { .. }
+            | LinkCall::SetCredit { .. }
+            | LinkCall::Credit { .. } => true,
+        }
+    }
+
+    /// Whether the end is on that side, and calls may be made on that session.
+    fn has_session(&self, kind: PeerKind, session: u64) -> bool
+        ensures { IsTrue result ↔ HasSession kind self.now.connection session (seen self.now.sessions) }
+    {
+        self.connection.kind() == kind && self.sessions.may_attach(session)
     }
 
     /// Makes a call of this name at the moment `at`, in milliseconds, and then goes on until nothing more can be done. Want of
@@ -198,6 +233,7 @@ impl<L: Link> End<L> {
         match call {
             Call::Connection(call) => self.call_connection(at, name, call),
             Call::Session(call) => self.call_session(at, name, call),
+            Call::Link(call) => self.call_link(at, name, call),
         }
     }
 
@@ -226,6 +262,7 @@ impl<L: Link> End<L> {
         ensures left { self.new.replies.items ≡ [] }
         ensures connection { self.new.connection ≡ self.old.connection }
         ensures sessions { self.new.sessions ≡ self.old.sessions }
+        ensures links { self.new.links ≡ self.old.links }
         ensures last { self.new.last ≡ self.old.last }
         ensures alive { self.new.failed ≡ self.old.failed }
     {

@@ -1,8 +1,9 @@
-//! One end of AMQP 1.0 with its sessions: a connection and the session endpoints above it.
+//! One end of AMQP 1.0: a connection, the session endpoints above it, and their links.
 #![tactic(auto)]
 
 pub use end::{End, EndError};
 
 mod asking;
 pub mod end;
+mod linking;
 mod running;

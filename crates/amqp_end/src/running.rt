@@ -4,7 +4,7 @@ ghost use Rattle.amqp_end.specs.Goes.{Goes, GoesOn};
 ghost use Rattle.amqp_peer.specs.Held.{IsLate};
 
 use crate::end::{End, memory_of};
-use amqp_calls::{NamedReply, Reply};
+use amqp_calls::{NamedLinkReply, NamedReply, Reply};
 use amqp_sessions::Waiting;
 use amqp_wire::link::Link;
 use amqp_words::ReplyList;
@@ -19,6 +19,21 @@ fn add_replies(replies: &mut Vec<NamedReply>, connection: ReplyList) -> Result<(
         replies.push(NamedReply {
             name: answer.name,
             reply: Reply::Connection(answer.reply),
+        })?;
+    }
+    Ok(())
+}
+
+/// Answers of links among those of an end.
+fn add_link_replies(
+    replies: &mut Vec<NamedReply>,
+    links: Vec<NamedLinkReply>,
+) -> Result<(), AllocError> {
+    for answer in links {
+        let (name, reply) = answer.into_parts();
+        replies.push(NamedReply {
+            name,
+            reply: Reply::Link(reply),
         })?;
     }
     Ok(())
@@ -96,12 +111,13 @@ impl<L: Link> End<L> {
         self.collect()
     }
 
-    /// The sessions hear the frames that the connection has read for them.
+    /// The sessions and their links hear the frames that the connection has read for them.
     fn hear(&mut self) -> Result<(), AllocError>
         ensures { OnOk result (GoesOn L.Link self.old self.new) }
     {
         'frames: while let Some(frame) = self.connection.take_incoming() {
             self.sessions.on_frame(frame)?;
+            self.hand_on_all()?;
         }
         Ok(())
     }
@@ -117,7 +133,8 @@ impl<L: Link> End<L> {
             return Ok(());
         }
         self.accept_first(name, numbers)?;
-        self.sessions.hand_out(name)
+        self.sessions.hand_out(name)?;
+        self.hand_on_all()
     }
 
     /// Gives the frames of the sessions to the connection, and their channels back.
@@ -155,7 +172,7 @@ impl<L: Link> End<L> {
         }
     }
 
-    /// Tells the sessions once that the connection has stopped.
+    /// Tells the sessions and their links once that the connection has stopped.
     fn conclude(&mut self) -> Result<(), AllocError>
         ensures { OnOk result (GoesOn L.Link self.old self.new) }
     {
@@ -165,6 +182,7 @@ impl<L: Link> End<L> {
         if let Some(reason) = self.connection.stop_reason() {
             self.has_concluded = true;
             self.sessions.conclude(reason)?;
+            return self.hand_on_all();
         }
         Ok(())
     }
@@ -175,6 +193,7 @@ impl<L: Link> End<L> {
     {
         let mut fresh = self.sessions.take_replies();
         add_replies(&mut fresh, self.connection.replies())?;
+        add_link_replies(&mut fresh, self.links.take_replies())?;
         fresh.sort_by_key(|answer| answer.name)?;
         append(&mut self.replies, fresh)
     }

@@ -259,3 +259,11 @@ closed_by (Some d) stop = if d.closed then Some (detached_by true d.error) else 
 -- a call that waits until a delivery is settled
 abbrev pub settlement_refusal : Link → Option LinkStateError
 settlement_refusal s = if s.is_closed then (if is_over s.phase then Some state.IllegalState else stopped_by s.stop_reason) else closed_by s.remote s.stop_reason
+
+abbrev pub closes : Option Detach → Bool
+closes None = false
+closes (Some d) = d.closed
+
+-- both ends have closed the link (section 2.6.6): this end, and the peer has answered; or the peer, which was answered at once
+abbrev pub is_closed_by_both : Link → Bool
+is_closed_by_both s = if s.is_closed then is_over s.phase else closes s.remote

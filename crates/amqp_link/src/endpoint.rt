@@ -1,7 +1,7 @@
 //! A link endpoint: what it is built from, its queue, and what it tells of itself (OASIS AMQP 1.0, part 2, section 2.6).
 ghost use Rattle.std.specs.Prelude.{◌≡◌, ◌≤◌, ◌<◌, ◌+◌, map, Some, IfOk, OnOk};
 ghost use Rattle.std.specs.Option.{option_map};
-ghost use Rattle.amqp_link.specs.Link.{body_of, seen, spare, saying, TakesFrame, stopped, is_over, is_attached};
+ghost use Rattle.amqp_link.specs.Link.{body_of, seen, spare, saying, TakesFrame, stopped, is_over, is_attached, is_closed_by_both};
 
 use crate::error::AttachError;
 use amqp_data::Text;
@@ -183,6 +183,19 @@ impl LinkEndpoint {
         ensures { result ≡ is_over (seen self.now).phase }
     {
         matches!(self.phase, LinkPhase::Detached)
+    }
+
+    /// Whether both ends have closed the link.
+    pub fn is_closed_by_both(&self) -> bool
+        ensures { result ≡ is_closed_by_both (seen self.now) }
+    {
+        if self.is_closed {
+            return self.is_over();
+        }
+        match &self.remote {
+            Some(detach) => detach.closed,
+            None => false,
+        }
     }
 
     /// Why the session has stopped, if it has.

@@ -2,7 +2,7 @@
 use amqp_data::Text;
 
 /// What an end says of a link as it answers the peer's Attach.
-#[derive(Drop)]
+#[derive(Debug, Drop)]
 pub struct AcceptSettings {
     /// The largest message, in bytes, where there is a limit.
     pub max_message_size: Option<u64>,

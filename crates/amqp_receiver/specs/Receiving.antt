@@ -5,6 +5,7 @@ use Rattle.amqp_composites.specs.declared.modes.ReceiverSettleMode.{ReceiverSett
 use Rattle.amqp_composites.specs.declared.modes.ReceiverSettleMode.TheVariants.{First, Second}
 use Rattle.amqp_termini.specs.declared.state.DeliveryState.{DeliveryState}
 use Rattle.amqp_performatives.specs.declared.transfer.Transfer.{Transfer}
+use Rattle.amqp_frames.specs.declared.shared.CoveredDelivery.{CoveredDelivery}
 use Rattle.amqp_parts.specs.declared.incomplete.PartError.{PartError}
 use Rattle.amqp_parts.specs.declared.incomplete.PartError.TheVariants as part
 use Rattle.amqp_parts.specs.Join as parts
@@ -67,6 +68,10 @@ info_of x = record { delivery_id = unwrap_or x.delivery_id 0; delivery_tag = unw
 abbrev pub forgotten : Option (List ℕ) → State → State
 forgotten None s = s
 forgotten (Some tag) s = record s { book = without s.book tag }
+
+-- the sender's Disposition was read (part 2, section 2.6.12)
+abbrev pub disposition_read : CoveredDelivery → Bool → State → State
+disposition_read covered settled s = if settled then forgotten (Some covered.delivery_tag) s else s
 
 -- ---- the rows
 

@@ -4,7 +4,7 @@ use amqp_data::Text;
 use amqp_delivery::CreditMode;
 
 /// What a receiver says of its link as it attaches, and when it gives credit.
-#[derive(Drop)]
+#[derive(Debug, Drop)]
 pub struct ReceiverSettings {
     /// The name of the link.
     pub name: Text,

@@ -2,7 +2,7 @@
 ghost use Rattle.std.specs.Prelude.{◌≡◌, [], Some, None, unwrap_or, codes, IfOk, OnOk};
 ghost use Rattle.amqp_parts.specs.Join as parts;
 ghost use Rattle.amqp_receiver.specs.Receiver.{seen};
-ghost use Rattle.amqp_receiver.specs.Receiving.{Steps, error_of, closed_for, closes, info_of, forgotten, aborted_at, belongs, size_before, is_too_large, is_second, is_first, given_if, complete, buffered, stated, entered, settled_if, started, continued, joined, total, too_large, is_stray_state, taken_whole, taken};
+ghost use Rattle.amqp_receiver.specs.Receiving.{Steps, error_of, closed_for, closes, info_of, forgotten, disposition_read, aborted_at, belongs, size_before, is_too_large, is_second, is_first, given_if, complete, buffered, stated, entered, settled_if, started, continued, joined, total, too_large, is_stray_state, taken_whole, taken};
 
 use crate::error::RecvError;
 use crate::receiver::Receiver;
@@ -11,6 +11,7 @@ use amqp_composites::error::Error as AmqpError;
 use amqp_composites::modes::ReceiverSettleMode;
 use amqp_data::{Binary, Symbol};
 use amqp_delivery::DeliveryInfo;
+use amqp_frames::CoveredDelivery;
 use amqp_parts::{IncompleteTransfer, PartError, let_go};
 use amqp_performatives::transfer::Transfer;
 use amqp_termini::DeliveryState;
@@ -94,6 +95,15 @@ fn is_first(mode: ReceiverSettleMode) -> bool
 }
 
 impl Receiver {
+    /// A Disposition of the sender was read that covers this delivery of the link: one that is settled is not unsettled here any more.
+    pub fn on_disposition(&mut self, covered: &CoveredDelivery, settled: bool)
+        ensures { seen self.new ≡ disposition_read covered.now settled (seen self.old) }
+    {
+        if settled {
+            self.book.forget(&covered.delivery_tag);
+        }
+    }
+
     /// Closes the link for that condition, where it is attached.
     fn close_for(&mut self, condition: &[u8]) -> Result<(), AllocError>
         ensures state { OnOk result (seen self.new ≡ closed_for condition.now (seen self.old)) }

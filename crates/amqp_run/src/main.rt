@@ -3,7 +3,8 @@
 //! `amqp_run world` reads a script from standard input, makes its steps and writes the text of the
 //! trace to standard output (both as the crate `amqp_session_script` says). `amqp_run show` writes
 //! what both ends said, as lines of text, or with `--svg` as a picture. `amqp_run kdf HASH ROUNDS
-//! LENGTH PASSWORD SALT` writes a key. `amqp_run disposers N M` has threads settle deliveries.
+//! LENGTH PASSWORD SALT` writes a key. `amqp_run disposers N M` has threads settle deliveries, with
+//! `ticket` behind it in turns by tickets.
 //! `amqp_run decode` reads hexadecimal and writes the protocol headers and frames that it spells, a
 //! line each. A run that does not end with its whole text written says why in one line on standard
 //! error, and ends with the number of its status.
@@ -46,6 +47,8 @@ amqp_run disposers N M
     has M threads (1 to 64) accept N deliveries (at most 10000) each, at one
     settlement book under a lock; writes how many calls its history has, and
     how many deliveries were settled
+amqp_run disposers N M ticket
+    the same, where the threads take their turns by tickets
 amqp_run kdf HASH ROUNDS LENGTH PASSWORD SALT
     writes a key of PBKDF2 in hexadecimal; HASH is sha1, sha256 or sha512,
     ROUNDS below 2^32, LENGTH at most 4096 bytes
@@ -135,6 +138,16 @@ fn crowd(words: &[Text]) -> Option<(u32, u32)>
     Some((count as u32, workers as u32))
 }
 
+/// The words without a last word `ticket`, and whether there was one.
+fn by_ticket(words: &[Text]) -> (&[Text], bool) {
+    if let [rest @ .., last] = words {
+        if last.as_str() == "ticket" {
+            return (rest, true);
+        }
+    }
+    (words, false)
+}
+
 fn run(rt: &(impl Runtime + AllocGlobal + Threads + Wait + Sync), words: &[Text]) -> End {
     let mut source = StandardInput::new(rt.reader());
     let mut sink = StandardOutput::new(io::writer(rt));
@@ -146,8 +159,17 @@ fn run(rt: &(impl Runtime + AllocGlobal + Threads + Wait + Sync), words: &[Text]
             _ => {}
         }
     }
-    if let Some((count, workers)) = crowd(words) {
-        return End::Disposers(run_disposers(rt, &OpenGate, rt.alloc(), count, workers, &mut sink));
+    let (rest, ticket) = by_ticket(words);
+    if let Some((count, workers)) = crowd(rest) {
+        return End::Disposers(run_disposers(
+            rt,
+            &OpenGate,
+            rt.alloc(),
+            count,
+            workers,
+            &mut sink,
+            ticket,
+        ));
     }
     if let Some(form) = form_of(words) {
         return End::Program(run_show(rt.alloc(), form, &mut source, &mut sink));

@@ -237,6 +237,21 @@ impl Sender {
         self.link.is_over()
     }
 
+    /// Whether both ends have closed the link, so that no outcome comes any more.
+    pub fn is_closed_by_both(&self) -> bool
+        ensures { result ≡ link.is_closed_by_both (seen self.now).link }
+    {
+        self.link.is_closed_by_both()
+    }
+
+    /// A frame was read for which a sender has no use; before both ends have attached it refuses the link.
+    pub fn on_unexpected(&mut self) -> Result<(), AllocError>
+        ensures ok { OnOk result (seen self.new ≡ record (seen self.old) { link = link.unexpected (seen self.old).link }) }
+        ensures err { OnErr result (seen self.new ≡ seen self.old) }
+    {
+        self.link.on_unexpected()
+    }
+
     /// The Detach that was read, lent, where the link had been attached.
     pub fn remote_detach(&self) -> Option<&Detach>
         ensures { option_map (λ x. x.now) result ≡ (seen self.now).link.remote }

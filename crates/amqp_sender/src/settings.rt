@@ -3,7 +3,7 @@ use amqp_composites::modes::{ReceiverSettleMode, SenderSettleMode};
 use amqp_data::Text;
 
 /// What a sender says of its link as it attaches.
-#[derive(Drop)]
+#[derive(Debug, Drop)]
 pub struct SenderSettings {
     /// The name of the link.
     pub name: Text,

@@ -1,5 +1,6 @@
 //! What becomes of the deliveries of a sender (OASIS AMQP 1.0, part 2, sections 2.6.12 and 2.7.6, and part 3, section 3.4).
 ghost use Rattle.std.specs.Prelude.{◌≡◌, ◌<◌, is_some, slice_get, slice_set, true, IfOk, OnOk, OnErr};
+ghost use Rattle.std.specs.Option.{option_map};
 ghost use Rattle.amqp_link.specs.Link as link;
 ghost use Rattle.amqp_sender.specs.Sender.{seen};
 ghost use Rattle.amqp_sender.specs.Settling.{settlement_of, is_terminal, place_of, settled, saying_settled, echoed, is_second, outcome_read, disposition_read, unsettled_answer, answer_for, outcome_at, TellsOutcome, is_known};
@@ -149,6 +150,16 @@ impl Sender {
         ensures { result ≡ is_some (place_of tag.now (seen self.now)) }
     {
         self.unsettled.get(tag).is_some()
+    }
+
+    /// The delivery of that tag, if it is not settled.
+    pub fn token_of(&self, tag: &Binary) -> Option<DeliveryToken>
+        ensures { option_map (λ token. token.place) result ≡ place_of tag.now (seen self.now) }
+    {
+        match self.unsettled.get(tag) {
+            Some(place) => Some(DeliveryToken { place: *place }),
+            None => None,
+        }
     }
 
     /// A Disposition of the receiver was read that covers this delivery of the link, with that state. The first that settles the

@@ -1,58 +1,67 @@
--- The lines of a script of connections and sessions.
-use Rattle.std.proofs.Common.{◌≡◌, ◌+◌, ◌<◌, ◌∙◌, ◌==◌, List, ℕ, [], ◌∷◌, ◌++◌, Option, Some, None, Result, Ok, Err, false, length, refl, ap, sym, arith, append_assoc, length-append}
-use Rattle.std.specs.List.{slice_split}
+-- The lines of a script of connections, sessions and links.
+use Rattle.std.proofs.Common.{◌≡◌, ◌≢◌, ◌+◌, ◌<◌, ◌∙◌, ◌==◌, inl, inr, List, ℕ, [], ◌∷◌, ◌++◌, Some, None, length, refl, ap, sym, subst, arith, append_assoc, append-nil, length-append}
 use Rattle.std.proofs.lemmas.List.Splits.{length-slice_split}
-use Rattle.std.proofs.lemmas.Bool.Decides.{nat_tests}
 use Rattle.amqp_calls.specs.declared.step.Step.{Step}
-use Rattle.amqp_session_script.specs.Script.{step_then, line_then, steps_from}
-use Rattle.amqp_session_script.specs.Line.{step_in}
+use Rattle.amqp_session_script.specs.Line.{LineSays, IsOutside}
+use Rattle.amqp_session_script.specs.Script.{lines_of, SaySteps, IsFirstOutside, Spells, IsFirstBad}
 use Rattle.amqp_script.specs.Words.{split_once}
 use Rattle.amqp_script.proofs.Pieces.{pieces_cut, pieces_whole}
 
--- steps before those that follow
-abbrev pub after : List Step → Result (List Step) ℕ → Result (List Step) ℕ
-after front (Ok steps) = Ok (front ++ steps)
-after front (Err line) = Err line
+-- steps that were read, before those that what is left says
+abbrev pub SaidBy : List Step → List ℕ → List ℕ → Type 0
+SaidBy steps rest text = (more : List Step) → SaySteps (lines_of rest) more → Spells text (steps ++ more)
 
-after_more : (front : List Step) (step : Step) (later : Result (List Step) ℕ) → after (front ++ step ∷ []) later ≡ after front (step_then step later)
-after_more front step (Ok steps) = ap (λ (u : List Step). Ok u) (append_assoc front (step ∷ []) steps)
-after_more front step (Err line) = refl
+-- the first line outside of what is left is that of the whole
+abbrev pub BadBy : List Step → List ℕ → List ℕ → Type 0
+BadBy steps rest text = (n : ℕ) → IsFirstOutside (length steps + 1) (lines_of rest) n → IsFirstBad text n
 
-abbrev pieces : List ℕ → List (List ℕ)
-pieces text = slice_split (λ b. b == 10) text
+say_cons : (line : List ℕ) (parts : List (List ℕ)) (step : Step) (more : List Step) → 0 < length parts → LineSays line step → SaySteps parts more → SaySteps (line ∷ parts) (step ∷ more)
+say_cons line [] step more h says later = absurd (omega arith)
+say_cons line (next ∷ lines) step more h says later = (says, later)
 
-steps_cons : (n : ℕ) (line : List ℕ) (parts : List (List ℕ)) → 0 < length parts → steps_from n (line ∷ parts) ≡ line_then n (step_in line) (steps_from (n + 1) parts)
-steps_cons n line [] h = absurd (omega arith)
-steps_cons n line (next ∷ lines) h = refl
+outside_cons : (number n : ℕ) (line : List ℕ) (parts : List (List ℕ)) (step : Step) → 0 < length parts → LineSays line step → IsFirstOutside (number + 1) parts n → IsFirstOutside number (line ∷ parts) n
+outside_cons number n line [] step h says later = absurd (omega arith)
+outside_cons number n line (next ∷ lines) step h says later = inr (step, (says, later))
 
--- a line and those that follow
-line_first : (n : ℕ) (rest line tail : List ℕ) → Some (line, tail) ≡ split_once 10 rest → steps_from n (pieces rest) ≡ line_then n (step_in line) (steps_from (n + 1) (pieces tail))
-line_first n rest line tail cut =
-    let some : 0 < length (pieces tail) = omega (arith, length-slice_split (λ b. b == 10) tail) in
-    ap (λ (u : List (List ℕ)). steps_from n u) (pieces_cut 10 rest line tail cut) ∙ steps_cons n line (pieces tail) some
+outside_here : (number : ℕ) (line : List ℕ) (parts : List (List ℕ)) → 0 < length parts → IsOutside line → IsFirstOutside number (line ∷ parts) number
+outside_here number line [] h bad = absurd (omega arith)
+outside_here number line (next ∷ lines) h bad = inl (refl, bad)
 
--- what is said so far, and by what is left
-abbrev pub said_by : List Step → List ℕ → Result (List Step) ℕ
-said_by steps rest = after steps (steps_from (length steps + 1) (slice_split (λ b. b == 10) rest))
+some_lines : (text : List ℕ) → 0 < length (lines_of text)
+some_lines text = omega (arith, length-slice_split (λ b. b == 10) text)
 
 -- one line more
-pub lines_more : (steps new : List Step) (step : Step) (rest line tail : List ℕ) (said : Result (List Step) ℕ) → new ≡ steps ++ step ∷ [] → Some (line, tail) ≡ split_once 10 rest → step_in line ≡ Some step → said_by steps rest ≡ said → said_by new tail ≡ said
-lines_more steps new step rest line tail said pushed cut says before =
+pub lines_more : (steps new : List Step) (step : Step) (rest line tail text : List ℕ) → new ≡ steps ++ step ∷ [] → Some (line, tail) ≡ split_once 10 rest → LineSays line step → SaidBy steps rest text → SaidBy new tail text
+lines_more steps new step rest line tail text pushed cut says before = λ more later.
+    let whole : SaySteps (lines_of rest) (step ∷ more) =
+    subst (λ (z : List (List ℕ)). SaySteps z (step ∷ more)) (sym (pieces_cut 10 rest line tail cut)) (say_cons line (lines_of tail) step more (some_lines tail) says later) in
+    subst (λ (z : List Step). Spells text z) (sym (ap (λ (z : List Step). z ++ more) pushed ∙ append_assoc steps (step ∷ []) more)) (before (step ∷ more) whole)
+
+pub bad_more : (steps new : List Step) (step : Step) (rest line tail text : List ℕ) → new ≡ steps ++ step ∷ [] → Some (line, tail) ≡ split_once 10 rest → LineSays line step → BadBy steps rest text → BadBy new tail text
+bad_more steps new step rest line tail text pushed cut says before = λ n later.
     let size : length new + 1 ≡ length steps + 1 + 1 = omega (arith, ap length pushed, length-append steps (step ∷ [])) in
-    let first : steps_from (length steps + 1) (pieces rest) ≡ step_then step (steps_from (length steps + 1 + 1) (pieces tail)) =
-    line_first (length steps + 1) rest line tail cut
-    ∙ ap (λ (o : Option Step). line_then (length steps + 1) o (steps_from (length steps + 1 + 1) (pieces tail))) says in
-    rw (size, pushed) (after_more steps step (steps_from (length steps + 1 + 1) (pieces tail)) ∙ ap (λ (r : Result (List Step) ℕ). after steps r) (sym first) ∙ before)
+    let on : IsFirstOutside (length steps + 1 + 1) (lines_of tail) n = subst (λ (k : ℕ). IsFirstOutside k (lines_of tail) n) size later in
+    before n (subst (λ (z : List (List ℕ)). IsFirstOutside (length steps + 1) z n) (sym (pieces_cut 10 rest line tail cut)) (outside_cons (length steps + 1) n line (lines_of tail) step (some_lines tail) says on))
 
 -- a line outside the grammar
-pub line_bad : (steps : List Step) (rest line tail : List ℕ) (said : Result (List Step) ℕ) → Some (line, tail) ≡ split_once 10 rest → step_in line ≡ None → said_by steps rest ≡ said → said ≡ Err (length steps + 1)
-line_bad steps rest line tail said cut says before =
-    sym before
-    ∙ ap (λ (r : Result (List Step) ℕ). after steps r) (line_first (length steps + 1) rest line tail cut
-    ∙ ap (λ (o : Option Step). line_then (length steps + 1) o (steps_from (length steps + 1 + 1) (pieces tail))) says)
+pub line_bad : (steps : List Step) (rest line tail text : List ℕ) → Some (line, tail) ≡ split_once 10 rest → IsOutside line → BadBy steps rest text → IsFirstBad text (length steps + 1)
+line_bad steps rest line tail text cut bad before =
+    let n : ℕ = length steps + 1 in
+    before n (subst (λ (z : List (List ℕ)). IsFirstOutside n z n) (sym (pieces_cut 10 rest line tail cut)) (outside_here n line (lines_of tail) (some_lines tail) bad))
 
 -- bytes behind the last line feed
-pub tail_bad : (steps : List Step) (rest : List ℕ) (said : Result (List Step) ℕ) → None ≡ split_once 10 rest → 0 < length rest → said_by steps rest ≡ said → said ≡ Err (length steps + 1)
-tail_bad steps rest said cut some before =
-    let test : (length rest == 0) ≡ false = grind (arith, nat_tests) in
-    sym before ∙ ap (λ (u : List (List ℕ)). after steps (steps_from (length steps + 1) u)) (pieces_whole 10 rest cut) ∙ rw test refl
+pub tail_bad : (steps : List Step) (rest text : List ℕ) → None ≡ split_once 10 rest → 0 < length rest → BadBy steps rest text → IsFirstBad text (length steps + 1)
+tail_bad steps rest text cut some before =
+    let n : ℕ = length steps + 1 in
+    let is_some : rest ≢ [] = λ none. absurd (omega (arith, some, ap length none)) in
+    before n (subst (λ (z : List (List ℕ)). IsFirstOutside n z n) (sym (pieces_whole 10 rest cut)) (refl, is_some))
+
+is_none : (rest : List ℕ) → length rest ≡ 0 → rest ≡ []
+is_none [] h = refl
+is_none (b ∷ bs) h = absurd (omega (arith, h))
+
+-- nothing is left
+pub all_said : (steps : List Step) (rest text : List ℕ) → length rest ≡ 0 → SaidBy steps rest text → Spells text steps
+all_said steps rest text none before =
+    let last : SaySteps (lines_of rest) [] = subst (λ (z : List ℕ). SaySteps (lines_of z) []) (sym (is_none rest none)) refl in
+    subst (λ (z : List Step). Spells text z) (append-nil steps) (before [] last)

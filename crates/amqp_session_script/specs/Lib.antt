@@ -1,5 +1,4 @@
 pub mod Keys
 pub mod Line
 pub mod Script
-pub mod ErrorText
 pub mod TraceText

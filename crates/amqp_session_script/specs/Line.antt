@@ -1,5 +1,5 @@
--- What a line of a script of connections and sessions says.
-use Rattle.std.specs.Prelude.{List, ℕ, [], ◌∷◌, ◌-◌, ◌^◌, Bool, true, not, ◌||◌, if◌then◌else◌, Option, Some, None, option_map, codes, bytes_eq}
+-- What a line of a script of connections, sessions and links says.
+use Rattle.std.specs.Prelude.{◌≡◌, List, ℕ, [], ◌∷◌, ◌-◌, ◌^◌, Bool, true, not, ◌||◌, if◌then◌else◌, Option, Some, None, is_some, option_map, codes, bytes_eq}
 use Rattle.amqp_words.specs.declared.step.End.{End}
 use Rattle.amqp_words.specs.declared.step.Act.{Act as ConnectionAct}
 use Rattle.amqp_words.specs.declared.step.Act.TheVariants as acts
@@ -7,7 +7,8 @@ use Rattle.amqp_words.specs.declared.step.Step.{Step as ConnectionStep}
 use Rattle.amqp_calls.specs.declared.call.SessionNumbers.{SessionNumbers}
 use Rattle.amqp_calls.specs.declared.call.SessionCall.{SessionCall}
 use Rattle.amqp_calls.specs.declared.call.SessionCall.TheVariants as session
-use Rattle.amqp_calls.specs.declared.call.Call.TheVariants.{Connection, Session}
+use Rattle.amqp_link_words.specs.declared.link_call.LinkCall.{LinkCall}
+use Rattle.amqp_calls.specs.declared.call.Call.TheVariants.{Connection, Session, Link}
 use Rattle.amqp_calls.specs.declared.step.Act.{Act}
 use Rattle.amqp_calls.specs.declared.step.Act.TheVariants.{Take, TakeAll, Call}
 use Rattle.amqp_calls.specs.declared.step.Step.{Step}
@@ -16,6 +17,10 @@ use Rattle.amqp_script.specs.Number.{number_in}
 use Rattle.amqp_script.specs.Keys.{value_at}
 use Rattle.amqp_script.specs.Fields.{symbol_in, if_there, or_else}
 use Rattle.amqp_script.specs.Line.{act_in as connection_act_in, end_in}
+use Rattle.amqp_link_script.specs.declared.words.LinkWord.{LinkWord}
+use Rattle.amqp_link_script.specs.Words.{word_of as link_word_of}
+use Rattle.amqp_link_script.specs.Calls.{call_in as link_call_in}
+use Rattle.amqp_link_script.specs.Messages.{IsCall}
 use Rattle.amqp_session_script.specs.declared.keys.SessionKey.{SessionKey}
 use Rattle.amqp_session_script.specs.declared.keys.SessionKey.TheVariants.{Window, OutWindow, Next, Handles, Error}
 use Rattle.amqp_session_script.specs.Keys.{name_of, has_only}
@@ -68,16 +73,26 @@ step_among s = record { end = s.end; at = s.at; act = act_of s.act }
 abbrev pub session_act : SessionCall → Act
 session_act call = Call (Session call)
 
--- a word of sessions
-abbrev pub is_session_word : List ℕ → Bool
-is_session_word word = bytes_eq word (codes "begin") || bytes_eq word (codes "accept_session") || bytes_eq word (codes "end")
+abbrev pub link_act : LinkCall → Act
+link_act call = Call (Link call)
 
--- the words that there are: those of sessions, and those of connections
+-- a word of sessions or links
+abbrev pub is_session_word : List ℕ → Bool
+is_session_word word =
+    bytes_eq word (codes "begin") || bytes_eq word (codes "accept_session") || bytes_eq word (codes "end") || is_some (link_word_of word)
+
+-- the words of links, and those of connections
+abbrev pub link_or_connection_in : Option LinkWord → List ℕ → List (List ℕ) → Option Act
+link_or_connection_in (Some link) word arguments = option_map link_act (link_call_in link arguments)
+link_or_connection_in None word arguments = option_map act_of (connection_act_in word arguments)
+
+-- the words that there are: those of sessions, those of links, and those of connections
 abbrev pub act_in : List ℕ → List (List ℕ) → Option Act
 act_in word arguments =
     if bytes_eq word (codes "begin") then option_map (λ numbers. session_act (session.Begin numbers)) (numbers_in arguments) else
     if bytes_eq word (codes "accept_session") then option_map (λ numbers. session_act (session.Accept numbers)) (numbers_in arguments) else
-    if bytes_eq word (codes "end") then option_map session_act (ended_in arguments) else option_map act_of (connection_act_in word arguments)
+    if bytes_eq word (codes "end") then option_map session_act (ended_in arguments)
+    else link_or_connection_in (link_word_of word) word arguments
 
 abbrev pub step_of : Option End → Option ℕ → Option Act → Option Step
 step_of None at act = None
@@ -92,13 +107,33 @@ step_of_words (end ∷ []) = None
 step_of_words (end ∷ at ∷ []) = None
 step_of_words (end ∷ at ∷ word ∷ arguments) = step_of (end_in end) (number_in (2 ^ 64 - 1) at) (act_in word arguments)
 
--- the words of a line say nothing of sessions
+-- the words of a line say nothing of sessions and links
 abbrev pub names_no_session : List (List ℕ) → Bool
 names_no_session [] = true
 names_no_session (end ∷ []) = true
 names_no_session (end ∷ at ∷ []) = true
 names_no_session (end ∷ at ∷ word ∷ arguments) = not (is_session_word word)
 
--- the step that a line says
+-- the step that a line says, its message as it is written
 abbrev pub step_in : List ℕ → Option Step
 step_in line = step_of_words (words_of line)
+
+-- the act of one in which a message stands as it is written
+abbrev pub IsAct : Act → Act → Type 0
+IsAct (Call (Link written)) act = (call : LinkCall) × ((act ≡ Call (Link call)) × IsCall written call)
+IsAct written act = written ≡ act
+
+abbrev pub with_act : Step → Act → Step
+with_act step act = record { end = step.end; at = step.at; act = act }
+
+-- the step of one in which a message stands as it is written
+abbrev pub IsStep : Step → Step → Type 0
+IsStep written step = (act : Act) × ((step ≡ with_act written act) × IsAct written.act act)
+
+-- the line says this step
+abbrev pub LineSays : List ℕ → Step → Type 0
+LineSays line step = (written : Step) × ((step_in line ≡ Some written) × IsStep written step)
+
+-- it says no step
+abbrev pub IsOutside : List ℕ → Type 0
+IsOutside line = (step : Step) → LineSays line step → ⊥

@@ -1,45 +1,38 @@
--- A script of connections and sessions: lines, each ended by a line feed.
-use Rattle.std.specs.Prelude.{◌≡◌, List, ℕ, [], ◌∷◌, ◌+◌, ◌==◌, length, map, true, if◌then◌else◌, Option, Some, None, Result, Ok, Err}
+-- A script of connections, sessions and links: lines, each ended by a line feed.
+use Rattle.std.specs.Prelude.{◌≡◌, ◌≢◌, ◌⊎◌, List, ℕ, [], ◌∷◌, ◌+◌, ◌==◌, true}
 use Rattle.std.specs.List.{slice_split, list_all}
-use Rattle.amqp_words.specs.declared.step.Step.{Step as ConnectionStep}
 use Rattle.amqp_calls.specs.declared.step.Step.{Step}
 use Rattle.amqp_script.specs.Words.{words_of}
-use Rattle.amqp_session_script.specs.Line.{step_in, step_among, names_no_session}
+use Rattle.amqp_session_script.specs.Line.{LineSays, IsOutside, names_no_session}
 
--- a step before others
-abbrev pub step_then : Step → Result (List Step) ℕ → Result (List Step) ℕ
-step_then step (Ok steps) = Ok (step ∷ steps)
-step_then step (Err line) = Err line
+-- the lines of a text; what stands behind the last line feed is the last
+abbrev pub lines_of : List ℕ → List (List ℕ)
+lines_of text = slice_split (λ b. b == 10) text
 
--- a line's step before those of the lines that follow; or the line's number
-abbrev pub line_then : ℕ → Option Step → Result (List Step) ℕ → Result (List Step) ℕ
-line_then number None steps = Err number
-line_then number (Some step) steps = step_then step steps
+-- each line but the last says one of these steps, in order; nothing stands behind the last line feed
+abbrev pub SaySteps : List (List ℕ) → List Step → Type 0
+SaySteps [] steps = ⊥
+SaySteps (tail ∷ []) [] = tail ≡ []
+SaySteps (tail ∷ []) (step ∷ steps) = ⊥
+SaySteps (line ∷ next ∷ lines) [] = ⊥
+SaySteps (line ∷ next ∷ lines) (step ∷ steps) = LineSays line step × SaySteps (next ∷ lines) steps
 
--- the steps of lines from a number on, or the number of the first that is outside the grammar; what stands behind the
--- last line feed is no line where it is empty, and outside the grammar where it is not
-abbrev pub steps_from : ℕ → List (List ℕ) → Result (List Step) ℕ
-steps_from number [] = Ok []
-steps_from number (tail ∷ []) = if length tail == 0 then Ok [] else Err number
-steps_from number (line ∷ next ∷ lines) = line_then number (step_in line) (steps_from (number + 1) (next ∷ lines))
-
--- the steps of a script, or its first line outside the grammar, from 1
-abbrev pub script_in : List ℕ → Result (List Step) ℕ
-script_in text = steps_from 1 (slice_split (λ b. b == 10) text)
+-- line n is the first of these that says no step; they are numbered on from a number. What stands behind the last line feed is one
+-- where it is not empty
+abbrev pub IsFirstOutside : ℕ → List (List ℕ) → ℕ → Type 0
+IsFirstOutside number [] n = ⊥
+IsFirstOutside number (tail ∷ []) n = (n ≡ number) × (tail ≢ [])
+IsFirstOutside number (line ∷ next ∷ lines) n =
+    ((n ≡ number) × IsOutside line) ⊎ ((step : Step) × (LineSays line step × IsFirstOutside (number + 1) (next ∷ lines) n))
 
 -- the script says these steps
 abbrev pub Spells : List ℕ → List Step → Type 0
-Spells text steps = script_in text ≡ Ok steps
+Spells text steps = SaySteps (lines_of text) steps
 
 -- line n, from 1, is the first outside the grammar
 abbrev pub IsFirstBad : List ℕ → ℕ → Type 0
-IsFirstBad text n = script_in text ≡ Err n
+IsFirstBad text n = IsFirstOutside 1 (lines_of text) n
 
--- what the grammar of connections says of a script, among the steps of all words
-abbrev pub among : Result (List ConnectionStep) ℕ → Result (List Step) ℕ
-among (Ok steps) = Ok (map step_among steps)
-among (Err line) = Err line
-
--- no line of the script has a word of sessions
+-- no line of the script has a word of sessions or links
 abbrev pub HasNoSessionWords : List ℕ → Type 0
-HasNoSessionWords text = list_all (λ line. names_no_session (words_of line)) (slice_split (λ b. b == 10) text) ≡ true
+HasNoSessionWords text = list_all (λ line. names_no_session (words_of line)) (lines_of text) ≡ true

@@ -1,13 +1,14 @@
--- The text of a trace of connections and sessions.
+-- The text of a trace of connections, sessions and links.
 use Rattle.std.specs.Prelude.{◌+◌, List, ℕ, [], ◌∷◌, ◌++◌, codes, decimal, flat_map}
 use Rattle.amqp_calls.specs.declared.reply.SessionReply.{SessionReply}
 use Rattle.amqp_calls.specs.declared.reply.SessionReply.TheVariants as session
 use Rattle.amqp_calls.specs.declared.reply.Reply.{Reply}
-use Rattle.amqp_calls.specs.declared.reply.Reply.TheVariants.{Connection, Session}
+use Rattle.amqp_calls.specs.declared.reply.Reply.TheVariants.{Connection, Session, Link}
 use Rattle.amqp_calls.specs.declared.reply.NamedReply.{NamedReply}
 use Rattle.amqp_calls.specs.declared.trace.Entry.{Entry}
 use Rattle.amqp_script.specs.TraceText.{answer_text, wrote_text}
-use Rattle.amqp_session_script.specs.ErrorText.{begin_text, session_text}
+use Rattle.amqp_error_texts.specs.SessionText.{begin_text, session_text}
+use Rattle.amqp_link_script.specs.Answers.{link_answer_text}
 
 -- the answer to a call for a session
 abbrev pub session_answer_text : SessionReply → List ℕ
@@ -21,6 +22,7 @@ session_answer_text (session.SessionError e) = codes "error " ++ session_text e
 abbrev pub any_answer_text : Reply → List ℕ
 any_answer_text (Connection reply) = answer_text reply
 any_answer_text (Session reply) = session_answer_text reply
+any_answer_text (Link reply) = link_answer_text reply
 
 -- `STEP NAME REPLY` and a line feed
 abbrev pub reply_text : ℕ → NamedReply → List ℕ

@@ -1,7 +1,6 @@
-//! Scripts of connections and sessions, and the text of their traces.
+//! Scripts of connections, sessions and links, and the text of their traces.
 #![tactic(auto)]
 
-pub mod errors;
 pub mod keys;
 pub mod laws;
 pub mod line;

@@ -2,10 +2,15 @@
 ghost use Rattle.std.specs.Prelude.{◌≡◌};
 ghost use Rattle.amqp_script.specs.Words.{words_left};
 ghost use Rattle.amqp_script.specs.Fields.{Says};
-ghost use Rattle.amqp_session_script.specs.Line.{number_of as number_in, numbers_in, error_in, ended_in, act_of, session_act as act_for, act_in, step_in};
+ghost use Rattle.amqp_link_script.specs.Messages.{Made};
+ghost use Rattle.amqp_session_script.specs.Line.{number_of as number_in, numbers_in, error_in, ended_in, act_of, session_act as act_for, link_act as link_act_for, act_in, IsAct, step_in, LineSays};
 
 use crate::keys::{SessionKey, has_only};
 use amqp_calls::{Act, Call, SessionCall, SessionNumbers, Step};
+use amqp_link_script::calls::call as link_call;
+use amqp_link_script::messages::with_message;
+use amqp_link_script::words::link_word;
+use amqp_link_words::LinkCall;
 use amqp_script::script::fields::{symbol, uint};
 use amqp_script::script::keys::value_at;
 use amqp_script::script::line::{act as plain_act, end as side_of};
@@ -15,6 +20,7 @@ use amqp_script::script::words::{Words, is_text};
 use amqp_text::Symbol;
 use amqp_words::Act as ConnectionAct;
 use std::alloc::Global;
+use std::mem;
 
 const SESSION_KEYS: [SessionKey; 4] = [
     SessionKey::Window,
@@ -97,6 +103,12 @@ fn session_act(call: SessionCall) -> Act
     Act::Call(Call::Session(call))
 }
 
+fn link_act(call: LinkCall) -> Act
+    ensures { result ≡ link_act_for call }
+{
+    Act::Call(Call::Link(call))
+}
+
 /// The act of a connection among those of all words.
 fn connection_act(act: ConnectionAct) -> Act
     ensures { result ≡ act_of act }
@@ -124,12 +136,16 @@ fn act(alloc: Global, word: &[u8], arguments: Words<'_>) -> Result<Act, LineErro
         let call = end(alloc, arguments)?;
         return Ok(session_act(call));
     }
+    if let Some(link) = link_word(word) {
+        let call = link_call(alloc, link, arguments)?;
+        return Ok(link_act(call));
+    }
     let act = plain_act(alloc, word, arguments)?;
     Ok(connection_act(act))
 }
 
-/// The step that a line says.
-pub fn read_step(alloc: Global, line: &[u8]) -> Result<Step, LineError>
+/// The step that a line says, its message as it is written.
+fn written_step(alloc: Global, line: &[u8]) -> Result<Step, LineError>
     ensures { Says (step_in line.now) result }
 {
     let mut words = Words::new(line);
@@ -144,4 +160,27 @@ pub fn read_step(alloc: Global, line: &[u8]) -> Result<Step, LineError>
     };
     let act = act(alloc, word, words)?;
     Ok(Step { end, at, act })
+}
+
+/// The act of one in which a message stands as it is written.
+fn act_with_message(alloc: Global, act: Act) -> Result<Act, LineError>
+    ensures { Made (IsAct act) result }
+{
+    match act {
+        Act::Call(Call::Link(call)) => {
+            let call = with_message(alloc, call)?;
+            Ok(Act::Call(Call::Link(call)))
+        }
+        other => Ok(other),
+    }
+}
+
+/// The step that a line says.
+pub fn read_step(alloc: Global, line: &[u8]) -> Result<Step, LineError>
+    ensures { Made (LineSays line.now) result }
+{
+    let mut step = written_step(alloc, line)?;
+    let act = mem::replace(&mut step.act, Act::TakeAll);
+    step.act = act_with_message(alloc, act)?;
+    Ok(step)
 }

@@ -1,4 +1,5 @@
-//! The script of connections and sessions: that of connections, and for sessions the words
+//! The script of connections, sessions and links: that of connections, for links the words of the crate `amqp_link_script`, and for
+//! sessions the words
 //!
 //! | word and arguments | the step |
 //! |---|---|

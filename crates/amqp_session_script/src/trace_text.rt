@@ -1,10 +1,11 @@
-//! The text of a trace: that of connections, and for sessions the answers `session`, `ended`, and `error PATH FIELDS` with a PATH that begins
-//! with `Begin` or `Session`.
+//! The text of a trace: that of connections, for links the answers of the crate `amqp_link_script`, and for sessions the answers
+//! `session`, `ended`, and `error PATH FIELDS` with a PATH that begins with `Begin` or `Session`.
 ghost use Rattle.std.specs.Prelude.{◌≡◌, ◌++◌, OnOk, IfOk, flat_map};
 ghost use Rattle.amqp_session_script.specs.TraceText.{session_answer_text, any_answer_text, reply_text, entry_text, text_of};
 
-use crate::errors::{push_begin, push_session};
 use amqp_calls::{Entry, NamedReply, Reply, SessionReply, Trace};
+use amqp_error_texts::sessions::{push_begin, push_session};
+use amqp_link_script::answers::push_link_answer;
 use amqp_script::trace_text::hex::push_word;
 use amqp_script::trace_text::{push_answer, push_wrote};
 use std::alloc::{AllocError, Global};
@@ -37,6 +38,7 @@ fn push_any_answer(alloc: Global, out: &mut Vec<u8>, reply: &Reply) -> Result<()
     match reply {
         Reply::Connection(reply) => push_answer(alloc, out, reply),
         Reply::Session(reply) => push_session_answer(alloc, out, reply),
+        Reply::Link(reply) => push_link_answer(alloc, out, reply),
     }
 }
 

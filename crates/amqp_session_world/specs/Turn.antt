@@ -1,5 +1,5 @@
--- What one step of two ends with sessions does.
-use Rattle.std.specs.Prelude.{◌≡◌, ◌≤◌, ℕ, List, [], ◌∷◌, ◌++◌, length, take, drop, slice_get, Some, None, ⊤}
+-- What one step of two ends with sessions and links does.
+use Rattle.std.specs.Prelude.{◌≡◌, ◌≤◌, ℕ, Bool, true, false, List, [], ◌∷◌, ◌++◌, length, take, drop, slice_get, Some, None, ⊤}
 use Rattle.amqp_wire.specs.Piped.{Piped}
 use Rattle.amqp_peer.specs.Peering.{fresh, with_link_of}
 use Rattle.amqp_words.specs.declared.step.End.{End as Side}
@@ -10,6 +10,7 @@ use Rattle.amqp_calls.specs.declared.step.Step.{Step}
 use Rattle.amqp_calls.specs.declared.trace.Entry.{Entry}
 use Rattle.amqp_world.specs.Turn.{piping, empty_pipe, pipe_of, fed, drained}
 use Rattle.amqp_world.specs.Valid.{kind_of}
+use Rattle.amqp_links.specs.State.{seen as linked, no_links}
 use Rattle.amqp_sessions.specs.State.{seen, none_begun}
 use Rattle.amqp_end.specs.declared.end.End.{End}
 use Rattle.amqp_end.specs.Asks.{MayAsk}
@@ -60,6 +61,7 @@ pub record Told (ran near : End Piped) (entry : Entry) : Type 0 where
   pub replies : entry.replies.items ≡ ran.replies.items
   pub connection : near.connection ≡ ran.connection
   pub sessions : near.sessions ≡ ran.sessions
+  pub links : near.links ≡ ran.links
   pub last : near.last ≡ ran.last
   pub failed : near.failed ≡ ran.failed
 
@@ -105,10 +107,16 @@ abbrev pub Turns : View → List Step → View → Type 0
 Turns old [] new = new ≡ old
 Turns old (s ∷ ss) new = (next : View) × IsTurn old s next × Turns next ss new
 
+-- a listener accepts the links of its peer
+abbrev pub accepts : Side → Bool
+accepts Client = false
+accepts Listener = true
+
 -- nothing happened at an end
 pub record IsFresh (side : Side) (e : End Piped) : Type 0 where
   pub connection : e.connection ≡ fresh empty_pipe (kind_of side)
   pub sessions : seen e.sessions ≡ none_begun
+  pub links : linked e.links ≡ no_links (accepts side)
   pub last : e.last ≡ None
 
 -- nothing happened at either

@@ -1,4 +1,4 @@
-//! Two ends with sessions in memory, driven by steps.
+//! Two ends with sessions and links in memory, driven by steps.
 #![tactic(auto)]
 
 pub use world::SessionWorld;

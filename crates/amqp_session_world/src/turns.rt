@@ -1,4 +1,4 @@
-//! One step of two ends with sessions.
+//! One step of two ends with sessions and links.
 ghost use Rattle.std.specs.Prelude.{◌≡◌, ◌↔◌, ◌≤◌, length, OnOk, IfOk, IsTrue};
 ghost use Rattle.amqp_end.specs.Goes.{Goes};
 ghost use Rattle.amqp_session_world.specs.Turn.{untaken, count_of, IsWithin, MayAct, CanAct, given, marked, named, Turned};

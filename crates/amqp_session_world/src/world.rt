@@ -1,4 +1,4 @@
-//! Two ends with sessions in memory.
+//! Two ends with sessions and links in memory.
 ghost use Rattle.std.specs.Prelude.{◌≡◌, ◌↔◌, ◌++◌, ◌∷◌, [], ℕ, length, OnOk, IfOk, IsTrue, IsErrOf};
 ghost use Rattle.amqp_words.specs.declared.step.End.TheVariants.{Client, Listener};
 ghost use Rattle.amqp_session_world.specs.Turn.{IsFresh, IsStart, IsValid, IsTurn, Turns, AreMade, IsFirstInvalid};

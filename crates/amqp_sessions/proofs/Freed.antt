@@ -6,19 +6,23 @@ use Rattle.amqp_composites.specs.declared.modes.Role.TheVariants as role
 use Rattle.amqp_composites.specs.declared.error.Error.{Error as AmqpError}
 use Rattle.amqp_frames.specs.declared.body.FrameBody.{FrameBody}
 use Rattle.amqp_frames.specs.declared.body.FrameBody.TheVariants as b
+use Rattle.amqp_frames.specs.declared.shared.SessionStopReason.{SessionStopReason}
 use Rattle.amqp_performatives.specs.declared.attach.Attach.{Attach}
 use Rattle.amqp_performatives.specs.declared.detach.Detach.{Detach}
 use Rattle.amqp_performatives.specs.declared.flow.Flow.{Flow}
 use Rattle.amqp_performatives.specs.declared.transfer.Transfer.{Transfer}
 use Rattle.amqp_session.specs.declared.error.Error.{Error}
 use Rattle.amqp_session.specs.declared.error.Error.TheVariants as error
+use Rattle.amqp_session.specs.declared.error.Fault.{Fault}
+use Rattle.amqp_session.specs.declared.error.Fault.TheVariants as fault
 use Rattle.amqp_session.specs.declared.session.LinkInput.TheVariants as input
 use Rattle.amqp_session.specs.declared.session.SessionState.{SessionState}
 use Rattle.amqp_session.specs.declared.session.SessionState.TheVariants as state
-use Rattle.amqp_session.specs.Ends.{answered}
+use Rattle.amqp_session.specs.Ends.{stopping, remote_reason, ended, answered, failing}
+use Rattle.amqp_session.specs.Faults.{error_for}
 use Rattle.amqp_session.specs.Frames.{heard_mapped, heard_in}
-use Rattle.amqp_session.specs.Links.{input_at, handing, attach_at, attach_read, detach_at, transfer_at, hand_flow, echo, is_astray, flow_at}
-use Rattle.amqp_session.specs.State.{State as SessionState', Framed, Made, refuses}
+use Rattle.amqp_session.specs.Links.{input_at, attach_at, attach_read, detach_at, transfer_at, hand_flow, echo, is_astray, flow_at}
+use Rattle.amqp_session.specs.State.{State as SessionState', Framed, Made, refuses, handing}
 use Rattle.amqp_session.specs.Windows.{windows_flowed, transfer_read, is_report_due}
 use Rattle.amqp_session.specs.Hold.{reporting, released}
 use Rattle.amqp_sessions.specs.declared.endpoint.Change.{Change}
@@ -28,7 +32,7 @@ use Rattle.amqp_sessions.specs.Endpoint.{change_between, hearing, change_of, hav
 use Rattle.amqp_sessions.specs.Frames.{place_of, freed_at, freed_own, freed, concluding_for, concluding, changed, hearing_at, kept_at, heard_by, heard}
 use Rattle.amqp_sessions.specs.Laws.{IsEnd, IsLast, end_on, FreesAtMostOne}
 use Rattle.amqp_sessions.specs.State.{State, endpoint_of, with_endpoint, handing as handing_out, handed_out}
-use Rattle.amqp_sessions.proofs.Meant.{releasing_state, refused_meant, answered_end, found_set, after, handed_at}
+use Rattle.amqp_sessions.proofs.Meant.{released_state, ending_state, refused_meant, answered_end, found_set, after, handed_at}
 
 -- ---- a session that is mapped goes at the peer's End alone
 
@@ -40,20 +44,22 @@ no_gone : (st : SessionState) → Stays st → change_between state.Mapped st �
 no_gone st (inl h) c = let e : Gone ≡ Same = sym c ∙ ap (change_between state.Mapped) h in cc
 no_gone st (inr h) c = let e : Gone ≡ Same = sym c ∙ ap (change_between state.Mapped) h in cc
 
+failing_stays : (x : Fault) (s : SessionState') → Stays (failing x s).state.state
+failing_stays x s = inr (ending_state (Some (error_for x)) s)
+
 attach_at_stays : (o : Option Role) (x : Attach) (s : SessionState') → s.state ≡ state.Mapped → Stays (attach_at o x s).state.state
 attach_at_stays None x s h = inl h
-attach_at_stays (Some r) x s h = inr refl
+attach_at_stays (Some r) x s h = failing_stays fault.HandleInUse s
 
 limit_stays : (c : Bool) (e : Error) (s : SessionState') (m : Made) → s.state ≡ state.Mapped → Stays m.state.state → Stays (if c then refuses e s else m).state.state
 limit_stays true e s m h k = inl h
 limit_stays false e s m h k = k
 
-attach_stays : (c : Bool) (x : Attach) (s : SessionState') → s.state ≡ state.Mapped → Stays (attach_read c x s).state.state
-attach_stays false x s h = inr refl
-attach_stays true x s h = limit_stays (nat_lt s.own_handle_max x.handle) error.FramingError s (attach_at (input_at x.handle s) x s) h (attach_at_stays (input_at x.handle s) x s h)
+attach_stays : (x : Attach) (s : SessionState') → s.state ≡ state.Mapped → Stays (attach_read x s).state.state
+attach_stays x s h = limit_stays (nat_lt s.own_handle_max x.handle) error.FramingError s (attach_at (input_at x.handle s) x s) h (attach_at_stays (input_at x.handle s) x s h)
 
 detach_stays : (o : Option Role) (x : Detach) (s : SessionState') → s.state ≡ state.Mapped → Stays (detach_at o x s).state.state
-detach_stays None x s h = inr refl
+detach_stays None x s h = failing_stays fault.UnattachedHandle s
 detach_stays (Some r) x s h = inl h
 
 chosen_report : (c : Bool) (s : SessionState') → (if c then reporting s else s).state ≡ s.state
@@ -61,8 +67,8 @@ chosen_report true s = refl
 chosen_report false s = refl
 
 transfer_stays : (o : Option Role) (x : Transfer) (payload : List ℕ) (s : SessionState') → s.state ≡ state.Mapped → Stays (transfer_at o x payload s).state.state
-transfer_stays None x payload s h = inr refl
-transfer_stays (Some role.Receiver) x payload s h = inr refl
+transfer_stays None x payload s h = failing_stays fault.UnattachedHandle s
+transfer_stays (Some role.Receiver) x payload s h = failing_stays fault.TransferFrameToSender s
 transfer_stays (Some role.Sender) x payload s h = inl (chosen_report (is_report_due (transfer_read s.windows)) (handing (input.Transfer x payload) (record s { windows = transfer_read s.windows })) ∙ h)
 
 hand_state : (o : Option ℕ) (x : Flow) (s : SessionState') → (hand_flow o x s).state ≡ s.state
@@ -74,16 +80,16 @@ echo_state true s = refl
 echo_state false s = refl
 
 flow_stays : (c : Bool) (x : Flow) (s : SessionState') → s.state ≡ state.Mapped → Stays (flow_at c x s).state.state
-flow_stays true x s h = inr refl
+flow_stays true x s h = failing_stays fault.UnattachedHandle s
 flow_stays false x s h =
     let t : SessionState' = record s { windows = windows_flowed x s.windows } in
-    inl (echo_state x.echo (hand_flow x.handle x (released t)) ∙ hand_state x.handle x (released t) ∙ releasing_state s.held t ∙ h)
+    inl (echo_state x.echo (hand_flow x.handle x (released t)) ∙ hand_state x.handle x (released t) ∙ released_state t ∙ h)
 
 gone_by : (body : FrameBody) (s : SessionState') → s.state ≡ state.Mapped → change_between state.Mapped (heard_mapped body s).state.state ≡ Gone → IsEnd body
 gone_by (b.End x) s h c = tt
 gone_by (b.Begin x) s h c = absurd (no_gone s.state (inl h) c)
 gone_by (b.Open x) s h c = absurd (no_gone s.state (inl h) c)
-gone_by (b.Attach x) s h c = absurd (no_gone _ (attach_stays s.is_listener x s h) c)
+gone_by (b.Attach x) s h c = absurd (no_gone _ (attach_stays x s h) c)
 gone_by (b.Flow x) s h c = absurd (no_gone _ (flow_stays (is_astray x.handle s) x s h) c)
 gone_by (b.Transfer x payload) s h c = absurd (no_gone _ (transfer_stays (input_at x.handle s) x payload s h) c)
 gone_by (b.Disposition x) s h c = absurd (no_gone s.state (inl h) c)
@@ -117,6 +123,23 @@ gone_meant x e h =
 abbrev pub Ends : SessionState → Framed → SessionState' → Type 0
 Ends st x s = ((heard_in st x s).state.channel ≡ s.channel) × ((st ≡ state.EndSent) ⊎ ((heard_in st x s).state.output ≡ s.output ++ end_on s.channel ∷ []))
 
+stopping_channel : (o : Option SessionStopReason) (why : SessionStopReason) (s : SessionState') → (stopping o why s).channel ≡ s.channel
+stopping_channel None why s = refl
+stopping_channel (Some first) why s = refl
+
+stopping_output : (o : Option SessionStopReason) (why : SessionStopReason) (s : SessionState') → (stopping o why s).output ≡ s.output
+stopping_output None why s = refl
+stopping_output (Some first) why s = refl
+
+ended_channel : (o : Option AmqpError) (s : SessionState') → (ended o s).channel ≡ s.channel
+ended_channel o s = stopping_channel s.stop_reason (remote_reason o) (record s { state = state.Unmapped; held = [] })
+
+ended_output : (o : Option AmqpError) (s : SessionState') → (ended o s).output ≡ s.output ++ end_on s.channel ∷ []
+ended_output o s =
+    let t : SessionState' = record s { state = state.Unmapped; held = [] } in
+    ap (λ (fs : List Framed). fs ++ end_on (stopping s.stop_reason (remote_reason o) t).channel ∷ []) (stopping_output s.stop_reason (remote_reason o) t)
+    ∙ ap (λ (c : ℕ). s.output ++ end_on c ∷ []) (stopping_channel s.stop_reason (remote_reason o) t)
+
 answered_channel : (o : Option AmqpError) (s : SessionState') → (answered o s).state.channel ≡ s.channel
 answered_channel None s = refl
 answered_channel (Some e) s = refl
@@ -134,7 +157,7 @@ answer_ends channel (b.Close x) s i = absurd i
 answer_ends channel b.Empty s i = absurd i
 
 begun_ends : (channel : ℕ) (body : FrameBody) (s : SessionState') → IsEnd body → Ends state.BeginSent (record { channel = channel; body = body }) s
-begun_ends channel (b.End x) s i = (refl, inr refl)
+begun_ends channel (b.End x) s i = (ended_channel x.error s, inr (ended_output x.error s))
 begun_ends channel (b.Begin x) s i = absurd i
 begun_ends channel (b.Open x) s i = absurd i
 begun_ends channel (b.Attach x) s i = absurd i
@@ -146,7 +169,7 @@ begun_ends channel (b.Close x) s i = absurd i
 begun_ends channel b.Empty s i = absurd i
 
 mapped_ends : (channel : ℕ) (body : FrameBody) (s : SessionState') → IsEnd body → Ends state.Mapped (record { channel = channel; body = body }) s
-mapped_ends channel (b.End x) s i = (refl, inr refl)
+mapped_ends channel (b.End x) s i = (ended_channel x.error s, inr (ended_output x.error s))
 mapped_ends channel (b.Begin x) s i = absurd i
 mapped_ends channel (b.Open x) s i = absurd i
 mapped_ends channel (b.Attach x) s i = absurd i

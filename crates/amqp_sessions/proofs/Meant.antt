@@ -1,5 +1,5 @@
 -- Which answers a frame brings.
-use Rattle.std.proofs.Common.{◌≡◌, ◌⊎◌, inl, inr, ◌∙◌, ap, subst, refl, sym, ℕ, nat_eq, nat_lt, Bool, true, false, cond, if◌then◌else◌, List, [], ◌∷◌, ◌++◌, Option, Some, None}
+use Rattle.std.proofs.Common.{◌≡◌, ◌⊎◌, inl, inr, ◌∙◌, ap, subst, refl, sym, ℕ, zero, suc, nat_eq, Bool, true, false, cond, List, [], ◌∷◌, ◌++◌, Option, Some, None}
 use Rattle.std.specs.Map.{lookup, set_value}
 use Rattle.amqp_calls.specs.declared.reply.NamedReply.{NamedReply}
 use Rattle.amqp_calls.specs.declared.reply.Reply.TheVariants.{Session}
@@ -8,14 +8,15 @@ use Rattle.amqp_calls.specs.declared.reply.SessionReply.TheVariants as reply
 use Rattle.amqp_composites.specs.declared.error.Error.{Error as AmqpError}
 use Rattle.amqp_frames.specs.declared.body.FrameBody.{FrameBody}
 use Rattle.amqp_frames.specs.declared.body.FrameBody.TheVariants as b
+use Rattle.amqp_frames.specs.declared.shared.SessionStopReason.{SessionStopReason}
+use Rattle.amqp_parts.specs.declared.part.Part.{Part}
 use Rattle.amqp_session.specs.declared.error.BeginError.TheVariants.{RemoteEnded}
-use Rattle.amqp_session.specs.declared.session.HeldTransfer.{HeldTransfer}
 use Rattle.amqp_session.specs.declared.session.SessionState.{SessionState}
 use Rattle.amqp_session.specs.declared.session.SessionState.TheVariants as state
 use Rattle.amqp_session.specs.Begin.{mapped}
-use Rattle.amqp_session.specs.Ends.{answered}
+use Rattle.amqp_session.specs.Ends.{stopping, own_reason, remote_reason, ending, ended, answered}
 use Rattle.amqp_session.specs.Frames.{heard_unanswered, heard_ending, heard_in}
-use Rattle.amqp_session.specs.Hold.{leaving, releasing, released}
+use Rattle.amqp_session.specs.Hold.{first_leaving, releasing, released}
 use Rattle.amqp_session.specs.State.{State as SessionState', Framed}
 use Rattle.amqp_sessions.specs.declared.endpoint.Change.{Change}
 use Rattle.amqp_sessions.specs.declared.endpoint.Change.TheVariants.{Same, Begun, Refused, Gone, Answered}
@@ -73,13 +74,28 @@ answered_from state.Unmapped state.EndSent h = cc
 answered_from state.Unmapped state.Unmapped h = cc
 
 -- what waits is written in the same state
-chosen_state : (c : Bool) (s t : SessionState') → t.state ≡ s.state → (if c then t else s).state ≡ s.state
-chosen_state true s t h = h
-chosen_state false s t h = refl
+first_state : (xs : List Part) (s : SessionState') → (first_leaving xs s).state ≡ s.state
+first_state [] s = refl
+first_state (x ∷ xs) s = refl
 
-pub releasing_state : (xs : List HeldTransfer) (s : SessionState') → (releasing xs s).state ≡ s.state
-releasing_state [] s = refl
-releasing_state (x ∷ xs) s = chosen_state (nat_lt 0 s.windows.allowance) s (releasing xs (leaving x (record s { held = xs }))) (releasing_state xs (leaving x (record s { held = xs })))
+releasing_state : (n : ℕ) (s : SessionState') → (releasing n s).state ≡ s.state
+unfolding releasing
+releasing_state zero s = refl
+releasing_state (suc n) s = releasing_state n (first_leaving s.held s) ∙ first_state s.held s
+
+pub released_state : (s : SessionState') → (released s).state ≡ s.state
+released_state s = releasing_state s.windows.allowance s
+
+-- a session that stops is in that state, and says why
+pub stopping_state : (o : Option SessionStopReason) (why : SessionStopReason) (s : SessionState') → (stopping o why s).state ≡ s.state
+stopping_state None why s = refl
+stopping_state (Some first) why s = refl
+
+pub ended_state : (error : Option AmqpError) (s : SessionState') → (ended error s).state ≡ state.Unmapped
+ended_state error s = stopping_state s.stop_reason (remote_reason error) (record s { state = state.Unmapped; held = [] })
+
+pub ending_state : (error : Option AmqpError) (s : SessionState') → (ending error s).state ≡ state.EndSent
+ending_state error s = stopping_state s.stop_reason (own_reason error) (record s { state = state.EndSent; held = [] })
 
 -- ---- what a frame makes of a session
 
@@ -101,7 +117,7 @@ no_answered s h e = let f : Answered ≡ Same = kept_ending s h Answered e in cc
 
 begun_by : (channel : ℕ) (body : FrameBody) (s : SessionState') → s.state ≡ state.BeginSent → change_between state.BeginSent (heard_unanswered channel body s).state.state ≡ Begun → IsBegin body
 begun_by channel (b.Begin x) s h e = tt
-begun_by channel (b.End x) s h e = cc
+begun_by channel (b.End x) s h e = let f : Begun ≡ Refused = sym e ∙ ap (change_between state.BeginSent) (ended_state x.error s) in cc
 begun_by channel (b.Open x) s h e = absurd (no_begun s h e)
 begun_by channel (b.Attach x) s h e = absurd (no_begun s h e)
 begun_by channel (b.Flow x) s h e = absurd (no_begun s h e)
@@ -112,7 +128,7 @@ begun_by channel (b.Close x) s h e = absurd (no_begun s h e)
 begun_by channel b.Empty s h e = absurd (no_begun s h e)
 
 no_mapped : (s : SessionState') → s.state ≡ state.Mapped → change_between state.BeginSent (released s).state ≡ Refused → ⊥
-no_mapped s h e = let f : Refused ≡ Begun = sym e ∙ ap (change_between state.BeginSent) (releasing_state s.held s ∙ h) in cc
+no_mapped s h e = let f : Refused ≡ Begun = sym e ∙ ap (change_between state.BeginSent) (released_state s ∙ h) in cc
 
 refused_by : (channel : ℕ) (body : FrameBody) (s : SessionState') → s.state ≡ state.BeginSent → change_between state.BeginSent (heard_unanswered channel body s).state.state ≡ Refused → IsEnd body
 refused_by channel (b.End x) s h e = tt

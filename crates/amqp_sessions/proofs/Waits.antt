@@ -26,9 +26,9 @@ use Rattle.amqp_sessions.specs.Calls.{begins, settings, entered, begun, awaiting
 use Rattle.amqp_sessions.specs.Frames.{place_of, joined, refused, freed_at, freed_own, freed, concluding_for, concluding, changed, hearing_at, kept_at, heard_by, heard, heard_all, heard_early_at}
 use Rattle.amqp_sessions.specs.Laws.{WaitsForEnd, AllWaitForEnd, NoEndWaits}
 use Rattle.amqp_sessions.specs.State.{State, none_begun, endpoint_of, with_endpoint, let_go, handing, handed_out}
-use Rattle.amqp_sessions.specs.Stops.{halted, ends_answered, ends_concluded, begin_concluded, concluded}
+use Rattle.amqp_sessions.specs.Stops.{halted, finished, ends_answered, ends_concluded, begin_concluded, concluded}
 use Rattle.amqp_sessions.proofs.Gone.{Each, EachBut, each_inserted, each_set, each_found, but_of, but_set, each_gone}
-use Rattle.amqp_sessions.proofs.Meant.{found_set, handed_there}
+use Rattle.amqp_sessions.proofs.Meant.{ending_state, found_set, handed_there}
 
 pub none_waits : AllWaitForEnd none_begun
 none_waits = λ k d within. absurd (omega (arith, within))
@@ -37,7 +37,7 @@ none_waits = λ k d within. absurd (omega (arith, within))
 
 -- an `end` that is not refused has sent its End
 asked_state : (phase : SessionState) (error : Option AmqpError) (s : SessionState') → (end_asked phase error s).answer ≡ None → (end_asked phase error s).state.state ≡ state.EndSent
-asked_state state.Mapped error s h = refl
+asked_state state.Mapped error s h = ending_state error s
 asked_state state.BeginSent error s h = cc
 asked_state state.EndSent error s h = cc
 asked_state state.Unmapped error s h = cc
@@ -216,7 +216,7 @@ begin_gone (Some (Accept name numbers)) why s h = h
 begin_gone (Some (Begin name)) why s h = each_gone (λ (e : EndpointState). e.ending ≡ None) (nat_eq name) s.endpoints (but_of (λ (e : EndpointState). e.ending ≡ None) (nat_eq name) s.endpoints h)
 
 pub no_end_waits : (why : ConnectionStopReason) (s : State) → NoEndWaits (concluded why s)
-no_end_waits why s = begin_gone (ends_concluded (halted why s)).waiting why (ends_concluded (halted why s)) (ends_gone (halted why s))
+no_end_waits why s = begin_gone (ends_concluded (finished (halted why s))).waiting why (ends_concluded (finished (halted why s))) (ends_gone (finished (halted why s)))
 
 begin_waits : (o : Option Waiting) (why : ConnectionStopReason) (s : State) (name : ℕ) → s.waiting ≡ o → begins name (begin_concluded o why s).waiting ≡ false
 begin_waits None why s name h = ap (begins name) h
@@ -224,4 +224,4 @@ begin_waits (Some (Accept other numbers)) why s name h = ap (begins name) h
 begin_waits (Some (Begin other)) why s name h = refl
 
 pub no_begin_waits : (why : ConnectionStopReason) (s : State) (name : ℕ) → begins name (concluded why s).waiting ≡ false
-no_begin_waits why s name = begin_waits (ends_concluded (halted why s)).waiting why (ends_concluded (halted why s)) name refl
+no_begin_waits why s name = begin_waits (ends_concluded (finished (halted why s))).waiting why (ends_concluded (finished (halted why s))) name refl

@@ -15,7 +15,7 @@ use Rattle.amqp_session.specs.State.{State as Session}
 use Rattle.amqp_sessions.specs.declared.sessions.Waiting.{Waiting}
 use Rattle.amqp_sessions.specs.declared.sessions.Waiting.TheVariants.{Begin, Accept}
 use Rattle.amqp_sessions.specs.Parts.{EndpointState, idle}
-use Rattle.amqp_sessions.specs.Endpoint.{asking_end, having_asked}
+use Rattle.amqp_sessions.specs.Endpoint.{asking_end, having_asked, handle_max_of}
 use Rattle.amqp_sessions.specs.Frames.{joined, heard_early}
 use Rattle.amqp_sessions.specs.State.{State, endpoint_of, with_endpoint, let_go, answering}
 
@@ -33,6 +33,14 @@ begins name (Some (Begin other)) = other == name
 -- a session that was made, that no call has let go, and at which no call waits
 abbrev pub MayEnd : ℕ → State → Type 0
 MayEnd name s = (begins name s.waiting ≡ false) × IsIdle (endpoint_of name s)
+
+-- the highest handle that this end may use on the session of that name (section 2.7.2)
+abbrev pub handle_max_at : Option EndpointState → Option ℕ
+handle_max_at None = None
+handle_max_at (Some e) = handle_max_of e.session
+
+abbrev pub handle_max : ℕ → State → Option ℕ
+handle_max name s = handle_max_at (endpoint_of name s)
 
 -- sessions are begun and accepted one at a time
 abbrev pub MayCall : State → SessionCall → Type 0

@@ -6,6 +6,7 @@ use Rattle.amqp_calls.specs.declared.reply.SessionReply.{SessionReply}
 use Rattle.amqp_calls.specs.declared.reply.SessionReply.TheVariants as reply
 use Rattle.amqp_frames.specs.declared.body.FrameBody.{FrameBody}
 use Rattle.amqp_frames.specs.declared.body.FrameBody.TheVariants as b
+use Rattle.amqp_frames.specs.declared.shared.LinkFrame.{LinkFrame}
 use Rattle.amqp_session.specs.declared.error.BeginError.{BeginError}
 use Rattle.amqp_session.specs.declared.error.BeginError.TheVariants.{RemoteEnded}
 use Rattle.amqp_session.specs.declared.error.Error.{Error}
@@ -13,7 +14,7 @@ use Rattle.amqp_session.specs.State.{Framed}
 use Rattle.amqp_sessions.specs.declared.endpoint.Change.{Change}
 use Rattle.amqp_sessions.specs.declared.endpoint.Change.TheVariants.{Same, Begun, Refused, Gone, Answered}
 use Rattle.amqp_sessions.specs.Parts.{EndpointState}
-use Rattle.amqp_sessions.specs.Endpoint.{hearing, change_of, having_heard}
+use Rattle.amqp_sessions.specs.Endpoint.{hearing, change_of, having_heard, having_written, having_refused}
 use Rattle.amqp_sessions.specs.State.{State, endpoint_of, with_endpoint, let_go, answering, handed_out}
 
 -- the channel of this end whose Begin a Begin answers (section 2.7.2)
@@ -112,3 +113,19 @@ heard_early_at (Some xs) remote s = heard_all xs (record s { early = swap_remove
 
 abbrev pub heard_early : ℕ → State → State
 heard_early remote s = heard_early_at (lookup (nat_eq remote) s.early) remote s
+
+-- a link writes a frame on its session, and what that asks for goes out; it is dropped where no session has that name
+abbrev pub written_at : Option EndpointState → ℕ → LinkFrame → State → State
+written_at None name x s = s
+written_at (Some e) name x s = handed_out name (with_endpoint name (having_written x e) s)
+
+abbrev pub written : ℕ → LinkFrame → State → State
+written name x s = written_at (endpoint_of name s) name x s
+
+-- the session is ended for an Attach of a link that this end does not have, and its End goes out
+abbrev pub refusing_at : Option EndpointState → ℕ → State → State
+refusing_at None name s = s
+refusing_at (Some e) name s = handed_out name (with_endpoint name (having_refused e) s)
+
+abbrev pub refusing : ℕ → State → State
+refusing name s = refusing_at (endpoint_of name s) name s

@@ -5,15 +5,16 @@ use Rattle.indexmap.specs.IndexMap.{swap_remove_entry}
 use Rattle.amqp_calls.specs.declared.reply.NamedReply.{NamedReply}
 use Rattle.amqp_calls.specs.declared.reply.Reply.TheVariants.{Session}
 use Rattle.amqp_calls.specs.declared.reply.SessionReply.{SessionReply}
+use Rattle.amqp_session.specs.declared.session.LinkInput.{LinkInput}
 use Rattle.amqp_session.specs.State.{Framed}
 use Rattle.amqp_sessions.specs.declared.sessions.Sessions.{Sessions}
 use Rattle.amqp_sessions.specs.declared.sessions.Waiting.{Waiting}
-use Rattle.amqp_sessions.specs.Parts.{EndpointState, Pops}
+use Rattle.amqp_sessions.specs.Parts.{EndpointState, named, Pops, PopsInput}
 use Rattle.amqp_sessions.specs.Endpoint.{emptied}
 
 -- the endpoints by the names of the calls that made them; the name of the session on each channel of this end, and of the peer; the
--- frames of the peer's channels that no session has heard yet; the call that waits on the connection; the frames to be written; the
--- channels of this end that are free again; the answers that were not taken
+-- frames of the peer's channels that no session has heard yet; the call that waits on the connection; the frames to be written; what the
+-- sessions have for their links; the channels of this end that are free again; the answers that were not taken
 pub record State : Type 0 where
   pub endpoints : List (ℕ × EndpointState)
   pub channels : List (ℕ × ℕ)
@@ -21,6 +22,7 @@ pub record State : Type 0 where
   pub early : List (ℕ × List Framed)
   pub waiting : Option Waiting
   pub output : List Framed
+  pub incoming : List (ℕ × LinkInput)
   pub freed : List ℕ
   pub replies : List NamedReply
 
@@ -32,6 +34,7 @@ seen s = record {
   early = s.early.entries;
   waiting = s.waiting;
   output = s.output;
+  incoming = s.incoming;
   freed = s.freed.items;
   replies = s.replies.items;
 }
@@ -45,6 +48,7 @@ none_begun = record {
   early = [];
   waiting = None;
   output = [];
+  incoming = [];
   freed = [];
   replies = [];
 }
@@ -65,10 +69,10 @@ let_go name s = record s { endpoints = swap_remove_entry (nat_eq name) s.endpoin
 abbrev pub answering : ℕ → SessionReply → State → State
 answering name reply s = record s { replies = s.replies ++ record { name = name; reply = Session reply } ∷ [] }
 
--- the frames of a session go out behind those that are to be written
+-- the frames of a session go out behind those that are to be written, and what it has for its links behind what links are to hear
 abbrev pub handing : ℕ → Option EndpointState → State → State
 handing name None s = s
-handing name (Some e) s = record (with_endpoint name (emptied e) s) { output = s.output ++ e.session.output }
+handing name (Some e) s = record (with_endpoint name (emptied e) s) { output = s.output ++ e.session.output; incoming = s.incoming ++ named name e.session.incoming }
 
 abbrev pub handed_out : ℕ → State → State
 handed_out name s = handing name (endpoint_of name s) s
@@ -76,6 +80,10 @@ handed_out name s = handing name (endpoint_of name s) s
 -- the first frame to be written is taken off
 abbrev pub TakesFrame : State → Option Framed → State → Type 0
 TakesFrame old taken new = Pops old.output taken new.output × (new ≡ record old { output = new.output })
+
+-- the first of what the sessions have for their links
+abbrev pub TakesInput : State → Option (ℕ × LinkInput) → State → Type 0
+TakesInput old taken new = PopsInput old.incoming taken new.incoming × (new ≡ record old { incoming = new.incoming })
 
 -- the first channel that is free again
 abbrev pub TakesChannel : State → Option ℕ → State → Type 0

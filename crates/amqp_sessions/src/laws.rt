@@ -40,7 +40,6 @@ pub fn waits_for_the_end_of_the_peer()
 {}
 
 /// Where the connection has stopped no `end` and no `begin` waits.
-#[tactic(auto, using(crate::proofs::Waits::no_end_waits, crate::proofs::Waits::no_begin_waits))]
 pub fn waits_no_more()
     ensures end { (why : ConnectionStopReason) (s : State) → NoEndWaits (concluded why s) }
     ensures begin { (why : ConnectionStopReason) (s : State) (name : ℕ) → begins name (concluded why s).waiting ≡ false }

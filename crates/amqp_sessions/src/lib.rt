@@ -7,6 +7,7 @@ mod copies;
 pub mod endpoint;
 mod hearing;
 pub mod laws;
+mod linking;
 mod queue;
 pub mod sessions;
 mod stopping;

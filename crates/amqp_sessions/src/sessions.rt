@@ -7,7 +7,7 @@ ghost use Rattle.amqp_sessions.specs.Frames.{joined, refused};
 ghost use Rattle.amqp_sessions.specs.State.{seen, none_begun, let_go, answering, handed_out, TakesFrame, TakesChannel};
 
 use crate::endpoint::Endpoint;
-use crate::queue::FrameQueue;
+use crate::queue::{FrameQueue, InputQueue};
 use amqp_calls::{NamedReply, Reply, SessionCall, SessionNumbers, SessionReply};
 use amqp_frames::{IncomingSession, SessionFrame};
 use amqp_session::{BeginError, Session, SessionSettings, SessionState};
@@ -41,6 +41,8 @@ pub struct Sessions {
     pub(crate) waiting: Option<Waiting>,
     /// The frames to be written, in order.
     pub(crate) output: FrameQueue,
+    /// What the sessions have for their links, in order.
+    pub(crate) incoming: InputQueue,
     /// The channels of this end whose session is ended at both ends.
     pub(crate) freed: VecDeque<u16>,
     /// The answers that were not taken, in order.
@@ -58,6 +60,7 @@ impl Drop for Sessions {
             early,
             waiting: _,
             output,
+            incoming,
             freed,
             replies,
         } = self;
@@ -66,6 +69,7 @@ impl Drop for Sessions {
         drop(remotes);
         drop(early);
         drop(output);
+        drop(incoming);
         drop(freed);
         drop(replies);
     }
@@ -111,6 +115,7 @@ impl Sessions {
             early: IndexMap::new(alloc),
             waiting: None,
             output: FrameQueue::new(alloc),
+            incoming: InputQueue::new(alloc),
             freed: VecDeque::new(alloc),
             replies: Vec::new(alloc),
         }
@@ -144,7 +149,8 @@ impl Sessions {
         }
     }
 
-    fn may_end(&self, session: u64) -> bool
+    /// Whether a call may be made on that session.
+    pub(crate) fn may_end(&self, session: u64) -> bool
         ensures { IsTrue result ↔ MayEnd session (seen self.now) }
     {
         if self.is_begun(session) {
@@ -282,12 +288,13 @@ impl Sessions {
         drop(self.endpoints.swap_remove(&session));
     }
 
-    /// Has the frames of a session written behind those that are to be written. The one error is want of memory.
+    /// Has the frames of a session written behind those that are to be written, and puts what it has for its links behind what links
+    /// are to hear. The one error is want of memory.
     pub fn hand_out(&mut self, session: u64) -> Result<(), AllocError>
         ensures { OnOk result (seen self.new ≡ handed_out session (seen self.old)) }
     {
         match self.endpoints.get_mut(&session) {
-            Some(endpoint) => endpoint.write_out(&mut self.output),
+            Some(endpoint) => endpoint.write_out(session, &mut self.output, &mut self.incoming),
             None => Ok(()),
         }
     }

@@ -1,8 +1,10 @@
 //! The stop of a connection, as its sessions see it (OASIS AMQP 1.0, part 2, sections 2.4.3 and 2.5.4).
 ghost use Rattle.std.specs.Prelude.{◌≡◌, is_none, slice_get, OnOk};
+ghost use Rattle.std.specs.Map.{values_of};
 ghost use Rattle.amqp_sessions.specs.declared.sessions.Waiting.TheVariants.{Begin};
+ghost use Rattle.amqp_sessions.specs.Endpoint.{over, last_words};
 ghost use Rattle.amqp_sessions.specs.State.{seen};
-ghost use Rattle.amqp_sessions.specs.Stops.{cut_at, halted, ending_at, end_answered, ends_answered, without_ends, ends_concluded, begin_concluded, concluded};
+ghost use Rattle.amqp_sessions.specs.Stops.{halting, stop_of, turned_in, turned_at, halted, finished, name_at, ending_at, end_answered, ends_answered, without_ends, ends_concluded, begin_concluded, concluded};
 
 use crate::copies::copied_reason;
 use crate::endpoint::Endpoint;
@@ -13,8 +15,8 @@ use amqp_session::{BeginError, Error};
 use std::alloc::AllocError;
 
 impl Sessions {
-    /// Stops each session, since a Close is out or the connection has stopped: no more is written or read on it. The one error is
-    /// want of memory.
+    /// Stops each session, since a Close is out or the connection has stopped: no more is written or read on it, and what it has for
+    /// its links is handed on. The one error is want of memory.
     pub fn halt(&mut self, reason: &ConnectionStopReason) -> Result<(), AllocError>
         ensures { OnOk result (seen self.new ≡ halted reason.now (seen self.old)) }
     {
@@ -24,24 +26,80 @@ impl Sessions {
         Ok(())
     }
 
-    /// Stops the session at that place of the table.
+    /// The name of the session at that place of the table.
+    fn name_at(&self, at: usize) -> Option<u64>
+        ensures { result ≡ name_at (slice_get (seen self.now).endpoints at) }
+    {
+        let (name, _) = self.endpoints.get_index(at)?;
+        Some(*name)
+    }
+
+    /// The session at that place of the table stops.
     fn halt_at(&mut self, at: usize, reason: &ConnectionStopReason) -> Result<(), AllocError>
-        ensures { OnOk result (seen self.new ≡ record (seen self.old) { endpoints = cut_at reason.now at (seen self.old).endpoints }) }
+        ensures { OnOk result (seen self.new ≡ turned_at (halting reason.now) (stop_of reason.now) at (seen self.old)) }
+    {
+        match self.name_at(at) {
+            Some(name) => self.halt_named(at, name, reason),
+            None => Ok(()),
+        }
+    }
+
+    fn halt_named(
+        &mut self,
+        at: usize,
+        name: u64,
+        reason: &ConnectionStopReason,
+    ) -> Result<(), AllocError>
+        ensures { OnOk result (seen self.new ≡ turned_in (halting reason.now) (stop_of reason.now) at name (slice_get (values_of (seen self.old).endpoints) at) (seen self.old)) }
     {
         let reason = copied_reason(self.alloc, reason)?;
         match self.endpoints.get_index_mut(at) {
-            Some(endpoint) => endpoint.cut(reason),
-            None => drop(reason),
+            Some(endpoint) => {
+                endpoint.cut(reason)?;
+                endpoint.relay(name, &mut self.incoming)
+            }
+            None => {
+                drop(reason);
+                Ok(())
+            }
+        }
+    }
+
+    /// Tells the links of each session that nothing more comes.
+    fn finish(&mut self) -> Result<(), AllocError>
+        ensures { OnOk result (seen self.new ≡ finished (seen self.old)) }
+    {
+        for at in 0..self.endpoints.len() {
+            self.finish_at(at)?;
         }
         Ok(())
     }
 
-    /// The connection has stopped for that reason: a `begin` that waits is answered, and each `end` that waits. An
-    /// `accept_session` goes on waiting. The one error is want of memory.
+    fn finish_at(&mut self, at: usize) -> Result<(), AllocError>
+        ensures { OnOk result (seen self.new ≡ turned_at over last_words at (seen self.old)) }
+    {
+        match self.name_at(at) {
+            Some(name) => self.finish_named(at, name),
+            None => Ok(()),
+        }
+    }
+
+    fn finish_named(&mut self, at: usize, name: u64) -> Result<(), AllocError>
+        ensures { OnOk result (seen self.new ≡ turned_in over last_words at name (slice_get (values_of (seen self.old).endpoints) at) (seen self.old)) }
+    {
+        match self.endpoints.get_index_mut(at) {
+            Some(endpoint) => endpoint.finish(name, &mut self.incoming),
+            None => Ok(()),
+        }
+    }
+
+    /// The connection has stopped for that reason: the links of each session are told so, and that nothing more comes; a `begin` that
+    /// waits is answered, and each `end` that waits. An `accept_session` goes on waiting. The one error is want of memory.
     pub fn conclude(&mut self, reason: &ConnectionStopReason) -> Result<(), AllocError>
         ensures { OnOk result (seen self.new ≡ concluded reason.now (seen self.old)) }
     {
         self.halt(reason)?;
+        self.finish()?;
         self.conclude_ends()?;
         self.conclude_begin(reason)
     }

@@ -27,5 +27,5 @@ returns c =
     c.in_ok-extend_from_slice.ensures.items ∙ (rw c.new-wrote.ensures.items refl) ∙ take_rest c.output.result.now (length c.output-before.result.now) ∙ (rw (after, two, before, one) refl) in
     rw c.in_ok-transfer.ensures.far
     (turned_by c.args.near.now c.args.far.now c.act_at.new.near c.replies-replies.new.self c.args.name c.count_of-count.result c.args.act.now _ c.requires c.count_of-count.ensures ran
-    (record { replies = c.replies-replies.ensures.taken; connection = c.replies-replies.ensures.connection; sessions = c.replies-replies.ensures.sessions; last = c.replies-replies.ensures.last; failed = c.replies-replies.ensures.alive })
+    (record { replies = c.replies-replies.ensures.taken; connection = c.replies-replies.ensures.connection; sessions = c.replies-replies.ensures.sessions; links = c.replies-replies.ensures.links; last = c.replies-replies.ensures.last; failed = c.replies-replies.ensures.alive })
     wrote)

@@ -1,7 +1,10 @@
-use Rattle.std.proofs.Common.{refl}
+use Rattle.std.proofs.Common.{refl, true}
 use Rattle.amqp_end.specs.Moves.{Concluded}
-use Rattle.amqp_end.proofs.Goes.{on_move}
+use Rattle.amqp_end.proofs.Goes.{on_ok, on_then, on_move}
 use Rattle.amqp_end.proofs.end.End.conclude.Goals as goal
 
-pub returns-in_ok-conclude : goal.returns-in_ok-conclude
-returns-in_ok-conclude g c = on_move g.L.Link (Concluded c.in-Some.reason.now) c.args.self.now _ refl c.in_ok-conclude.ensures refl refl
+pub returns-in-Some : goal.returns-in-Some
+returns-in-Some g c =
+    let mid = record c.args.self.now { has_concluded = true; sessions = c.conclude.new.self } in
+    let concluded = on_move g.L.Link (Concluded c.in-Some.reason.now) c.args.self.now mid refl c.in_ok-conclude.ensures refl refl refl in
+    on_ok c.hand_on_all.result (λ h. on_then g.L.Link c.args.self.now mid c.hand_on_all.new.self concluded h) c.hand_on_all.ensures.goes

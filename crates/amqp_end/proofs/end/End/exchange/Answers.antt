@@ -5,4 +5,4 @@ use Rattle.amqp_end.proofs.end.End.exchange.Goals as goal
 pub returns-in-Ok : goal.returns-in-Ok
 returns-in-Ok g c =
     let mid = record c.args.self.now { connection = c.poll.new.self } in
-    on_ok c.take_up.result (λ h. goes_then g.L.Link c.args.self.now mid c.take_up.new.self (goes_stepped g.L.Link _ c.args.self.now mid c.in-Ok.ensures.ok refl refl refl) h.goes) c.take_up.ensures
+    on_ok c.take_up.result (λ h. goes_then g.L.Link c.args.self.now mid c.take_up.new.self (goes_stepped g.L.Link _ c.args.self.now mid c.in-Ok.ensures.ok refl refl refl refl) h.goes) c.take_up.ensures

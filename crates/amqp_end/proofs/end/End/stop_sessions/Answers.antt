@@ -1,7 +1,10 @@
 use Rattle.std.proofs.Common.{refl}
 use Rattle.amqp_end.specs.Moves.{Halted}
-use Rattle.amqp_end.proofs.Goes.{on_ok, on_move}
+use Rattle.amqp_end.proofs.Goes.{on_ok, on_then, on_move}
 use Rattle.amqp_end.proofs.end.End.stop_sessions.Goals as goal
 
-pub returns-in-Some-clause-ok : goal.returns-in-Some-clause-ok
-returns-in-Some-clause-ok g c = on_ok c.halt.result (λ h. on_move g.L.Link (Halted c.in-Some.reason) c.args.self.now _ refl h refl refl) c.halt.ensures
+pub returns-in_ok-halt-in-Some-clause-ok : goal.returns-in_ok-halt-in-Some-clause-ok
+returns-in_ok-halt-in-Some-clause-ok g c =
+    let mid = record c.args.self.now { sessions = c.halt.new.self } in
+    let halted = on_move g.L.Link (Halted c.in-Some.reason) c.args.self.now mid refl c.in_ok-halt-in-Some.ensures refl refl refl in
+    on_ok c.hand_on_all.result (λ h. on_then g.L.Link c.args.self.now mid c.hand_on_all.new.self halted h) c.hand_on_all.ensures.goes

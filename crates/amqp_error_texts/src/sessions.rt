@@ -1,6 +1,6 @@
 //! Errors of sessions in the text of a trace: the variants from outside inwards, joined by points, and the fields of the innermost one.
 ghost use Rattle.std.specs.Prelude.{◌≡◌, ◌++◌, OnOk};
-ghost use Rattle.amqp_session_script.specs.ErrorText.{with_text, connection_reason_text, session_reason_text, begin_text, session_text};
+ghost use Rattle.amqp_error_texts.specs.SessionText.{with_text, connection_reason_text, session_reason_text, begin_text, session_text};
 
 use amqp_composites::error::Error as AmqpError;
 use amqp_frames::{ConnectionStopReason, SessionStopReason};
@@ -10,7 +10,7 @@ use amqp_session::{BeginError, Error as SessionError};
 use std::alloc::{AllocError, Global};
 
 /// Adds a variant that has an error of AMQP in it.
-fn push_with(
+pub(crate) fn push_with(
     alloc: Global,
     out: &mut Vec<u8>,
     name: &[u8],

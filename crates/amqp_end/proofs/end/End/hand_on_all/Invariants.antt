@@ -1,0 +1,12 @@
+use Rattle.std.proofs.Common.{◌≡◌}
+use Rattle.amqp_end.specs.Goes.{GoesOn}
+use Rattle.amqp_end.proofs.end.End.hand_on_all.Given as goal
+
+abbrev pub invariant-handed : goal.invariant-handed
+invariant-handed g l = record {
+  goes : GoesOn g.L.Link l.fn.self l.self;
+  connection : l.self.connection ≡ l.fn.self.connection;
+}
+
+abbrev pub decreases-handed : goal.decreases-handed
+decreases-handed g l = l.left

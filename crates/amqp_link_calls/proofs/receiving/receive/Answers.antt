@@ -1,0 +1,7 @@
+use Rattle.std.proofs.Common.{◌∙◌}
+use Rattle.amqp_link_calls.proofs.receiving.receive.Goals as goal
+
+pub returns-in-Ok-Ready-clause-answer : goal.returns-in-Ok-Ready-clause-answer
+returns-in-Ok-Ready-clause-answer c =
+    let h = rw c.in-Ok-Ready.field-0-is at c.in-Ok-Ready.ensures in
+    (h.0, (h.1.0, c.into_parts-info.ensures.0 ∙ h.1.2.0, rw c.into_parts-info.ensures.1 h.1.2.3))

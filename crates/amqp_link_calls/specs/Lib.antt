@@ -1,0 +1,6 @@
+pub mod Side
+pub mod Called
+pub mod Replies
+pub mod Answering
+pub mod Hearing
+pub mod Calling

@@ -1,0 +1,5 @@
+pub mod Account
+pub mod Allocation
+pub mod Apart
+pub mod Covered
+pub mod Lowest

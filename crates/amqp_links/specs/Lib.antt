@@ -1,0 +1,11 @@
+pub mod Parts
+pub mod State
+pub mod Taking
+pub mod May
+pub mod Attaching
+pub mod Hearing
+pub mod Accepting
+pub mod Calling
+pub mod Settling
+pub mod Stops
+pub mod Inputs

@@ -1,0 +1,16 @@
+//! All links of an end: by the calls that made them, by the sessions that they are on, and by what those hand to them (OASIS AMQP 1.0,
+//! part 2, section 2.6).
+#![tactic(auto)]
+
+pub use links::{GivenDelivery, Links, SentDelivery};
+pub use output::LinksOutput;
+
+mod accepting;
+mod attaching;
+mod calling;
+mod hearing;
+pub mod links;
+pub mod output;
+mod settling;
+mod stopping;
+mod taking;

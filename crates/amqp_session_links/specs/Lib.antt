@@ -1,0 +1,4 @@
+pub mod Inputs
+pub mod State
+pub mod Claims
+pub mod Incoming

@@ -1,0 +1,12 @@
+//! What the links of one session share: their handles and names, the calls that attach and accept, the Attaches of the peer that wait,
+//! and the end of the session (OASIS AMQP 1.0, part 2, sections 2.5 and 2.6).
+#![tactic(auto)]
+
+pub use inputs::InputQueue;
+pub use place::{Claim, SessionLinks, WaitingAccept};
+
+mod claiming;
+mod incoming;
+pub mod inputs;
+pub mod place;
+mod standing;

@@ -1,0 +1,12 @@
+use Rattle.std.proofs.Common.{◌≡◌, length}
+use Rattle.amqp_sessions.specs.Endpoint.{over, last_words}
+use Rattle.amqp_sessions.specs.State.{seen}
+use Rattle.amqp_sessions.proofs.Tables.{all_from}
+use Rattle.amqp_sessions.proofs.sessions.Sessions.finish.Given as goal
+
+-- what is left gives the whole
+abbrev pub invariant-loop-at : goal.invariant-loop-at
+invariant-loop-at l = record {
+  count : length (seen l.self).endpoints ≡ length (seen l.fn.self).endpoints;
+  whole : all_from over last_words l.at (seen l.self) ≡ all_from over last_words 0 (seen l.fn.self);
+}
