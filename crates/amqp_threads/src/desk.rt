@@ -5,7 +5,7 @@ ghost use Rattle.amqp_delivery.specs.Book.{view_of};
 ghost use Rattle.book_history.specs.History.{Replays};
 ghost use Rattle.book_history.specs.Receipts.{Stand};
 ghost use Rattle.amqp_threads.specs.Seats.{new_seat, calls_of, Seat};
-ghost use Rattle.amqp_threads.specs.Closing.{Differing, DiffersAt, MayFail, IsDiffers};
+ghost use Rattle.amqp_threads.specs.Closing.{Differing, DiffersAt, FailsIn, MayFail, IsDiffers};
 
 use crate::error::DeskError;
 use crate::locked::{DeskName, Locked};
@@ -21,6 +21,18 @@ use std::sync::{Mutex, MutexGuard, Wait};
 #[derive(Drop)]
 pub struct Desk<L: DeskName> {
     locked: Mutex<Locked<L>>,
+}
+
+/// What a desk gives back that is closed.
+#[derive(Drop)]
+pub struct Closed {
+    /// The book.
+    pub book: BookState,
+    /// All calls made on it.
+    pub history: History,
+    /// Whether every receipt of the seats stands in the history. The error is want of memory, or names a receipt that a seat keeps
+    /// and that does not, with the entry at its place, if the history has one there.
+    pub outcome: Result<(), DeskError>,
 }
 
 impl<L: DeskName> Desk<L> {
@@ -56,6 +68,26 @@ impl<L: DeskName> Desk<L> {
         self.locked.lock(rt)
     }
 
+    /// Gives back the book with its history, and says whether every receipt of the seats stands in that history. All seats are
+    /// handed in.
+    pub fn close_with_history(self, alloc: Global, seats: SeatList<L>) -> Closed
+        requires all { length seats ≡ L.parts }
+        requires some { 0 < length seats }
+        ensures replay { Replays L.book result.history.events result.book.book }
+        ensures calls { length result.history.events ≡ calls_of seats }
+        ensures stand { OnOk result.outcome ((k : ℕ) (s : Seat) → slice_get seats k ≡ Some s → Stand 0 result.history.events s.receipts) }
+        ensures differs { IfErr result.outcome (FailsIn result.history.events seats) }
+    {
+        let locked = self.locked.into_inner();
+        let outcome = check_seats(alloc, locked.history(), seats.as_slice());
+        let (book, history) = locked.close(whole(seats.into_vec()));
+        Closed {
+            book,
+            history,
+            outcome,
+        }
+    }
+
     /// Gives back the book with its history, in which every receipt of the seats stands. All seats are handed in.
     ///
     /// The error is want of memory, or names a receipt that a seat keeps and that does not stand in the history.
@@ -65,11 +97,17 @@ impl<L: DeskName> Desk<L> {
         ensures replay { IfOk result (λ r. Replays L.book r.1.events r.0.book) }
         ensures calls { IfOk result (λ r. length r.1.events ≡ calls_of seats) }
         ensures stand { IfOk result (λ r. (k : ℕ) (s : Seat) → slice_get seats k ≡ Some s → Stand 0 r.1.events s.receipts) }
-        ensures differs { IfErr result (MayFail seats) }
+        ensures differs { IfErr result (MayFail L.book seats) }
     {
-        let locked = self.locked.into_inner();
-        check_seats(alloc, locked.history(), seats.as_slice())?;
-        Ok(locked.close(whole(seats.into_vec())))
+        let Closed {
+            book,
+            history,
+            outcome,
+        } = self.close_with_history(alloc, seats);
+        match outcome {
+            Ok(()) => Ok((book, history)),
+            Err(error) => Err(error),
+        }
     }
 }
 
@@ -118,7 +156,7 @@ fn check_seats<L: DeskName>(
     seats: &[DeskSeat<L>],
 ) -> Result<(), DeskError>
     ensures stand { OnOk result ((k : ℕ) (s : Seat) → slice_get seats.now k ≡ Some s → Stand 0 history.now.events s.receipts) }
-    ensures differs { IfErr result (MayFail seats.now) }
+    ensures differs { IfErr result (FailsIn history.now.events seats.now) }
 {
     for seat in seats {
         match check_seat(alloc, history, seat.receipts()) {

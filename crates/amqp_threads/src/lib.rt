@@ -5,7 +5,7 @@
 //! it, in which each receipt stands.
 #![tactic(auto)]
 
-pub use desk::Desk;
+pub use desk::{Closed, Desk};
 pub use error::DeskError;
 pub use locked::DeskName;
 pub use seat::{DeskSeat, SeatList};

@@ -1,11 +1,13 @@
 -- Beginnings of a history.
-use Rattle.std.specs.Prelude.{◌≡◌, ◌≢◌, ℕ, zero, suc, ◌+◌, ◌<◌, ◌≤◌, ◌⊎◌, ◌==◌, Bool, true, false, cond, List, [], ◌∷◌, ◌++◌, length, slice_get, Some, refl}
-use Rattle.std.proofs.Common.{arith, sym, ap, ◌∙◌, inl, inr, append-nil, append_assoc, eq-eqb, ne_eqb}
+use Rattle.std.specs.Prelude.{◌≡◌, ◌≢◌, ℕ, zero, suc, ◌+◌, ◌<◌, ◌≤◌, ◌⊎◌, ◌==◌, Bool, true, false, cond, nat_lt, List, [], ◌∷◌, ◌++◌, length, slice_get, Some, refl}
+use Rattle.std.proofs.Common.{arith, sym, ap, ◌∙◌, inl, inr, append-nil, append_assoc, length-append, eq-eqb, ne_eqb}
+use Rattle.std.proofs.lemmas.Bool.Decides.{nat_tests}
 use Rattle.std.proofs.lemmas.Option.{slice_get_within}
 use Rattle.book_history.specs.History.{Event}
 use Rattle.book_history.specs.Receipts.{Stand}
 use Rattle.book_history.specs.declared.entry.Receipt.{Receipt}
 use Rattle.book_lock.specs.Begins.{Begins, of_seat, IsAmong, from, Follows}
+use Rattle.book_lock.specs.Plays.{longer}
 
 pub whole : (log : List Event) → Begins log log
 whole log = ([], sym (append-nil log))
@@ -112,3 +114,65 @@ follows_more f g h ns ms within x y = (begins_more f g h x.0 y.0, λ n a. y.1 n 
 
 pub follows_same : (f h : List Event) (ns : List ℕ) → h ≡ f → Follows f ns h
 follows_same f h ns is = (begins_same f h is, λ n a. ap (of_seat n) is)
+
+-- ---- the longer of two beginnings
+
+none_more : (a b : List Event) → length (a ++ b) ≡ length a → b ≡ []
+none_more a [] same = refl
+none_more a (e ∷ b) same = absurd (let n = length-append a (e ∷ b) in omega (arith, n, same))
+
+still_none : (a b c : List Event) → length ((a ++ b) ++ c) ≡ length a → b ≡ []
+still_none a b c same = none_more a b (let n = length-append (a ++ b) c in let m = length-append a b in omega (arith, n, m, same))
+
+-- what lies between two has no more of these seats than they
+pub between : (f g h : List Event) (ns : List ℕ) → Follows f ns h → Begins f g → Begins g h → Follows f ns g
+between f g h ns follows x y = (x, λ n a. same n a)
+  where
+    parts : (n : ℕ) → of_seat n h ≡ (of_seat n f ++ of_seat n x.0) ++ of_seat n y.0
+    parts n = ap (of_seat n) y.1 ∙ (of_seat_append n g y.0 ∙ ap (λ (es : List Event). es ++ of_seat n y.0) (ap (of_seat n) x.1 ∙ of_seat_append n f x.0))
+
+    none : (n : ℕ) → IsAmong n ns → of_seat n x.0 ≡ []
+    none n a = still_none (of_seat n f) (of_seat n x.0) (of_seat n y.0) (ap length (sym (parts n) ∙ follows.1 n a))
+
+    same : (n : ℕ) → IsAmong n ns → of_seat n g ≡ of_seat n f
+    same n a = ap (of_seat n) x.1 ∙ (of_seat_append n f x.0 ∙ (ap (λ (es : List Event). of_seat n f ++ es) (none n a) ∙ append-nil (of_seat n f)))
+
+-- a beginning that is longer than both, of which one begins the other
+pub record Longer (front told log : List Event) (ns ms : List ℕ) (x : List Event) : Type 0 where
+  pub begins : Begins x log
+  pub first : Follows front ns x
+  pub second : Follows told ms x
+  pub own : (n : ℕ) → IsAmong n ns → of_seat n log ≡ of_seat n x
+  pub others : (n : ℕ) → IsAmong n ms → of_seat n log ≡ of_seat n x
+
+less_than : (m n : ℕ) → nat_lt m n ≡ true → m < n
+less_than m n is = grind (arith, nat_tests)
+
+no_less : (m n : ℕ) → nat_lt m n ≡ false → n ≤ m
+no_less m n is = grind (arith, nat_tests)
+
+begins_length : (a b : List Event) → Begins a b → length a ≤ length b
+begins_length a b x = let n = length-append a x.0 in let m = ap length x.1 in omega (arith, n, m)
+
+front_begins : (a b : List Event) → length a < length b → Begins a b ⊎ Begins b a → Begins a b
+front_begins a b less (inl x) = x
+front_begins a b less (inr y) = absurd (let n = begins_length b a y in omega (arith, n, less))
+
+told_begins : (a b : List Event) → length b ≤ length a → Begins a b ⊎ Begins b a → Begins b a
+told_begins a b most (inr y) = y
+told_begins a b most (inl x) =
+    let none : x.0 ≡ [] = none_more a x.0 (let n = length-append a x.0 in let m = ap length x.1 in omega (arith, n, m, most)) in
+    begins_same b a (sym (x.1 ∙ (ap (λ (es : List Event). a ++ es) none ∙ append-nil a)))
+
+longer_at : (front told log : List Event) (ns ms : List ℕ) → Begins front told ⊎ Begins told front → Follows front ns log → Follows told ms log
+    → (c : Bool) → nat_lt (length front) (length told) ≡ c → Longer front told log ns ms (cond c told front)
+longer_at front told log ns ms two f g true is =
+    let mine = between front told log ns f (front_begins front told (less_than (length front) (length told) is) two) g.0 in
+    record { begins = g.0; first = mine; second = (whole told, λ n a. refl); own = λ n a. f.1 n a ∙ sym (mine.1 n a); others = g.1 }
+longer_at front told log ns ms two f g false is =
+    let theirs = between told front log ms g (told_begins front told (no_less (length front) (length told) is) two) f.0 in
+    record { begins = f.0; first = (whole front, λ n a. refl); second = theirs; own = f.1; others = λ n a. g.1 n a ∙ sym (theirs.1 n a) }
+
+pub longer_is : (front told log : List Event) (ns ms : List ℕ) → Begins front told ⊎ Begins told front → Follows front ns log → Follows told ms log
+    → Longer front told log ns ms (longer front told)
+longer_is front told log ns ms two f g = longer_at front told log ns ms two f g (nat_lt (length front) (length told)) refl

@@ -16,8 +16,8 @@ use Rattle.book_lock.specs.Tickets.{Held}
 use Rattle.book_lock.specs.Begins.{Begins, of_seat, IsAmong, from, Follows}
 use Rattle.book_lock.specs.Rule.{Fits, Home, Kept, IsMine, Learns, newcomer, informed, numbered, first_of, rest_of}
 use Rattle.book_lock.specs.Calls.{IsOwnWork}
-use Rattle.book_lock.proofs.Beginning.{whole, begins_more, among_left, among_either, from_least}
-use Rattle.book_lock.specs.Plays.{waiting, in_turn, after_turn, seeing, Drawn, Looked, Advanced, Seen}
+use Rattle.book_lock.proofs.Beginning.{whole, begins_more, among_left, among_either, from_least, two_begin, longer_is}
+use Rattle.book_lock.specs.Plays.{waiting, in_turn, after_turn, seeing, having_met, Drawn, Looked, Advanced, Seen, Met}
 
 set_there : {A : Type 0} (l : List A) (i : ℕ) (a b : A) → get_elem? l i ≡ some a → get_elem? (set l i b) i ≡ some b
 set_there [] i a b at = absurd (some-ne-none a (sym at))
@@ -172,6 +172,21 @@ see_allows count slots id me s k len at small =
     })
     refl (λ t. inl (t, refl)) (still_lone count s k id me.0 (seeing me.0 k.log) at (λ n m. seeing_mine n me.0 k.log m)) (set s.words 0 (slice_index s.words 0)) (first_set count s k (slice_index s.words 0) k.next (first_word count s k)) in
     (seeing me.0 k.log, keeps, tt, kept, (k.log, f.learns, refl))
+
+pub meet_allows : (count slots id : ℕ) (me : Me (Option Held) TicketView) → me.0.turn ≡ false → Allows (Kept count) slots id me 0 (λ n. n) (Met (step slots 0 0 0 none) me)
+meet_allows count slots id me no_turn s k len at small =
+    let f = k.each id me.0 at in
+    let two = two_begin me.0.front me.0.told k.log f.learns.0 f.learns.1 in
+    let l = longer_is me.0.front me.0.told k.log me.0.numbers me.0.told_numbers two (f.learns.0, f.learns.2) (f.learns.1, f.learns.3) in
+    let kept = replaced count s k id k.next me.0 (having_met me.0) at (omega arith)
+    (record {
+      learns = (l.begins, (k.log, refl), (λ n a. ⊎_elim (λ b. l.own n b) (λ b. l.others n b) (among_either n me.0.numbers me.0.told_numbers a)), (λ n a. absurd a));
+      below = λ n m. f.below n (seeing_mine n me.0 k.log m);
+      drawn = f.drawn;
+      turn = λ t. absurd (not_both me.0.turn no_turn t);
+    })
+    refl (λ t. inl (t, refl)) (still_lone count s k id me.0 (having_met me.0) at (λ n m. seeing_mine n me.0 k.log m)) (set s.words 0 (slice_index s.words 0)) (first_set count s k (slice_index s.words 0) k.next (first_word count s k)) in
+    (having_met me.0, keeps, tt, kept, (two, l.first, l.second, refl))
 
 -- a seat is made whose numbers are of no other
 added : (count : ℕ) (s : State (Option Held) TicketView) (k : Kept count s) (x : TicketView) → Fits count k.next k.serving k.log x → x.waits ≡ false → x.turn ≡ false

@@ -1,14 +1,15 @@
 -- The calls of a seat stand in what it sees, after each call.
-use Rattle.std.specs.Prelude.{◌≡◌, ℕ, List, [], ◌∷◌, ◌++◌, Option, refl}
+use Rattle.std.specs.Prelude.{◌≡◌, ℕ, ◌⊎◌, List, [], ◌∷◌, ◌++◌, Option, refl}
 use Rattle.std.proofs.Common.{arith, sym, ap, ◌∙◌, subst, inl}
 use Rattle.atomic_table.specs.Table.{Me}
 use Rattle.book_history.specs.History.{Event}
 use Rattle.book_history.specs.declared.entry.Receipt.{Receipt}
 use Rattle.book_lock.specs.declared.rule.TicketView.{TicketView}
-use Rattle.book_lock.specs.Begins.{IsAmong, Follows}
+use Rattle.book_lock.specs.Begins.{Begins, IsAmong, Follows}
 use Rattle.book_lock.specs.Tickets.{Held}
 use Rattle.book_lock.specs.Rule.{informed}
-use Rattle.book_lock.specs.Calls.{Idle, Taken, Passed, Sees}
+use Rattle.book_lock.specs.Calls.{Idle, Taken, Passed, Sees, Meets}
+use Rattle.book_lock.specs.Plays.{longer}
 use Rattle.book_lock.proofs.Beginning.{begins_same, stand_begins, stand_last, adds_one}
 use Rattle.book_lock.specs.Seats.{Seat, Keeps, HasOwn, entries}
 
@@ -65,6 +66,29 @@ sees_joined me other told me' is sees idle = by (subst (λ (m : Me (Option Held)
       follows = subst (λ (f : List Event). Follows me.0.front me.0.numbers f) (sym (ap (λ m. m.0.front) s.2)) (s.1.0, s.1.2);
       told = subst (λ (f : List Event). Follows other.0.front other.0.numbers f) (sym (ap (λ m. m.0.front) s.2)) (s.1.1, s.1.3);
     }
+
+-- a seat was told what another had seen, and saw the longer of both
+pub meets_joined : (me other told me' : Me (Option Held) TicketView) → told ≡ (informed me.0 other.0, me.1) → Meets told me' → Idle me → Joined me other me'
+meets_joined me other told me' is meets idle = by (subst (λ (m : Me (Option Held) TicketView). Meets m me') is meets)
+  where
+    by : Meets (informed me.0 other.0, me.1) me' → Joined me other me'
+    by s = record {
+      idle = record { holds = ap (λ m. m.1) s.3 ∙ idle.holds; waits = ap (λ m. m.0.waits) s.3 ∙ idle.waits; turn = ap (λ m. m.0.turn) s.3 ∙ idle.turn };
+      numbers = ap (λ m. m.0.numbers) s.3;
+      follows = subst (λ (f : List Event). Follows me.0.front me.0.numbers f) (sym (ap (λ m. m.0.front) s.3)) s.1;
+      told = subst (λ (f : List Event). Follows other.0.front other.0.numbers f) (sym (ap (λ m. m.0.front) s.3)) s.2;
+    }
+
+-- of what both had seen one begins the other, and the longer is seen
+pub meets_longer : (me other told me' : Me (Option Held) TicketView) (f g : List Event) → told ≡ (informed me.0 other.0, me.1) → Meets told me' → me.0.front ≡ f → other.0.front ≡ g
+    → (Begins f g ⊎ Begins g f) × (me'.0.front ≡ longer f g)
+meets_longer me other told me' f g is meets first second = by (subst (λ (m : Me (Option Held) TicketView). Meets m me') is meets)
+  where
+    by : Meets (informed me.0 other.0, me.1) me' → (Begins f g ⊎ Begins g f) × (me'.0.front ≡ longer f g)
+    by s = (
+      subst (λ (x : List Event). Begins x g ⊎ Begins g x) first (subst (λ (y : List Event). Begins me.0.front y ⊎ Begins y me.0.front) second s.0),
+      ap (λ m. m.0.front) s.3 ∙ (ap (λ (x : List Event). longer x other.0.front) first ∙ ap (λ (y : List Event). longer f y) second),
+    )
 
 -- after a note, which has no number
 pub noted_own : (n : ℕ) (me other me' : Me (Option Held) TicketView) (rs : List Receipt) → Joined me other me' → other.0.numbers ≡ [] → Seated n me rs → Seated n me' rs

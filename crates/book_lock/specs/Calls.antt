@@ -1,5 +1,5 @@
 -- What the calls of a ticketed lock do.
-use Rattle.std.specs.Prelude.{◌≡◌, ◌≢◌, ℕ, ◌+◌, ◌≤◌, false, List, [], ◌∷◌, ◌++◌, length, Option, Some}
+use Rattle.std.specs.Prelude.{◌≡◌, ◌≢◌, ℕ, ◌+◌, ◌≤◌, ◌⊎◌, false, List, [], ◌∷◌, ◌++◌, length, Option, Some}
 use Rattle.atomic_table.specs.Table.{Me}
 use Rattle.book_history.specs.History.{Event}
 use Rattle.book_history.specs.declared.entry.Receipt.{Receipt}
@@ -7,7 +7,7 @@ use Rattle.book_lock.specs.declared.rule.TicketView.{TicketView}
 use Rattle.book_lock.specs.Tickets.{Held}
 use Rattle.book_lock.specs.Begins.{Begins, of_seat, IsAmong, Follows}
 use Rattle.book_lock.specs.Rule.{Learns}
-use Rattle.book_lock.specs.Plays.{in_turn, seeing}
+use Rattle.book_lock.specs.Plays.{in_turn, seeing, longer, having_met}
 
 -- the turn began: the seat holds the book, and has seen its history
 abbrev pub Turns : Me (Option Held) TicketView → Me (Option Held) TicketView → Type 0
@@ -55,3 +55,10 @@ pub record Passed (me me' : Me (Option Held) TicketView) : Type 0 where
   pub idle : Idle me'
   pub numbers : me'.0.numbers ≡ me.0.numbers
   pub follows : Follows me.0.front me.0.numbers me'.0.front
+
+-- another was met
+abbrev pub Meets : Me (Option Held) TicketView → Me (Option Held) TicketView → Type 0
+Meets me me' =
+    (Begins me.0.front me.0.told ⊎ Begins me.0.told me.0.front)
+    × Follows me.0.front me.0.numbers (longer me.0.front me.0.told) × Follows me.0.told me.0.told_numbers (longer me.0.front me.0.told)
+    × (me' ≡ (having_met me.0, me.1))

@@ -1,9 +1,10 @@
 -- What each step of a ticketed lock tells its seat.
-use Rattle.std.specs.Prelude.{◌≡◌, ◌≢◌, ℕ, ◌≤◌, true, false, List, [], ◌∷◌, ◌++◌, length, Option, Some}
+use Rattle.std.specs.Prelude.{◌≡◌, ◌≢◌, ℕ, ◌≤◌, ◌⊎◌, nat_lt, cond, true, false, List, [], ◌∷◌, ◌++◌, length, Option, Some}
 use Rattle.atomic_table.specs.Table.{Step, Me}
 use Rattle.book_history.specs.History.{Event}
 use Rattle.book_lock.specs.declared.rule.TicketView.{TicketView}
 use Rattle.book_lock.specs.Tickets.{Held}
+use Rattle.book_lock.specs.Begins.{Begins, Follows}
 use Rattle.book_lock.specs.Rule.{Learns}
 
 -- with a ticket
@@ -43,3 +44,20 @@ Advanced s me found me' = (x : Held) → me.1 ≡ (0, Some x) ∷ [] → me' ≡
 -- the history so far is seen, which goes on from what was seen before, and from what the seat was told
 abbrev pub Seen : Step (Option Held) → Me (Option Held) TicketView → ℕ → Me (Option Held) TicketView → Type 0
 Seen s me found me' = (log : List Event) × Learns me.0 log × (me' ≡ (seeing me.0 log, me.1))
+
+-- of two beginnings of one history the longer
+abbrev pub longer : List Event → List Event → List Event
+longer front told = cond (nat_lt (length front) (length told)) told front
+
+-- having met another: what was seen is the longer of what both had seen; the numbers that it was told of are its own
+abbrev pub having_met : TicketView → TicketView
+having_met v =
+    record { waits = v.waits; ticket = v.ticket; turn = v.turn; front = longer v.front v.told; told = []; numbers = v.numbers ++ v.told_numbers; told_numbers = [] }
+
+-- of what was seen and what was told one begins the other, and the longer is seen, in which nothing comes behind either that is of the
+-- numbers that go with it
+abbrev pub Met : Step (Option Held) → Me (Option Held) TicketView → ℕ → Me (Option Held) TicketView → Type 0
+Met s me found me' =
+    (Begins me.0.front me.0.told ⊎ Begins me.0.told me.0.front)
+    × Follows me.0.front me.0.numbers (longer me.0.front me.0.told) × Follows me.0.told me.0.told_numbers (longer me.0.front me.0.told)
+    × (me' ≡ (having_met me.0, me.1))

@@ -2,7 +2,8 @@
 use Rattle.std.specs.Prelude.{◌≡◌, ℕ, ◌<◌, ◌≤◌, List, [], ◌∷◌, ◌++◌, map, length}
 use Rattle.atomic_table.specs.Seated.{TableId}
 use Rattle.amqp_delivery.specs.declared.info.DisposerView.{DisposerView}
-use Rattle.book_history.specs.History.{Event}
+use Rattle.amqp_delivery.specs.Book.{Book}
+use Rattle.book_history.specs.History.{Event, Replays}
 use Rattle.book_history.specs.Receipts.{Stand}
 use Rattle.book_history.specs.declared.entry.Receipt.{Receipt}
 use Rattle.book_lock.specs.declared.error.TicketError.{TicketError}
@@ -30,6 +31,10 @@ entries rs = map (λ r. r.entry) rs
 pub record HasOwn (number : ℕ) (receipts : List Receipt) (history : List Event) : Type 0 where
   pub stand : Stand 0 history receipts
   pub own : of_seat number history ≡ entries receipts
+
+-- a run of the book's steps, from the first book to some book, with each reply that of its step
+abbrev pub IsLegal : Book → List Event → Type 0
+IsLegal first history = (last : Book) × Replays first history last
 
 -- the same but for what was seen, which goes on from what was seen before
 pub record Keeps (old new : Seat) : Type 0 where

@@ -74,6 +74,15 @@ impl<L: TicketName> Play<Option<TicketBook<L>>, TicketView> for Sees {
     ghost then = { Seen };
 }
 
+/// Another is met: what was seen is then the longer of what both had seen.
+pub(crate) struct Meets;
+
+impl<L: TicketName> Play<Option<TicketBook<L>>, TicketView> for Meets {
+    ghost use Rattle.book_lock.specs.Plays.{Met};
+
+    ghost then = { Met };
+}
+
 /// Another seat is made, which has seen as much, and takes the first number.
 pub(crate) struct Numbers;
 

@@ -1,16 +1,17 @@
 //! The seats of a ticket desk.
-ghost use Rattle.std.specs.Prelude.{◌≡◌, ◌<◌, ◌⊎◌, ◌∷◌, [], IfOk, IfErr, OnErr};
+ghost use Rattle.std.specs.Prelude.{◌≡◌, ◌<◌, ◌⊎◌, ◌∷◌, [], IfOk, IfErr, OnOk, OnErr};
 ghost use Rattle.amqp_delivery.specs.declared.calls.BookCall.TheVariants.{Register, Accept, Release, TakeOrders};
 ghost use Rattle.amqp_delivery.specs.Step.{orders};
 ghost use Rattle.book_history.specs.Receipts.{IsOf, HandsOut};
 ghost use Rattle.book_lock.specs.Begins.{Begins};
 ghost use Rattle.book_lock.specs.Calls.{Idle};
-ghost use Rattle.book_lock.specs.Seats.{Adds, HasOwn, Keeps, IsFull};
+ghost use Rattle.book_lock.specs.Plays.{longer};
+ghost use Rattle.book_lock.specs.Seats.{Adds, HasOwn, Keeps, IsFull, IsLegal};
 
 use crate::desk::TicketDesk;
 use crate::error::TicketError;
 use crate::note::TicketNote;
-use crate::steps::{Place, copy, join, see};
+use crate::steps::{Place, compare, copy, join};
 use crate::ticket_book::TicketName;
 use crate::turns::run_turn;
 use amqp_delivery::{BookCall, DeliveryInfo, DisposerView, OrderList};
@@ -108,6 +109,7 @@ impl<L: TicketName> TicketSeat<L> {
         ensures within { IfOk result (λ r. r.0.place < desk.now.calls) }
         ensures call { IfOk result (λ r. IsOf self.old.number call.now r.0) }
         ensures orders { IfOk result (λ r. HandsOut call.now r.0.entry.reply r.1.list) }
+        ensures legal { OnOk result (IsLegal L.book self.new.front) }
         ensures error { OnErr result (Keeps self.old self.new) }
         ensures full { IfErr result (IsFull desk.now.calls) }
         ensures own { HasOwn self.new.number self.new.receipts self.new.front }
@@ -145,6 +147,7 @@ impl<L: TicketName> TicketSeat<L> {
         ensures made { IfOk result (λ r. Adds self.old self.new r) }
         ensures within { IfOk result (λ r. r.place < desk.now.calls) }
         ensures call { IfOk result (λ r. IsOf self.old.number (Register info) r) }
+        ensures legal { OnOk result (IsLegal L.book self.new.front) }
         ensures error { OnErr result (Keeps self.old self.new) }
         ensures full { IfErr result (IsFull desk.now.calls) }
         ensures own { HasOwn self.new.number self.new.receipts self.new.front }
@@ -167,6 +170,7 @@ impl<L: TicketName> TicketSeat<L> {
         ensures made { IfOk result (λ r. Adds self.old self.new r) }
         ensures within { IfOk result (λ r. r.place < desk.now.calls) }
         ensures call { IfOk result (λ r. IsOf self.old.number (Accept self.old.view info.now) r) }
+        ensures legal { OnOk result (IsLegal L.book self.new.front) }
         ensures error { OnErr result (Keeps self.old self.new) }
         ensures full { IfErr result (IsFull desk.now.calls) }
         ensures own { HasOwn self.new.number self.new.receipts self.new.front }
@@ -192,6 +196,7 @@ impl<L: TicketName> TicketSeat<L> {
         ensures made { IfOk result (λ r. Adds self.old self.new r) }
         ensures within { IfOk result (λ r. r.place < desk.now.calls) }
         ensures call { IfOk result (λ r. IsOf self.old.number (Release self.old.view info.now) r) }
+        ensures legal { OnOk result (IsLegal L.book self.new.front) }
         ensures error { OnErr result (Keeps self.old self.new) }
         ensures full { IfErr result (IsFull desk.now.calls) }
         ensures own { HasOwn self.new.number self.new.receipts self.new.front }
@@ -216,6 +221,7 @@ impl<L: TicketName> TicketSeat<L> {
         ensures within { IfOk result (λ r. r.0.place < desk.now.calls) }
         ensures call { IfOk result (λ r. IsOf self.old.number TakeOrders r.0) }
         ensures orders { IfOk result (λ r. r.0.entry.reply ≡ orders r.1.list) }
+        ensures legal { OnOk result (IsLegal L.book self.new.front) }
         ensures error { OnErr result (Keeps self.old self.new) }
         ensures full { IfErr result (IsFull desk.now.calls) }
         ensures own { HasOwn self.new.number self.new.receipts self.new.front }
@@ -233,17 +239,18 @@ impl<L: TicketName> TicketSeat<L> {
         TicketNote::new(copy(&desk.table.shared, &mut self.place))
     }
 
-    /// Takes in a note of another seat. One of the two had seen what the other had, and perhaps more; the seat has then seen all that
-    /// both had.
+    /// Takes in a note of another seat. One of the two had seen what the other had, and perhaps more; the seat has then seen the longer
+    /// of both.
     pub fn meet(&mut self, desk: &TicketDesk<L>, note: TicketNote<L>)
         requires table { self.old.table ≡ desk.now.table.shared.table_id }
         requires note { note.table ≡ desk.now.table.shared.table_id }
         ensures keeps { Keeps self.old self.new }
         ensures told { Begins note.front self.new.front }
+        ensures longer { self.new.front ≡ longer self.old.front note.front }
         ensures one { Begins self.old.front note.front ⊎ Begins note.front self.old.front }
         ensures own { HasOwn self.new.number self.new.receipts self.new.front }
     {
         join(&desk.table.shared, &mut self.place, note.into_place());
-        see(&desk.table.shared, &mut self.place);
+        compare(&desk.table.shared, &mut self.place);
     }
 }

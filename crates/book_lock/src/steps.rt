@@ -3,11 +3,12 @@ ghost use Rattle.std.specs.Prelude.{◌≡◌, ℕ, ◌+◌, ◌<◌, true, fals
 ghost use Rattle.book_lock.specs.Begins.{from, IsAmong};
 ghost use Rattle.book_lock.specs.Rule.{first_of, informed, newcomer, numbered, rest_of};
 ghost use Rattle.book_lock.specs.Plays.{waiting, in_turn, after_turn, seeing};
-ghost use Rattle.book_lock.specs.Calls.{Turns, Sees, Holds};
+ghost use Rattle.book_lock.specs.Calls.{Turns, Sees, Meets, Holds};
 ghost use Rattle.book_lock.specs.Tickets.{Held};
 
 use crate::rule::{
-    Advances, Draws, InTurns, Looks, Notes, Numbers, Sees as Seeing, Tells, TicketView,
+    Advances, Draws, InTurns, Looks, Meets as Meeting, Notes, Numbers, Sees as Seeing, Tells,
+    TicketView,
 };
 use crate::ticket_book::{TicketBook, TicketName};
 use atomic_table::{Seat, Shared};
@@ -71,6 +72,18 @@ pub(crate) fn see<L: TicketName>(lock: &Lock<L>, place: &mut Place<L>)
     ensures me { Sees place.old.me place.new.me }
 {
     lock.load::<Seeing>(place, 0);
+}
+
+/// Sees what it was told, where that is longer than what it has seen.
+pub(crate) fn compare<L: TicketName>(lock: &Lock<L>, place: &mut Place<L>)
+    requires table { place.old.table_id ≡ lock.now.table_id }
+    requires words { lock.now.table_id.words ≡ 2 }
+    requires idle { place.old.me.0.turn ≡ false }
+    ensures table { place.new.table_id ≡ place.old.table_id }
+    ensures id { place.new.id ≡ place.old.id }
+    ensures me { Meets place.old.me place.new.me }
+{
+    lock.load::<Meeting>(place, 0);
 }
 
 /// The place of a new seat, which has seen as much, and takes the first of the numbers.

@@ -1,9 +1,10 @@
 //! What lies in the slot.
-ghost use Rattle.std.specs.Prelude.{◌≡◌, ◌+◌, ◌≤◌, ◌++◌, ◌∷◌, [], length, IfOk, OnErr};
+ghost use Rattle.std.specs.Prelude.{◌≡◌, ◌+◌, ◌≤◌, ◌++◌, ◌∷◌, [], length, IfOk, OnOk, OnErr};
 ghost use Rattle.book_history.specs.History.{Replays, event_of};
 ghost use Rattle.book_history.specs.Receipts.{IsOf, HandsOut};
 ghost use Rattle.book_lock.specs.Begins.{Begins};
 ghost use Rattle.book_lock.specs.Calls.{IsWorkOf};
+ghost use Rattle.book_lock.specs.Seats.{IsLegal};
 
 use amqp_delivery::{BookCall, BookState, OrderList};
 use book_history::{History, HistoryEntry, Receipt, make_call};
@@ -102,6 +103,7 @@ impl<L: TicketName> TicketBook<L> {
         ensures goes_on { Begins self.old.history self.new.history }
         ensures work { IsWorkOf seat self.old.history self.new.history }
         ensures one { length self.new.history ≤ length self.old.history + 1 }
+        ensures legal { OnOk result (IsLegal L.book self.new.history) }
         ensures memory { OnErr result (self.new ≡ self.old) }
     {
         self.history.reserve_one()?;

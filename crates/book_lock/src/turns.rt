@@ -1,10 +1,10 @@
 //! A ticket, the wait for its turn, and the turn.
-ghost use Rattle.std.specs.Prelude.{◌≡◌, ℕ, ◌+◌, ◌<◌, ◌≤◌, ◌++◌, ◌∷◌, true, false, [], length, MatchResult, IfOk, IfErr, OnErr, Some, None};
+ghost use Rattle.std.specs.Prelude.{◌≡◌, ℕ, ◌+◌, ◌<◌, ◌≤◌, ◌++◌, ◌∷◌, true, false, [], length, MatchResult, IfOk, OnOk, IfErr, OnErr, Some, None};
 ghost use Rattle.book_history.specs.Receipts.{IsOf, HandsOut};
 ghost use Rattle.book_lock.specs.Begins.{IsAmong};
 ghost use Rattle.book_lock.specs.Plays.{waiting, after_turn};
 ghost use Rattle.book_lock.specs.Calls.{Turns, Begun, Idle, Taken, Passed};
-ghost use Rattle.book_lock.specs.Seats.{IsFull};
+ghost use Rattle.book_lock.specs.Seats.{IsFull, IsLegal};
 
 use crate::error::TicketError;
 use crate::steps::{Lock, Place, advance, draw, look};
@@ -119,6 +119,7 @@ pub(crate) fn take_turn<L: TicketName>(
     ensures call { IfOk result (λ r. IsOf seat call.now r.receipt) }
     ensures both { IfOk result (λ r. r.kept ≡ r.receipt) }
     ensures orders { IfOk result (λ r. HandsOut call.now r.receipt.entry.reply r.orders.list) }
+    ensures legal { OnOk result (IsLegal L.book place.new.me.0.front) }
     ensures memory { OnErr result (place.new.me ≡ (after_turn place.old.me.0 place.old.me.0.front, [])) }
 {
     let mut book = take_out(lock, place);
@@ -151,6 +152,7 @@ pub(crate) fn run_turn<L: TicketName, R: Wait>(
     ensures call { IfOk result (λ r. IsOf seat call.now r.receipt) }
     ensures both { IfOk result (λ r. r.kept ≡ r.receipt) }
     ensures orders { IfOk result (λ r. HandsOut call.now r.receipt.entry.reply r.orders.list) }
+    ensures legal { OnOk result (IsLegal L.book place.new.me.0.front) }
     ensures passed { OnErr result (Passed place.old.me place.new.me) }
     ensures full { IfErr result (IsFull calls) }
 {
