@@ -1,3 +1,4 @@
 pub mod Bad
 pub mod Going
 pub mod Gives
+pub mod Framed

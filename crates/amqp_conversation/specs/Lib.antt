@@ -1,3 +1,4 @@
 pub mod Said
 pub mod Reading
 pub mod Shows
+pub mod Why

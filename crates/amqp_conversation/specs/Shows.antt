@@ -1,7 +1,8 @@
 -- The lines of headers and frames in a stream of bytes.
-use Rattle.std.specs.Prelude.{◌≡◌, ◌+◌, List, ℕ, [], ◌∷◌, ◌++◌, decimal, drop, length, Option, Some, None}
+use Rattle.std.specs.Prelude.{◌≡◌, ◌+◌, List, ℕ, [], ◌∷◌, ◌++◌, decimal, drop, length, Option, Some, None, IfSome}
 use Rattle.amqp_conversation.specs.declared.decode.BadBytes.{BadBytes}
 use Rattle.amqp_conversation.specs.Said.{Says, IsBad}
+use Rattle.amqp_conversation.specs.Why.{IsWhy}
 
 -- `OFFSET SIZE TEXT` and a line feed, in bytes
 abbrev pub line_text : ℕ → ℕ → List ℕ → List ℕ
@@ -17,6 +18,7 @@ pub record StopsAt (bytes text : List ℕ) (bad : BadBytes) : Type 0 where
   pub rest : List ℕ
   pub shows : Shows 0 bytes text bad.offset rest
   pub is_bad : IsBad rest bad.reason
+  pub why : IfSome bad.fault (IsWhy rest)
 
 -- the lines of all bytes, or of those before the first that begin with no piece
 abbrev pub IsDecoded : List ℕ → List ℕ → Option BadBytes → Type 0

@@ -3,6 +3,8 @@ ghost use Rattle.std.specs.Prelude.{◌≡◌, ◌++◌, ◌≤◌, length, OnOk
 ghost use Rattle.amqp_conversation.specs.Shows.{line_text, IsDecoded};
 
 use crate::said::{Reason, SaidError, said_at};
+use crate::why::why;
+use amqp_body_faults::Fault;
 use amqp_shown::bytes::push_word;
 use amqp_shown::value::push_number;
 use std::alloc::{AllocError, Global};
@@ -14,6 +16,8 @@ pub struct BadBytes {
     pub offset: usize,
     /// Why.
     pub reason: Reason,
+    /// Where and why the body is none of the frame that begins there, counted from the frame's first byte on.
+    pub fault: Option<Fault>,
 }
 
 /// The lines of a stream of bytes.
@@ -55,7 +59,12 @@ pub fn decode(alloc: Global, bytes: &[u8]) -> Result<Decoded, AllocError>
             Ok(said) => said,
             Err(SaidError::Memory(error)) => return Err(error),
             Err(SaidError::Bad(reason)) => {
-                let bad = BadBytes { offset, reason };
+                let fault = why(alloc, &bytes[offset..])?;
+                let bad = BadBytes {
+                    offset,
+                    reason,
+                    fault,
+                };
                 return Ok(Decoded {
                     text,
                     bad: Some(bad),

@@ -53,7 +53,17 @@ impl fmt::Display for Ending {
             Ending::BadBytes(bad) => {
                 let offset = bad.offset;
                 let reason = bad.reason;
-                write!(f, "bad bytes {offset} {reason}")
+                match bad.fault {
+                    None => write!(f, "bad bytes {offset} {reason}"),
+                    Some(fault) => {
+                        let place = fault.offset;
+                        let why = fault.reason;
+                        write!(
+                            f,
+                            "bad bytes {offset} {reason}: {why} at byte {place} of the frame"
+                        )
+                    }
+                }
             }
             Ending::NoHexadecimal => f.write_str("no hexadecimal"),
         }

@@ -2,6 +2,8 @@ use Rattle.std.proofs.Common.{◌≡◌, ◌≤◌, ◌+◌, ◌-◌, ◌++◌, 
 use Rattle.amqp_conversation.specs.declared.said.SaidError.{SaidError}
 use Rattle.std.proofs.lemmas.List.{take_rest, length-drop, length-take-le}
 use Rattle.amqp_conversation.specs.Said.{Says, IsBad}
+use Rattle.std.specs.Prelude.{IfSome}
+use Rattle.amqp_conversation.specs.Why.{IsWhy}
 use Rattle.amqp_conversation.specs.Shows.{line_text}
 use Rattle.amqp_conversation.proofs.Going.{piece_more, no_piece_more, all_pieces}
 use Rattle.amqp_conversation.proofs.decode.decode.Goals as goal
@@ -30,5 +32,6 @@ returns-in-Err-Bad c =
         rest = drop c.pieces.offset c.args.bytes.now;
         shows = no_piece_more c.args.bytes.now c.pieces.text.items c.pieces.offset c.pieces.invariant.shown;
         is_bad = rw c.in-Err-Bad.reason-is (subst (λ (z : List ℕ). IsBad z c.in-Err-Bad.reason) (take_rest c.args.bytes.now c.pieces.offset) (c.in-Err-Bad.ensures.bad c.in-Err-Bad.reason (ap (λ (z : SaidError). Err z) c.in-Err-Bad.field-0-is)));
+        why = subst (λ (z : List ℕ). IfSome c.in_ok-fault-in-Err-Bad.fault (IsWhy z)) (take_rest c.args.bytes.now c.pieces.offset) c.in_ok-fault-in-Err-Bad.ensures;
       };
     }
