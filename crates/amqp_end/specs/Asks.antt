@@ -37,14 +37,14 @@ HasSession kind p session s = (p.kind ≡ kind) × MayEnd session s
 abbrev pub TakesForLink : {L : Type 0} → Peering L → State → LinkCall → Type 0
 TakesForLink p s (link.Sender session settings) = HasSession Client p session s
 TakesForLink p s (link.Receiver session settings) = HasSession Client p session s
-TakesForLink p s (link.Accept session settings mode) = HasSession Listener p session s
+TakesForLink p s (link.Accept session settings mode auto_accept) = HasSession Listener p session s
 TakesForLink p s call = ⊤
 
 -- the highest handle that a call which attaches a link may take, where its session has one to give (part 2, section 2.7.2)
 abbrev pub limit_for : LinkCall → State → Option ℕ
 limit_for (link.Sender session settings) s = handle_max session s
 limit_for (link.Receiver session settings) s = handle_max session s
-limit_for (link.Accept session settings mode) s = handle_max session s
+limit_for (link.Accept session settings mode auto_accept) s = handle_max session s
 limit_for call s = None
 
 -- a call on the connection is one that its end may make, while none for a session waits on it

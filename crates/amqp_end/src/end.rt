@@ -193,7 +193,11 @@ impl<L: Link> End<L> {
             | LinkCall::Recv { .. }
             | LinkCall::Dispose { .. }
             | LinkCall::SetCredit { .. }
-            | LinkCall::Credit { .. } => true,
+            | LinkCall::Credit { .. }
+            | LinkCall::Regulate { .. }
+            | LinkCall::Disposer { .. }
+            | LinkCall::DisposeBy { .. }
+            | LinkCall::Part { .. } => true,
         }
     }
 

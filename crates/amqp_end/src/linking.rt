@@ -38,7 +38,11 @@ impl<L: Link> End<L> {
             | LinkCall::Recv { .. }
             | LinkCall::Dispose { .. }
             | LinkCall::SetCredit { .. }
-            | LinkCall::Credit { .. } => None,
+            | LinkCall::Credit { .. }
+            | LinkCall::Regulate { .. }
+            | LinkCall::Disposer { .. }
+            | LinkCall::DisposeBy { .. }
+            | LinkCall::Part { .. } => None,
         }
     }
 

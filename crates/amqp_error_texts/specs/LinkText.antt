@@ -7,6 +7,8 @@ use Rattle.amqp_fields.specs.declared.error.BaseError.TheVariants as base
 use Rattle.amqp_delivery.specs.declared.info.DeliveryInfo.{DeliveryInfo}
 use Rattle.amqp_link.specs.declared.error.AttachError.{AttachError}
 use Rattle.amqp_link.specs.declared.error.AttachError.TheVariants as attach
+use Rattle.amqp_link.specs.declared.error.DetachError.{DetachError}
+use Rattle.amqp_link.specs.declared.error.DetachError.TheVariants as detach
 use Rattle.amqp_link.specs.declared.error.LinkStateError.{LinkStateError}
 use Rattle.amqp_link.specs.declared.error.LinkStateError.TheVariants as link
 use Rattle.amqp_link.specs.declared.error.IllegalLinkStateError.{IllegalLinkStateError}
@@ -75,6 +77,15 @@ illegal_state_text (state.Memory e) = codes "Memory"
 illegal_state_text state.IllegalState = codes "IllegalState"
 illegal_state_text (state.SessionStopped reason) = codes "SessionStopped." ++ session_reason_text reason
 
+-- why a link is not detached or closed as it was asked, or how the peer has detached it
+abbrev pub detach_text : DetachError → List ℕ
+detach_text detach.IllegalState = codes "IllegalState"
+detach_text (detach.SessionStopped reason) = codes "SessionStopped." ++ session_reason_text reason
+detach_text (detach.RemoteDetachedWithError e) = with_text (codes "RemoteDetachedWithError") e
+detach_text detach.ClosedByRemote = codes "ClosedByRemote"
+detach_text detach.DetachedByRemote = codes "DetachedByRemote"
+detach_text (detach.RemoteClosedWithError e) = with_text (codes "RemoteClosedWithError") e
+
 -- a message is larger than the link takes: its size and the limit, in bytes
 abbrev pub size_text : ℕ → ℕ → List ℕ
 size_text size most = codes "MessageSizeExceeded " ++ decimal size ++ codes " " ++ decimal most
@@ -83,6 +94,7 @@ size_text size most = codes "MessageSizeExceeded " ++ decimal size ++ codes " " 
 abbrev pub send_text : SendError → List ℕ
 send_text (send.Memory e) = codes "Memory"
 send_text (send.LinkStateError e) = codes "LinkStateError." ++ link_state_text e
+send_text (send.Detached e) = codes "Detached." ++ detach_text e
 send_text send.NonTerminalDeliveryState = codes "NonTerminalDeliveryState"
 send_text send.IllegalDeliveryState = codes "IllegalDeliveryState"
 send_text (send.MessageSizeExceeded size most) = size_text size most

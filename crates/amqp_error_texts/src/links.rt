@@ -1,12 +1,12 @@
 //! Errors of links in the text of a trace: the variants from outside inwards, joined by points, and the fields of the innermost one.
 ghost use Rattle.std.specs.Prelude.{◌≡◌, ◌++◌, decimal, OnOk};
-ghost use Rattle.amqp_error_texts.specs.LinkText.{attach_name, attach_text, placed_text, accept_text, link_state_text, illegal_state_text, size_text, send_text, mode_text, info_text, base_text, decode_text, recv_text};
+ghost use Rattle.amqp_error_texts.specs.LinkText.{attach_name, attach_text, placed_text, accept_text, link_state_text, illegal_state_text, detach_text, size_text, send_text, mode_text, info_text, base_text, decode_text, recv_text};
 
 use crate::sessions::{push_session_reason, push_with};
 use amqp_composites::modes::ReceiverSettleMode;
 use amqp_delivery::DeliveryInfo;
 use amqp_fields::BaseError;
-use amqp_link::{AttachError, IllegalLinkStateError, LinkStateError};
+use amqp_link::{AttachError, DetachError, IllegalLinkStateError, LinkStateError};
 use amqp_link_words::AcceptError;
 use amqp_receiver::RecvError;
 use amqp_script::trace_text::hex::{push_bytes, push_word, push_words};
@@ -195,6 +195,44 @@ pub fn push_illegal_state(
     Ok(())
 }
 
+fn push_detach_error(
+    alloc: Global,
+    out: &mut Vec<u8>,
+    error: &DetachError,
+) -> Result<(), AllocError>
+    ensures { OnOk result (out.new.items ≡ out.old.items ++ detach_text error.now) }
+{
+    match error {
+        DetachError::IllegalState => push_word(out, b"IllegalState"),
+        DetachError::SessionStopped(reason) => {
+            out.extend_from_slice(b"SessionStopped.")?;
+            push_session_reason(alloc, out, reason)
+        }
+        DetachError::RemoteDetachedWithError(error) => {
+            push_with(alloc, out, b"RemoteDetachedWithError", error)
+        }
+        DetachError::ClosedByRemote => push_word(out, b"ClosedByRemote"),
+        DetachError::DetachedByRemote => push_word(out, b"DetachedByRemote"),
+        DetachError::RemoteClosedWithError(error) => {
+            push_with(alloc, out, b"RemoteClosedWithError", error)
+        }
+    }
+}
+
+/// Adds the words in front, and why a link is not detached or closed as it was asked, or how the peer has detached it.
+pub fn push_detach(
+    alloc: Global,
+    out: &mut Vec<u8>,
+    front: &[u8],
+    error: &DetachError,
+) -> Result<(), AllocError>
+    ensures { OnOk result (out.new.items ≡ out.old.items ++ (front.now ++ detach_text error.now)) }
+{
+    out.extend_from_slice(front)?;
+    push_detach_error(alloc, out, error)?;
+    Ok(())
+}
+
 fn push_number(alloc: Global, out: &mut Vec<u8>, number: u64) -> Result<(), AllocError>
     ensures { OnOk result (out.new.items ≡ out.old.items ++ decimal number) }
 {
@@ -223,6 +261,7 @@ fn push_send_error(alloc: Global, out: &mut Vec<u8>, error: &SendError) -> Resul
         SendError::LinkStateError(error) => {
             push_link_state(alloc, out, b"LinkStateError.", error)
         }
+        SendError::Detached(error) => push_detach(alloc, out, b"Detached.", error),
         SendError::NonTerminalDeliveryState => push_word(out, b"NonTerminalDeliveryState"),
         SendError::IllegalDeliveryState => push_word(out, b"IllegalDeliveryState"),
         SendError::MessageSizeExceeded { size, max_size } => {

@@ -3,4 +3,5 @@ pub mod Termini
 pub mod Faults
 pub mod Rules
 pub mod Link
+pub mod Parting
 pub mod Accept

@@ -1,5 +1,5 @@
 -- A link endpoint, as its rules see it (OASIS AMQP 1.0, part 2, section 2.6).
-use Rattle.std.specs.Prelude.{◌≡◌, ℕ, ◌-◌, min, nat_eq, Bool, true, false, ◌||◌, List, [], ◌∷◌, ◌++◌, map, Option, Some, None, unwrap_or, Result, Ok, Err, if◌then◌else◌}
+use Rattle.std.specs.Prelude.{◌≡◌, ℕ, ◌-◌, min, nat_eq, Bool, true, false, not, ◌&&◌, ◌||◌, is_some, codes, List, [], ◌∷◌, ◌++◌, map, Option, Some, None, unwrap_or, Result, Ok, Err, if◌then◌else◌}
 use Rattle.std.specs.VecDeque.{deque_len, deque_capacity}
 use Rattle.amqp_composites.specs.declared.error.Error.{Error as AmqpError}
 use Rattle.amqp_composites.specs.declared.modes.Role.{Role}
@@ -37,8 +37,9 @@ body_of (link.Detach x) = b.Detach x
 
 -- what this end says of the link as it attaches, with what the peer has said since; whether it answers the peer's Attach with its own;
 -- whether it looks at the addresses of termini; how far it is; the largest message, 0 where there is none; whether both ends have
--- attached; whether this end has closed the link; why it is not attached; the Detach that was read; why its session has stopped; the
--- frames to be written
+-- attached; whether this end has closed the link; why it is not attached; the Detach that was read; whether a call waits until both have
+-- detached; whether this end has abandoned the link; whether it could not be closed once it was attached again; the error of the Detach
+-- that was read then; why its session has stopped; the frames to be written
 pub record Link : Type 0 where
   pub own : Attach
   pub accepts : Bool
@@ -49,11 +50,15 @@ pub record Link : Type 0 where
   pub is_closed : Bool
   pub failure : Option AttachError
   pub remote : Option Detach
+  pub is_parting : Bool
+  pub is_gone : Bool
+  pub is_stuck : Bool
+  pub last_error : Option AmqpError
   pub stop_reason : Option SessionStopReason
   pub output : List FrameBody
 
 abbrev pub seen : LinkEndpoint → Link
-seen s = record { own = s.own; accepts = s.accepts; verify = s.verify; phase = s.phase; max_message_size = s.max_message_size; is_made = s.is_made; is_closed = s.is_closed; failure = s.failure; remote = s.remote; stop_reason = s.stop_reason; output = map body_of s.output.items }
+seen s = record { own = s.own; accepts = s.accepts; verify = s.verify; phase = s.phase; max_message_size = s.max_message_size; is_made = s.is_made; is_closed = s.is_closed; failure = s.failure; remote = s.remote; is_parting = s.is_parting; is_gone = s.is_gone; is_stuck = s.is_stuck; last_error = s.last_error; stop_reason = s.stop_reason; output = map body_of s.output.items }
 
 -- how many frames can be queued without more memory
 abbrev pub spare : LinkEndpoint → ℕ
@@ -79,7 +84,7 @@ size_of size = unwrap_or size 0
 
 -- an Attach of this end, where the peer's limit is that size
 abbrev pub fresh : Bool → Bool → ℕ → Attach → Link
-fresh accepts verify size own = record { own = own; accepts = accepts; verify = verify; phase = phase.AttachSent; max_message_size = lesser (size_of own.max_message_size) size; is_made = false; is_closed = false; failure = None; remote = None; stop_reason = None; output = b.Attach own ∷ [] }
+fresh accepts verify size own = record { own = own; accepts = accepts; verify = verify; phase = phase.AttachSent; max_message_size = lesser (size_of own.max_message_size) size; is_made = false; is_closed = false; failure = None; remote = None; is_parting = false; is_gone = false; is_stuck = false; last_error = None; stop_reason = None; output = b.Attach own ∷ [] }
 
 -- this end attaches
 abbrev pub asked : Bool → Attach → Link
@@ -118,9 +123,30 @@ unexpected_in other s = s
 abbrev pub unexpected : Link → Link
 unexpected s = unexpected_in s.phase s
 
+-- an Attach tells of deliveries that are not settled
+abbrev pub has_unsettled : Attach → Bool
+has_unsettled x = is_some x.unsettled || x.incomplete_unsettled
+
+abbrev pub illegal_state : AmqpError
+illegal_state = record { condition = codes "amqp:illegal-state"; description = Some (codes "IllegalState"); info = None }
+
+-- the link was attached again and is closed; whether that is not as it was asked
+abbrev pub reclosing : Option AmqpError → Bool → Link → Link
+reclosing error stuck s = record (saying_close error s) { phase = phase.RecloseSent; is_stuck = stuck }
+
+abbrev pub reclosed_unless : Option AttachFault → Bool → Link → Link
+reclosed_unless (Some x) unsettled s = reclosing (error_for x) true s
+reclosed_unless None true s = reclosing (Some illegal_state) true s
+reclosed_unless None false s = reclosing None false s
+
+-- the peer has attached the link again too, which is closed (section 2.6.6): a link with deliveries that are not settled goes on
+abbrev pub reclosed : Attach → Link → Link
+reclosed x s = reclosed_unless (fault_of s.own.role false s.verify s.own.snd_settle_mode x) (has_unsettled s.own || has_unsettled x) s
+
 -- the peer's Attach was read
 abbrev pub attach_in : LinkPhase → Attach → Link → Link
 attach_in phase.AttachSent x s = answered (fault_of s.own.role false s.verify s.own.snd_settle_mode x) x s
+attach_in phase.ReattachSent x s = reclosed x s
 attach_in other x s = unexpected s
 
 abbrev pub attach_read : Attach → Link → Link
@@ -151,9 +177,31 @@ is_awaited phase.DetachExpected = true
 is_awaited phase.Refused = true
 is_awaited other = false
 
+-- both ends have detached, and nothing more follows
+abbrev pub is_done : LinkPhase → Bool
+is_done phase.Detached = true
+is_done other = false
+
+-- both ends have sent their Detach, and this end has not attached again: its handle is free
 abbrev pub is_over : LinkPhase → Bool
 is_over phase.Detached = true
+is_over phase.HalfClosed = true
+is_over phase.HandleWanted = true
 is_over other = false
+
+-- the peer may still speak of deliveries: until both ends have sent their Detach
+abbrev pub is_heard : LinkPhase → Bool
+is_heard phase.HalfClosed = false
+is_heard phase.HandleWanted = false
+is_heard phase.ReattachSent = false
+is_heard phase.RecloseSent = false
+is_heard phase.Detached = false
+is_heard other = true
+
+-- this end has sent a Detach that does not close the link, and none was read
+abbrev pub is_detaching : LinkPhase → Bool
+is_detaching phase.DetachSent = true
+is_detaching other = false
 
 abbrev pub poll_waiting : Option SessionStopReason → Link → Polled
 poll_waiting (Some why) s = tells (Err (error.SessionStopped why)) s
@@ -162,7 +210,7 @@ poll_waiting None s = if is_awaited s.phase then tells (Ok Pending) s else tells
 -- an end that attaches is told of its refusal once the peer has answered the Detach, one that accepts at once; each once
 abbrev pub poll_failing : Option AttachError → Link → Polled
 poll_failing None s = poll_waiting s.stop_reason s
-poll_failing (Some e) s = if s.accepts || is_over s.phase then tells (Err e) (record s { failure = None }) else poll_waiting s.stop_reason s
+poll_failing (Some e) s = if s.accepts || is_done s.phase then tells (Err e) (record s { failure = None }) else poll_waiting s.stop_reason s
 
 abbrev pub polled : Link → Polled
 polled s = if s.is_made then tells (Ok Done) s else poll_failing s.failure s
@@ -190,13 +238,30 @@ absent_terminus role.Receiver = fault.IncomingSourceIsNone
 abbrev pub failing : AttachFault → Detach → Link → Link
 failing x d s = record (saying_detach d.closed s) { failure = Some (failed_for d.error x) }
 
+-- both Detaches close the link, or neither does
+abbrev pub agree : Bool → Bool → Bool
+agree true closed = closed
+agree false closed = not closed
+
+-- else it is to be closed on a further attachment, at once where a call waits for that (section 2.6.6)
+abbrev pub phase_behind : Bool → Bool → LinkPhase
+phase_behind true parting = phase.Detached
+phase_behind false true = phase.HandleWanted
+phase_behind false false = phase.HalfClosed
+
+-- the Detach of this end is answered
+abbrev pub met : Detach → Link → Link
+met d s = record s { phase = phase_behind (agree s.is_closed d.closed) s.is_parting; remote = Some d }
+
 abbrev pub detach_in : LinkPhase → Detach → Link → Link
 detach_in phase.AttachSent d s = failing fault.NonAttachFrameReceived d s
 detach_in phase.DetachExpected d s = failing (absent_terminus s.own.role) d s
 detach_in phase.Refused d s = record s { phase = phase.Detached }
 detach_in phase.Attached d s = record (saying_detach d.closed s) { remote = Some d }
-detach_in phase.CloseSent d s = record s { phase = phase.Detached }
-detach_in phase.Detached d s = s
+detach_in phase.DetachSent d s = met d s
+detach_in phase.CloseSent d s = met d s
+detach_in phase.RecloseSent d s = record s { phase = phase.Detached; last_error = d.error }
+detach_in other d s = s
 
 abbrev pub detach_read : Detach → Link → Link
 detach_read d s = detach_in s.phase d s
@@ -235,9 +300,9 @@ abbrev pub or_else : Option LinkStateError → Option LinkStateError → Option 
 or_else (Some e) next = Some e
 or_else None next = next
 
--- a call that sends or receives
+-- a call that sends; of one that this end's Detach refuses, its sender says so
 abbrev pub refusal : Link → Option LinkStateError
-refusal s = if s.is_closed then Some state.IllegalState else or_else (ended_by s.remote s.stop_reason) (if is_attached s.phase then None else Some state.IllegalState)
+refusal s = if s.is_closed then Some state.IllegalState else or_else (ended_by s.remote s.stop_reason) (if is_attached s.phase || is_detaching s.phase then None else Some state.IllegalState)
 
 abbrev pub stop_refusal : Option SessionStopReason → Option IllegalLinkStateError
 stop_refusal None = None
@@ -258,12 +323,16 @@ closed_by (Some d) stop = if d.closed then Some (detached_by true d.error) else 
 
 -- a call that waits until a delivery is settled
 abbrev pub settlement_refusal : Link → Option LinkStateError
-settlement_refusal s = if s.is_closed then (if is_over s.phase then Some state.IllegalState else stopped_by s.stop_reason) else closed_by s.remote s.stop_reason
+settlement_refusal s =
+    if s.is_gone then Some state.IllegalState else (if is_done s.phase then (if s.is_closed then Some state.IllegalState else closed_by s.remote s.stop_reason) else stopped_by s.stop_reason)
 
 abbrev pub closes : Option Detach → Bool
 closes None = false
 closes (Some d) = d.closed
 
--- both ends have closed the link (section 2.6.6): this end, and the peer has answered; or the peer, which was answered at once
+abbrev pub is_closed_by_one : Link → Bool
+is_closed_by_one s = s.is_closed || closes s.remote
+
+-- both ends have detached, and the link is closed (section 2.6.6), or this end has abandoned it: no outcome comes any more
 abbrev pub is_closed_by_both : Link → Bool
-is_closed_by_both s = if s.is_closed then is_over s.phase else closes s.remote
+is_closed_by_both s = s.is_gone || (is_done s.phase && is_closed_by_one s)

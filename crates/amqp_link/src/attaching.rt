@@ -15,7 +15,7 @@ use std::alloc::{AllocError, Global};
 use std::collections::VecDeque;
 
 /// Lets an Attach go. Its drop has as many places as it has fields; for a caller of this it has one.
-fn let_go(_attach: Attach) {}
+pub(crate) fn let_go(_attach: Attach) {}
 
 /// The lesser of two sizes that are not 0.
 fn lesser(left: u64, right: u64) -> u64
@@ -57,6 +57,10 @@ impl LinkEndpoint {
             is_closed: false,
             failure: None,
             remote: None,
+            is_parting: false,
+            is_gone: false,
+            is_stuck: false,
+            last_error: None,
             stop_reason: None,
             output,
         })
@@ -158,8 +162,15 @@ impl LinkEndpoint {
         match self.phase {
             LinkPhase::AttachSent => self.refuse(AttachFault::NonAttachFrameReceived),
             LinkPhase::DetachExpected => self.refuse(AttachFault::ExpectImmediateDetach),
-            LinkPhase::Refused | LinkPhase::Attached | LinkPhase::CloseSent | LinkPhase::Detached =>
-                Ok(()),
+            LinkPhase::Refused
+            | LinkPhase::Attached
+            | LinkPhase::DetachSent
+            | LinkPhase::CloseSent
+            | LinkPhase::HalfClosed
+            | LinkPhase::HandleWanted
+            | LinkPhase::ReattachSent
+            | LinkPhase::RecloseSent
+            | LinkPhase::Detached => Ok(()),
         }
     }
 
@@ -174,10 +185,15 @@ impl LinkEndpoint {
                 let fault = fault_of(self.own.role, false, self.verify, mode, &attach);
                 self.answer(fault, attach)
             }
+            LinkPhase::ReattachSent => self.reclose(attach),
             LinkPhase::DetachExpected
             | LinkPhase::Refused
             | LinkPhase::Attached
+            | LinkPhase::DetachSent
             | LinkPhase::CloseSent
+            | LinkPhase::HalfClosed
+            | LinkPhase::HandleWanted
+            | LinkPhase::RecloseSent
             | LinkPhase::Detached => {
                 let_go(attach);
                 self.on_unexpected()
@@ -196,16 +212,21 @@ impl LinkEndpoint {
             LinkPhase::AttachSent | LinkPhase::DetachExpected | LinkPhase::Refused => {
                 Ok(AttachPoll::Pending)
             }
-            LinkPhase::Attached | LinkPhase::CloseSent | LinkPhase::Detached => {
-                Err(AttachError::IllegalState)
-            }
+            LinkPhase::Attached
+            | LinkPhase::DetachSent
+            | LinkPhase::CloseSent
+            | LinkPhase::HalfClosed
+            | LinkPhase::HandleWanted
+            | LinkPhase::ReattachSent
+            | LinkPhase::RecloseSent
+            | LinkPhase::Detached => Err(AttachError::IllegalState),
         }
     }
 
     fn poll_failing(&mut self) -> Result<AttachPoll, AttachError>
         ensures { Polls result (poll_failing (seen self.old).failure (seen self.old)) (seen self.old) (seen self.new) }
     {
-        if !self.accepts && !self.is_over() {
+        if !self.accepts && !self.is_done() {
             return self.poll_waiting();
         }
         match self.failure.take() {

@@ -1,6 +1,6 @@
 //! How a link is detached, and why a call on it is refused then (OASIS AMQP 1.0, part 2, sections 2.6.4 to 2.6.6).
 ghost use Rattle.std.specs.Prelude.{◌≡◌, ◌<◌, true, Some, IfOk, OnOk, OnErr};
-ghost use Rattle.amqp_link.specs.Link.{seen, spare, saying_detach, failed_for, absent_terminus, failing, detach_read, closing, detached_by, ended_by, stopped_by, closed_by, settlement_refusal, refusal, disposal_refusal};
+ghost use Rattle.amqp_link.specs.Link.{seen, spare, saying_detach, failed_for, absent_terminus, failing, agree, phase_behind, met, detach_read, closing, detached_by, ended_by, stopped_by, closed_by, settlement_refusal, refusal, disposal_refusal};
 
 use crate::copies::{copied, copied_reason};
 use crate::endpoint::{LinkEndpoint, LinkPhase};
@@ -108,6 +108,26 @@ fn closed_by(
     }
 }
 
+/// Whether both Detaches close the link, or neither does.
+fn agree(own: bool, closed: bool) -> bool
+    ensures { result ≡ agree own closed }
+{
+    own == closed
+}
+
+/// How far a link is once its Detach is answered.
+fn phase_behind(agrees: bool, is_parting: bool) -> LinkPhase
+    ensures { result ≡ phase_behind agrees is_parting }
+{
+    if agrees {
+        LinkPhase::Detached
+    } else if is_parting {
+        LinkPhase::HandleWanted
+    } else {
+        LinkPhase::HalfClosed
+    }
+}
+
 impl LinkEndpoint {
     /// Answers the peer's Detach.
     fn say_detach(&mut self, closed: bool)
@@ -143,6 +163,22 @@ impl LinkEndpoint {
         Ok(())
     }
 
+    /// The peer has answered this end's Detach.
+    fn meet(&mut self, detach: Detach)
+        ensures { seen self.new ≡ met detach (seen self.old) }
+    {
+        self.phase = phase_behind(agree(self.is_closed, detach.closed), self.is_parting);
+        self.remote = Some(detach);
+    }
+
+    /// The peer has closed the link too, after it was attached again.
+    fn end(&mut self, detach: Detach)
+        ensures { seen self.new ≡ record (seen self.old) { phase = LinkPhase.Detached; last_error = detach.error } }
+    {
+        self.phase = LinkPhase::Detached;
+        self.last_error = detach.error;
+    }
+
     /// The peer's Detach was read: it is answered at once, unless it answers the Detach of this end.
     pub fn on_detach(&mut self, detach: Detach) -> Result<(), AllocError>
         ensures ok { OnOk result (seen self.new ≡ detach_read detach (seen self.old)) }
@@ -152,11 +188,22 @@ impl LinkEndpoint {
             LinkPhase::AttachSent => self.fail(AttachFault::NonAttachFrameReceived, detach),
             LinkPhase::DetachExpected => self.fail(absent_terminus(self.own.role), detach),
             LinkPhase::Attached => self.detach(detach),
-            LinkPhase::Refused | LinkPhase::CloseSent => {
+            LinkPhase::DetachSent | LinkPhase::CloseSent => {
+                self.meet(detach);
+                Ok(())
+            }
+            LinkPhase::RecloseSent => {
+                self.end(detach);
+                Ok(())
+            }
+            LinkPhase::Refused => {
                 self.phase = LinkPhase::Detached;
                 Ok(())
             }
-            LinkPhase::Detached => Ok(()),
+            LinkPhase::HalfClosed
+            | LinkPhase::HandleWanted
+            | LinkPhase::ReattachSent
+            | LinkPhase::Detached => Ok(()),
         }
     }
 
@@ -170,8 +217,9 @@ impl LinkEndpoint {
         self.is_closed = true;
     }
 
-    /// Why a call that sends or receives is refused: `IllegalState` where this end has closed the link; then by the Detach that was
-    /// read; then `SessionStopped`; then `IllegalState` where the link is not attached.
+    /// Why a call that sends is refused: `IllegalState` where this end has closed the link; then by the Detach that was read; then
+    /// `SessionStopped`; then `IllegalState` where the link is not attached. A sender whose own Detach waits for its answer is refused
+    /// by another error: see `is_detaching`.
     pub fn refusal(&self) -> Result<Option<LinkStateError>, AllocError>
         ensures { IfOk result (λ e. e ≡ refusal (seen self.now)) }
     {
@@ -181,24 +229,28 @@ impl LinkEndpoint {
         if let Some(error) = ended_by(self.alloc, &self.remote, &self.stop_reason)? {
             return Ok(Some(error));
         }
-        if self.is_attached() {
+        if self.is_attached() || self.is_detaching() {
             return Ok(None);
         }
         Ok(Some(LinkStateError::IllegalState))
     }
 
-    /// Why a call that waits until a delivery is settled is answered otherwise: `IllegalState` once both ends have detached after this
-    /// end has closed the link; the peer's closing Detach; then `SessionStopped`. After any other Detach it goes on waiting.
+    /// Why a call that waits until a delivery is settled is answered otherwise: `IllegalState` where this end has abandoned the link;
+    /// once both ends have detached, `IllegalState` where this end has closed the link, or the peer's closing Detach; else
+    /// `SessionStopped`. After any other Detach it goes on waiting.
     pub fn settlement_refusal(&self) -> Result<Option<LinkStateError>, AllocError>
         ensures { IfOk result (λ e. e ≡ settlement_refusal (seen self.now)) }
     {
-        if !self.is_closed {
-            return closed_by(self.alloc, &self.remote, &self.stop_reason);
-        }
-        if self.is_over() {
+        if self.is_gone {
             return Ok(Some(LinkStateError::IllegalState));
         }
-        stopped_by(self.alloc, &self.stop_reason)
+        if !self.is_done() {
+            return stopped_by(self.alloc, &self.stop_reason);
+        }
+        if self.is_closed {
+            return Ok(Some(LinkStateError::IllegalState));
+        }
+        closed_by(self.alloc, &self.remote, &self.stop_reason)
     }
 
     /// Why a call that has waited for what may still come is answered: by the Detach that was read, then `SessionStopped`.

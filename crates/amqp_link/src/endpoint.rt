@@ -1,9 +1,10 @@
 //! A link endpoint: what it is built from, its queue, and what it tells of itself (OASIS AMQP 1.0, part 2, section 2.6).
 ghost use Rattle.std.specs.Prelude.{◌≡◌, ◌≤◌, ◌<◌, ◌+◌, map, Some, IfOk, OnOk};
 ghost use Rattle.std.specs.Option.{option_map};
-ghost use Rattle.amqp_link.specs.Link.{body_of, seen, spare, saying, TakesFrame, stopped, is_over, is_attached, is_closed_by_both};
+ghost use Rattle.amqp_link.specs.Link.{body_of, seen, spare, saying, TakesFrame, stopped, is_over, is_attached, is_detaching, is_heard, is_done, closes, is_closed_by_one, is_closed_by_both};
 
-use crate::error::AttachError;
+use crate::error::{AttachError, DetachError};
+use amqp_composites::error::Error as AmqpError;
 use amqp_data::Text;
 use amqp_frames::{LinkFrame, SessionStopReason};
 use amqp_performatives::attach::Attach;
@@ -22,8 +23,18 @@ pub enum LinkPhase {
     Refused,
     /// Both ends have attached.
     Attached,
+    /// This end has sent a Detach that does not close the link.
+    DetachSent,
     /// This end has sent a closing Detach.
     CloseSent,
+    /// Both ends have sent their Detach, of which one closes the link and the other does not.
+    HalfClosed,
+    /// The same, and a call waits until the link is closed: this end is to attach it anew, and has no handle for that yet.
+    HandleWanted,
+    /// This end has sent its Attach again, so that it may close the link.
+    ReattachSent,
+    /// Both ends have attached again, and this end has sent a closing Detach.
+    RecloseSent,
     /// Both ends have sent their Detach.
     Detached,
 }
@@ -35,6 +46,17 @@ pub enum AttachPoll {
     Pending,
     /// Both ends have attached.
     Done,
+}
+
+/// How far a detach is.
+#[derive(Debug, Drop)]
+pub enum DetachPoll {
+    /// The peer's answer is awaited.
+    Pending,
+    /// Both ends have detached.
+    Done,
+    /// Both ends have detached, or will not, and it did not go as it was asked.
+    Failed(DetachError),
 }
 
 /// What both ends of a link have in common.
@@ -57,6 +79,14 @@ pub struct LinkEndpoint {
     pub(crate) failure: Option<AttachError>,
     /// The Detach that was read of an attached link.
     pub(crate) remote: Option<Detach>,
+    /// Whether a call waits until both ends have detached.
+    pub(crate) is_parting: bool,
+    /// Whether this end has abandoned the link.
+    pub(crate) is_gone: bool,
+    /// Whether the link could not be closed as it was asked, once it was attached again.
+    pub(crate) is_stuck: bool,
+    /// The error of the Detach that was read of a link that was attached again.
+    pub(crate) last_error: Option<AmqpError>,
     pub(crate) stop_reason: Option<SessionStopReason>,
     /// The frames to be written, in order.
     pub(crate) output: VecDeque<LinkFrame>,
@@ -76,12 +106,17 @@ impl Drop for LinkEndpoint {
             is_closed: _,
             failure,
             remote,
+            is_parting: _,
+            is_gone: _,
+            is_stuck: _,
+            last_error,
             stop_reason,
             output,
         } = self;
         drop(own);
         drop(failure);
         drop(remote);
+        drop(last_error);
         drop(stop_reason);
         drop(output);
     }
@@ -182,20 +217,63 @@ impl LinkEndpoint {
     pub fn is_over(&self) -> bool
         ensures { result ≡ is_over (seen self.now).phase }
     {
+        matches!(
+            self.phase,
+            LinkPhase::HalfClosed | LinkPhase::HandleWanted | LinkPhase::Detached
+        )
+    }
+
+    /// Whether this end has sent a Detach that does not close the link, and none was read.
+    pub fn is_detaching(&self) -> bool
+        ensures { result ≡ is_detaching (seen self.now).phase }
+    {
+        matches!(self.phase, LinkPhase::DetachSent)
+    }
+
+    /// Whether the peer may still speak of the deliveries of the link: until both ends have sent their Detach.
+    pub fn is_heard(&self) -> bool
+        ensures { result ≡ is_heard (seen self.now).phase }
+    {
+        matches!(
+            self.phase,
+            LinkPhase::AttachSent
+                | LinkPhase::DetachExpected
+                | LinkPhase::Refused
+                | LinkPhase::Attached
+                | LinkPhase::DetachSent
+                | LinkPhase::CloseSent
+        )
+    }
+
+    /// Whether both ends have detached, and nothing more follows.
+    pub(crate) fn is_done(&self) -> bool
+        ensures { result ≡ is_done (seen self.now).phase }
+    {
         matches!(self.phase, LinkPhase::Detached)
     }
 
-    /// Whether both ends have closed the link.
-    pub fn is_closed_by_both(&self) -> bool
-        ensures { result ≡ is_closed_by_both (seen self.now) }
+    /// Whether a Detach was read that closes the link.
+    fn is_closed_by_peer(&self) -> bool
+        ensures { result ≡ closes (seen self.now).remote }
     {
-        if self.is_closed {
-            return self.is_over();
-        }
         match &self.remote {
             Some(detach) => detach.closed,
             None => false,
         }
+    }
+
+    /// Whether one of the ends has closed the link.
+    pub(crate) fn is_closed_by_one(&self) -> bool
+        ensures { result ≡ is_closed_by_one (seen self.now) }
+    {
+        self.is_closed || self.is_closed_by_peer()
+    }
+
+    /// Whether both ends have closed the link, or this end has abandoned it.
+    pub fn is_closed_by_both(&self) -> bool
+        ensures { result ≡ is_closed_by_both (seen self.now) }
+    {
+        self.is_gone || self.is_done() && self.is_closed_by_one()
     }
 
     /// Why the session has stopped, if it has.

@@ -194,8 +194,31 @@ impl From<AllocError> for IllegalLinkStateError {
     }
 }
 
+/// Why a link is not detached or closed as it was asked, or how the peer has detached it.
+#[derive(Debug, Drop, Error)]
+pub enum DetachError {
+    /// The link was abandoned or never attached, or it could not be closed once it was attached again.
+    #[error("IllegalState")]
+    IllegalState,
+    /// The session has stopped.
+    #[error("SessionStopped")]
+    SessionStopped(SessionStopReason),
+    /// The peer has detached the link for that error.
+    #[error("RemoteDetachedWithError")]
+    RemoteDetachedWithError(AmqpError),
+    /// The peer has closed the link.
+    #[error("ClosedByRemote")]
+    ClosedByRemote,
+    /// The peer has detached the link.
+    #[error("DetachedByRemote")]
+    DetachedByRemote,
+    /// The peer has closed the link for that error.
+    #[error("RemoteClosedWithError")]
+    RemoteClosedWithError(AmqpError),
+}
+
 /// The symbol that the bytes spell, each of which is ASCII.
-fn symbol(alloc: Global, bytes: &[u8]) -> Result<Symbol, AllocError>
+pub(crate) fn symbol(alloc: Global, bytes: &[u8]) -> Result<Symbol, AllocError>
     ensures { IfOk result (λ s. s ≡ bytes.now) }
 {
     match Symbol::from_slice(alloc, bytes) {

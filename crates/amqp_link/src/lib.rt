@@ -3,10 +3,10 @@
 #![tactic(auto)]
 
 pub use copies::{copied, copied_optional, copied_reason};
-pub use endpoint::{AttachPoll, LinkEndpoint, LinkPhase};
+pub use endpoint::{AttachPoll, DetachPoll, LinkEndpoint, LinkPhase};
 pub use error::{
-    AttachError, AttachFault, DispositionError, FlowError, IllegalLinkStateError, LinkStateError,
-    ReceiverAttachError, SenderAttachError,
+    AttachError, AttachFault, DetachError, DispositionError, FlowError, IllegalLinkStateError,
+    LinkStateError, ReceiverAttachError, SenderAttachError,
 };
 pub use settings::AcceptSettings;
 pub use termini::{link_flow, source_at, target_at};
@@ -17,6 +17,8 @@ pub mod copies;
 mod detaching;
 pub mod endpoint;
 pub mod error;
+mod parting;
+mod reattaching;
 mod rules;
 pub mod settings;
 pub mod termini;

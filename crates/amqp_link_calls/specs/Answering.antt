@@ -80,10 +80,6 @@ attach_answered_now s = if is_stopped s.side then s else attach_answered s
 abbrev pub outcomes_answered_now : Called → Called
 outcomes_answered_now s = if is_stopped s.side || not (is_closed_by_both s.side) then s else outcomes_answered s
 
--- the session is over: each call that waits is answered
-abbrev pub concluded : Called → Called
-concluded s = outcomes_answered (attach_answered s)
-
 -- the answers are taken
 abbrev pub answers_taken : Called → Called
 answers_taken s = record s { answers = [] }

@@ -11,6 +11,7 @@ use Rattle.amqp_sender.specs.Sender as sender
 use Rattle.amqp_sender.specs.Sending as sending
 use Rattle.amqp_receiver.specs.declared.error.RecvError.{RecvError}
 use Rattle.amqp_receiver.specs.declared.error.RecvError.TheVariants.{LinkStateError, MessageDecode}
+use Rattle.amqp_receiver.specs.AutoAccept.{auto_accepted}
 use Rattle.amqp_receiver.specs.Delivering.{all_bytes}
 use Rattle.amqp_receiver.specs.Disposing.{disposed}
 use Rattle.amqp_receiver.specs.Receiver as receiver
@@ -62,9 +63,14 @@ outcome_asked name place s = awaiting (is_pending (outcome_at place s.side)) nam
 
 -- ---- a call that receives
 
-abbrev pub having_received : Side → Side
-having_received (Sender s) = Sender s
-having_received (Receiver s) = Receiver (received s).state
+-- the receiver behind that answer: a message that is given is accepted, where that is to be done at once
+abbrev pub having_told : LinkReply → receiver.State → receiver.State
+having_told (reply.Delivery info message) s = auto_accepted info (received s).state
+having_told answer s = (received s).state
+
+abbrev pub having_received : LinkReply → Side → Side
+having_received answer (Sender s) = Sender s
+having_received answer (Receiver s) = Receiver (having_told answer s)
 
 -- a delivery was complete whose bytes spell no message
 abbrev pub IsUnreadable : RecvError → Got → Type 0

@@ -12,7 +12,8 @@ use Rattle.amqp_receiver.specs.Receiving as receiving
 use Rattle.amqp_link_calls.specs.Side as side
 use Rattle.amqp_link_calls.specs.Side.{Side, Sender, Receiver}
 use Rattle.amqp_link_calls.specs.Called.{Called, with_side}
-use Rattle.amqp_link_calls.specs.Answering.{attach_answered_now, outcomes_answered_now, outcome_answered}
+use Rattle.amqp_link_calls.specs.Answering.{attach_answered, attach_answered_now, outcomes_answered, outcomes_answered_now, outcome_answered}
+use Rattle.amqp_link_calls.specs.Leaving.{part_answered, part_answered_now}
 
 -- the peer's Attach was read
 abbrev pub attach_read : Attach → Called → Called
@@ -28,7 +29,11 @@ transfer_read x payload s = with_side (side.transfer_read x payload s.side) s
 
 -- the peer's Detach was read
 abbrev pub detach_read : Detach → Called → Called
-detach_read d s = outcomes_answered_now (attach_answered_now (with_side (side.detach_read d s.side) s))
+detach_read d s = outcomes_answered_now (part_answered_now (attach_answered_now (with_side (side.detach_read d s.side) s)))
+
+-- the session is over: each call that waits is answered
+abbrev pub concluded : Called → Called
+concluded s = outcomes_answered (part_answered (attach_answered s))
 
 -- it is known what has become of the delivery that was unsettled at that place, if there was one
 abbrev pub is_done : Option ℕ → sender.State → Bool

@@ -2,5 +2,8 @@ pub mod Side
 pub mod Called
 pub mod Replies
 pub mod Answering
+pub mod Leaving
 pub mod Hearing
 pub mod Calling
+pub mod Regulating
+pub mod Disposers

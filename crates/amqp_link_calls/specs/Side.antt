@@ -12,6 +12,12 @@ use Rattle.amqp_link.specs.declared.endpoint.AttachPoll.{AttachPoll}
 use Rattle.amqp_link.specs.declared.error.AttachError.{AttachError}
 use Rattle.amqp_link.specs.declared.error.AttachError.TheVariants.{Memory}
 use Rattle.amqp_link.specs.Link as link
+use Rattle.amqp_link.specs.declared.endpoint.DetachPoll.{DetachPoll}
+use Rattle.amqp_link.specs.declared.error.DetachError.{DetachError}
+use Rattle.amqp_link.specs.Parting as parting
+use Rattle.amqp_composites.specs.declared.error.Error.{Error as AmqpError}
+use Rattle.amqp_sender.specs.Parting as again
+use Rattle.amqp_receiver.specs.Parting as once_more
 use Rattle.amqp_sender.specs.Sender as sender
 use Rattle.amqp_sender.specs.Sending as sending
 use Rattle.amqp_receiver.specs.Receiver as receiver
@@ -93,3 +99,29 @@ Polls result old new = (polled_answer old ≡ result) × (new ≡ polled old)
 -- the first frame to be written is taken off
 abbrev pub TakesFrame : Side → Option FrameBody → Side → Type 0
 TakesFrame old x new = link.TakesFrame (link_of old) x (link_of new) × (new ≡ with_link (link_of new) old)
+
+-- ---- how it is left
+
+-- what a call that detaches comes to: the side behind it, and what the call is told
+pub record PartedSide : Type 0 where
+  pub side : Side
+  pub answer : DetachPoll
+
+abbrev pub parts : Bool → Option AmqpError → Side → PartedSide
+parts closes error s = let m = parting.parting closes error (link_of s) in record { side = with_link m.link s; answer = m.answer }
+
+abbrev pub parted_poll : Bool → Side → DetachPoll
+parted_poll closes s = parting.parted_poll closes (link_of s)
+
+abbrev pub detach_news : Side → Option DetachError
+detach_news s = parting.detach_news (link_of s)
+
+abbrev pub abandoned : Side → Side
+abandoned s = with_link (parting.abandoned (link_of s)) s
+
+abbrev pub unplaced : Side → Side
+unplaced s = with_link (parting.unplaced (link_of s)) s
+
+abbrev pub reattached : ℕ → Side → Side
+reattached handle (Sender s) = Sender (again.reattached handle s)
+reattached handle (Receiver s) = Receiver (once_more.reattached handle s)

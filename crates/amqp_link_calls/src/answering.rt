@@ -1,6 +1,7 @@
 //! How calls that have waited at a link are answered (OASIS AMQP 1.0, part 2, sections 2.6.3 and 2.6.12).
 ghost use Rattle.std.specs.Prelude.{◌≡◌, [], ◌++◌, map, IfOk, OnOk};
-ghost use Rattle.amqp_link_calls.specs.Answering.{attach_told, attach_polled, attach_answered, outcome_answered, told_by, outcomes_answered, concluded, answers_taken};
+ghost use Rattle.amqp_link_calls.specs.Answering.{attach_told, attach_polled, attach_answered, outcome_answered, told_by, outcomes_answered, answers_taken};
+ghost use Rattle.amqp_link_calls.specs.Hearing.{concluded};
 ghost use Rattle.amqp_link_calls.specs.Called.{answering};
 
 use crate::called::CalledLink;
@@ -13,7 +14,7 @@ use std::mem;
 
 impl CalledLink {
     /// Answers a call that has waited.
-    fn answer(&mut self, name: u64, reply: LinkReply) -> Result<(), AllocError>
+    pub(crate) fn answer(&mut self, name: u64, reply: LinkReply) -> Result<(), AllocError>
         ensures { OnOk result (self.new ≡ answering name reply self.old) }
     {
         self.answers.push(NamedLinkReply { name, reply })?;
@@ -107,6 +108,7 @@ impl CalledLink {
         ensures state { OnOk result (self.new ≡ answers_taken (concluded self.old)) }
     {
         self.answer_attach()?;
+        self.answer_part()?;
         self.answer_outcomes()?;
         Ok(self.take_answers())
     }

@@ -4,9 +4,10 @@ ghost use Rattle.std.specs.Prelude.{◌≡◌, IfOk, OnOk};
 ghost use Rattle.std.specs.Option.{option_map};
 ghost use Rattle.amqp_link.specs.Link as link;
 ghost use Rattle.amqp_link_calls.specs.Side.{seen, link_of, role_of, credit_of};
-ghost use Rattle.amqp_link_calls.specs.Called.{begun, sender_asked, receiver_asked, answering_side, accepted, is_awaited, stopped, TakesFrame};
+ghost use Rattle.amqp_link_calls.specs.Called.{begun, sender_asked, receiver_asked, answering_side, accepted, takes_calls, may_abandon, is_awaited, stopped, TakesFrame};
 ghost use Rattle.amqp_link_calls.specs.Answering.{accept_answered, accept_reply};
 
+use crate::leave::{Leaving, WaitingPart};
 use crate::replies::{accept_error, made_reply};
 use crate::side::LinkSide;
 use amqp_composites::modes::Role;
@@ -34,6 +35,10 @@ pub struct CalledLink {
     pub(crate) is_made: bool,
     /// The calls that wait for outcomes, by the places of the deliveries.
     pub(crate) waiting: IndexMap<usize, u64>,
+    /// The call that leaves the link and waits.
+    pub(crate) parting: Option<WaitingPart>,
+    /// Whether a call has left the link.
+    pub(crate) leaving: Leaving,
     /// The answers of calls that have waited.
     pub(crate) answers: Vec<NamedLinkReply>,
 }
@@ -48,6 +53,8 @@ impl Drop for CalledLink {
             attaching: _,
             is_made: _,
             waiting,
+            parting: _,
+            leaving: _,
             answers,
         } = self;
         drop(side);
@@ -70,7 +77,7 @@ impl Model for CalledLink {
 
     ghost coded = { Prim.hlevel (codes, map.the_row.coded, body.the_row.coded, stop_reason.the_row.coded, attach.the_row.coded, reply.the_row.coded) };
 
-    ghost view = { λ s. record { session = s.session; side = seen s.side; attaching = s.attaching; is_made = s.is_made; waiting = s.waiting.entries; answers = s.answers.items } };
+    ghost view = { λ s. record { session = s.session; side = seen s.side; attaching = s.attaching; is_made = s.is_made; waiting = s.waiting.entries; parting = s.parting; leaving = s.leaving; answers = s.answers.items } };
 }
 
 /// The end that answers the peer's Attach.
@@ -78,14 +85,16 @@ fn accepting_side(
     alloc: Global,
     settings: AcceptSettings,
     credit_mode: CreditMode,
+    auto_accept: bool,
     handle: u32,
     attach: Attach,
 ) -> Result<LinkSide, AllocError>
-    ensures { IfOk result (λ s. seen s ≡ answering_side attach.role settings credit_mode handle attach) }
+    ensures { IfOk result (λ s. seen s ≡ answering_side attach.role settings credit_mode auto_accept handle attach) }
 {
     match attach.role {
         Role::Sender => {
-            let receiver = Receiver::accept(alloc, settings, credit_mode, handle, attach)?;
+            let mut receiver = Receiver::accept(alloc, settings, credit_mode, handle, attach)?;
+            receiver.set_auto_accept(auto_accept);
             Ok(LinkSide::Receiver(receiver))
         }
         Role::Receiver => {
@@ -106,6 +115,8 @@ impl CalledLink {
             attaching,
             is_made: false,
             waiting: IndexMap::new(alloc),
+            parting: None,
+            leaving: Leaving::Stays,
             answers: Vec::new(alloc),
         }
     }
@@ -147,12 +158,13 @@ impl CalledLink {
         session: u64,
         settings: AcceptSettings,
         credit_mode: CreditMode,
+        auto_accept: bool,
         handle: u32,
         attach: Attach,
     ) -> Result<Self, AllocError>
-        ensures { IfOk result (λ s. s ≡ accepted session settings credit_mode handle attach) }
+        ensures { IfOk result (λ s. s ≡ accepted session settings credit_mode auto_accept handle attach) }
     {
-        let side = accepting_side(alloc, settings, credit_mode, handle, attach)?;
+        let side = accepting_side(alloc, settings, credit_mode, auto_accept, handle, attach)?;
         Ok(CalledLink::new(alloc, session, side, None))
     }
 
@@ -205,6 +217,27 @@ impl CalledLink {
         ensures { result ≡ link.is_over (link_of self.now.side).phase }
     {
         self.side.is_over()
+    }
+
+    /// Whether the peer may still speak of the deliveries of the link: until both ends have sent their Detach.
+    pub fn is_heard(&self) -> bool
+        ensures { result ≡ link.is_heard (link_of self.now.side).phase }
+    {
+        self.side.is_heard()
+    }
+
+    /// Whether the link takes calls: it was made, no call waits that leaves it, and none has left it.
+    pub fn takes_calls(&self) -> bool
+        ensures { result ≡ takes_calls self.now }
+    {
+        self.is_made && matches!(self.leaving, Leaving::Stays) && self.parting.is_none()
+    }
+
+    /// Whether the link may be abandoned: it was made, no call waits that leaves it, and it was neither closed nor abandoned.
+    pub fn may_abandon(&self) -> bool
+        ensures { result ≡ may_abandon self.now }
+    {
+        self.is_made && !matches!(self.leaving, Leaving::Dropped) && self.parting.is_none()
     }
 
     /// Whether the call that attached or accepted the link was answered that it is made.

@@ -3,6 +3,7 @@ ghost use Rattle.std.specs.Prelude.{◌≡◌, IfOk, OnOk};
 ghost use Rattle.std.specs.Option.{option_map};
 ghost use Rattle.amqp_sender.specs.Sender as sending;
 ghost use Rattle.amqp_link_calls.specs.Answering.{attach_answered_now, outcomes_answered_now};
+ghost use Rattle.amqp_link_calls.specs.Leaving.{part_answered_now};
 ghost use Rattle.amqp_link_calls.specs.Hearing.{attach_read, flow_read, transfer_read, detach_read, is_done, done_answered, disposition_read, is_settled_by};
 
 use crate::called::CalledLink;
@@ -36,6 +37,16 @@ impl CalledLink {
             return Ok(());
         }
         self.answer_attach()
+    }
+
+    /// Answers the call that leaves the link; once the session has stopped it waits until that is over.
+    fn answer_part_now(&mut self) -> Result<(), AllocError>
+        ensures { OnOk result (self.new ≡ part_answered_now self.old) }
+    {
+        if self.side.is_stopped() {
+            return Ok(());
+        }
+        self.answer_part()
     }
 
     /// Answers the calls for outcomes where none comes any more; once the session has stopped they wait until that is over.
@@ -77,6 +88,7 @@ impl CalledLink {
     {
         self.side.on_detach(detach)?;
         self.answer_attach_now()?;
+        self.answer_part_now()?;
         self.answer_outcomes_now()
     }
 

@@ -2,12 +2,17 @@
 #![tactic(auto)]
 
 pub use called::CalledLink;
+pub use leave::{Leaving, PartKind, WaitingPart};
 pub use side::LinkSide;
 
 mod answering;
 pub mod called;
+mod disposers;
 mod hearing;
+pub mod leave;
+mod parting;
 mod receiving;
+mod regulating;
 mod replies;
 mod sending;
 pub mod side;

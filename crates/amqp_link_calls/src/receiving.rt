@@ -3,7 +3,7 @@ ghost use Rattle.std.specs.Prelude.{◌≡◌, IfOk, OnOk};
 ghost use Rattle.amqp_receiver.specs.Receiver as receiving;
 ghost use Rattle.amqp_receiver.specs.Receiving.{received};
 ghost use Rattle.amqp_link_calls.specs.Called.{with_side};
-ghost use Rattle.amqp_link_calls.specs.Calling.{having_received, TellsReceived, Receives, disposing, disposes, sets_credit};
+ghost use Rattle.amqp_link_calls.specs.Calling.{having_told, having_received, TellsReceived, Receives, disposing, disposes, sets_credit};
 ghost use Rattle.amqp_link_calls.specs.Replies.{disposal_reply, credit_reply};
 ghost use Rattle.amqp_link_calls.specs.Side.{seen};
 
@@ -17,7 +17,7 @@ use amqp_receiver::{Receiver, RecvError, RecvReply};
 use std::alloc::AllocError;
 
 fn receive(receiver: &mut Receiver) -> Result<LinkReply, AllocError>
-    ensures state { OnOk result (receiving.seen receiver.new ≡ (received (receiving.seen receiver.old)).state) }
+    ensures state { IfOk result (λ r. receiving.seen receiver.new ≡ having_told r (receiving.seen receiver.old)) }
     ensures answer { IfOk result (λ r. TellsReceived r (received (receiving.seen receiver.old))) }
 {
     match receiver.recv() {
@@ -59,7 +59,7 @@ fn set_credit(receiver: &mut Receiver, credit: u32) -> Result<LinkReply, AllocEr
 
 impl LinkSide {
     fn recv(&mut self) -> Result<LinkReply, AllocError>
-        ensures state { OnOk result (seen self.new ≡ having_received (seen self.old)) }
+        ensures state { IfOk result (λ r. seen self.new ≡ having_received r (seen self.old)) }
         ensures answer { IfOk result (λ r. Receives r (seen self.old)) }
     {
         match self {
@@ -98,10 +98,10 @@ impl LinkSide {
 }
 
 impl CalledLink {
-    /// The next message: a `Delivery`, `Pending` where more has to come, or a `RecvError` as `Receiver::recv` says. A sender answers
-    /// `IllegalState`. For want of memory the link is not known any more.
+    /// The next message: a `Delivery`, which is accepted where that is to be done at once, `Pending` where more has to come, or a
+    /// `RecvError` as `Receiver::recv` says. A sender answers `IllegalState`. For want of memory the link is not known any more.
     pub fn recv(&mut self) -> Result<LinkReply, AllocError>
-        ensures state { OnOk result (self.new ≡ with_side (having_received self.old.side) self.old) }
+        ensures state { IfOk result (λ r. self.new ≡ with_side (having_received r self.old.side) self.old) }
         ensures answer { IfOk result (λ r. Receives r self.old.side) }
     {
         self.side.recv()

@@ -62,7 +62,7 @@ fn flag(is_set: bool) -> Option<bool>
 }
 
 /// The error with that condition alone.
-fn error_of(condition: Option<Symbol>) -> Option<AmqpError>
+pub(crate) fn error_of(condition: Option<Symbol>) -> Option<AmqpError>
     ensures { result ≡ error_of condition }
 {
     match condition {

@@ -14,7 +14,7 @@ use Rattle.amqp_link_words.specs.declared.link_reply.LinkReply.{LinkReply}
 use Rattle.amqp_link_words.specs.declared.link_reply.LinkReply.TheVariants as reply
 use Rattle.amqp_script.specs.Hex.{bytes_text}
 use Rattle.amqp_script.specs.Info.{are_sized, info_text, fault_text}
-use Rattle.amqp_error_texts.specs.LinkText.{attach_text, accept_text, illegal_state_text, send_text, recv_text}
+use Rattle.amqp_error_texts.specs.LinkText.{attach_text, accept_text, illegal_state_text, detach_text, send_text, recv_text}
 
 abbrev pub flag_text : Option Bool → List ℕ
 flag_text None = codes "-"
@@ -59,6 +59,7 @@ link_answer_text reply.Pending = codes "pending"
 link_answer_text reply.Sender = codes "sender"
 link_answer_text reply.Receiver = codes "receiver"
 link_answer_text reply.Sent = codes "sent"
+link_answer_text reply.Disposer = codes "disposer"
 link_answer_text (reply.Outcome x) = codes "outcome " ++ state_text x
 link_answer_text (reply.Delivery info message) = delivery_text info (seen message)
 link_answer_text reply.Done = codes "done"
@@ -70,3 +71,6 @@ link_answer_text (reply.SendError e) = codes "error Send." ++ send_text e
 link_answer_text (reply.RecvError e) = codes "error Recv." ++ recv_text e
 link_answer_text (reply.DispositionError e) = codes "error Disposition." ++ illegal_state_text e
 link_answer_text (reply.FlowError e) = codes "error Flow." ++ illegal_state_text e
+link_answer_text reply.Detached = codes "detached"
+link_answer_text reply.Closed = codes "closed"
+link_answer_text (reply.DetachError e) = codes "error Detach." ++ detach_text e

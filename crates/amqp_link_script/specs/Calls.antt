@@ -3,18 +3,19 @@ use Rattle.std.specs.Prelude.{List, ℕ, [], ◌∷◌, ◌-◌, ◌^◌, true, 
 use Rattle.amqp_fields.specs.Fields.{◌>>=◌}
 use Rattle.amqp_link_words.specs.declared.link_call.Sendable.{Sendable}
 use Rattle.amqp_link_words.specs.declared.link_call.LinkCall.{LinkCall}
+use Rattle.amqp_link_words.specs.declared.link_call.Disposal.TheVariants as disposal
 use Rattle.amqp_link_words.specs.declared.link_call.LinkCall.TheVariants as link
+use Rattle.amqp_link_words.specs.declared.regulation.Regulation.TheVariants as regulation
 use Rattle.amqp_script.specs.Number.{number_in}
 use Rattle.amqp_link_script.specs.declared.keys.LinkKey.TheVariants.{Settled, Batchable}
 use Rattle.amqp_link_script.specs.declared.words.LinkWord.{LinkWord}
 use Rattle.amqp_link_script.specs.declared.words.LinkWord.TheVariants as word
 use Rattle.amqp_link_script.specs.Keys.{has_only, flag_in, optional_choice_in}
+use Rattle.amqp_link_script.specs.Names.{name_in, one_name_in}
+use Rattle.amqp_link_script.specs.Partings.{on_detach_call_in, detach_call_in, close_call_in, abandon_call_in}
 use Rattle.amqp_link_script.specs.Settings.{sender_in, receiver_in, accept_in}
 use Rattle.amqp_link_script.specs.Disposals.{state_in, names_in}
-
--- the name of a step: its position
-abbrev pub name_in : List ℕ → Option ℕ
-name_in word = number_in (2 ^ 64 - 1) word
+use Rattle.amqp_link_script.specs.Regulating.{credit_mode_call_in, auto_call_in, regulating_call_in, disposer_call_in, dispose_by_call_in}
 
 unfoldable pub sender_call_in : List (List ℕ) → Option LinkCall
 sender_call_in [] = None
@@ -35,7 +36,7 @@ accept_call_in [] = None
 accept_call_in (session ∷ arguments) = do
   session ← name_in session
   accept ← accept_in arguments
-  Some (link.Accept session accept.0 accept.1)
+  Some (link.Accept session accept.0 accept.1 accept.2)
 
 unfoldable pub written_of : List ℕ → List (List ℕ) → Option Sendable
 written_of message arguments = do
@@ -54,12 +55,6 @@ send_call_in (sender ∷ message ∷ arguments) = do
   sender ← name_in sender
   message ← written_in message arguments
   Some (link.Send sender message)
-
--- the one name that the arguments are
-abbrev pub one_name_in : List (List ℕ) → Option ℕ
-one_name_in [] = None
-one_name_in (name ∷ []) = name_in name
-one_name_in (name ∷ more ∷ others) = None
 
 unfoldable pub outcome_call_in : List (List ℕ) → Option LinkCall
 outcome_call_in arguments = do
@@ -113,3 +108,14 @@ call_in word.Recv arguments = recv_call_in arguments
 call_in word.Dispose arguments = dispose_call_in arguments
 call_in word.SetCredit arguments = set_credit_call_in arguments
 call_in word.Credit arguments = credit_call_in arguments
+call_in word.CreditMode arguments = credit_mode_call_in arguments
+call_in word.Auto arguments = auto_call_in arguments
+call_in word.Drain arguments = regulating_call_in regulation.Drain arguments
+call_in word.SendProperties arguments = regulating_call_in regulation.Properties arguments
+call_in word.Disposer arguments = disposer_call_in arguments
+call_in word.DisposerAccept arguments = dispose_by_call_in disposal.Accepted arguments
+call_in word.DisposerRelease arguments = dispose_by_call_in disposal.Released arguments
+call_in word.OnDetach arguments = on_detach_call_in arguments
+call_in word.Detach arguments = detach_call_in arguments
+call_in word.CloseLink arguments = close_call_in arguments
+call_in word.Abandon arguments = abandon_call_in arguments

@@ -6,7 +6,7 @@ use Rattle.amqp_script.specs.Keys.{value_at}
 use Rattle.amqp_script.specs.Number.{number_in}
 use Rattle.amqp_script.specs.Fields.{text_in, if_there, or_else}
 use Rattle.amqp_link_script.specs.declared.keys.LinkKey.{LinkKey}
-use Rattle.amqp_link_script.specs.declared.keys.LinkKey.TheVariants.{Name, Source, Target, Snd, Rcv, Max, Count, Dynamic, Credit, Dyn, Settled, Batchable}
+use Rattle.amqp_link_script.specs.declared.keys.LinkKey.TheVariants.{Name, Source, Target, Snd, Rcv, Max, Count, Dynamic, Credit, Dyn, Settled, Batchable, Auto, Error}
 
 -- how a key is written
 abbrev pub name_of : LinkKey → List ℕ
@@ -22,6 +22,8 @@ name_of Credit = codes "credit"
 name_of Dyn = codes "dyn"
 name_of Settled = codes "settled"
 name_of Batchable = codes "batchable"
+name_of Auto = codes "auto"
+name_of Error = codes "error"
 
 -- an argument has one of these keys, and no later one has its name
 abbrev pub is_first_of : List LinkKey → Option (List ℕ × List ℕ) → List (List ℕ) → Bool

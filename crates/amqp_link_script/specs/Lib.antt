@@ -2,6 +2,9 @@ pub mod Words
 pub mod Keys
 pub mod Settings
 pub mod Disposals
+pub mod Regulating
+pub mod Names
+pub mod Partings
 pub mod Calls
 pub mod Messages
 pub mod Answers

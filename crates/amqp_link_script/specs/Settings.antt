@@ -1,5 +1,5 @@
 -- What a line says of an end of a link (OASIS AMQP 1.0, part 2, section 2.7.3).
-use Rattle.std.specs.Prelude.{List, ℕ, [], ◌∷◌, ◌-◌, ◌^◌, true, if◌then◌else◌, Option, Some, None, option_map, option_and_then, codes, bytes_eq}
+use Rattle.std.specs.Prelude.{List, ℕ, Bool, [], ◌∷◌, ◌-◌, ◌^◌, true, if◌then◌else◌, Option, Some, None, option_map, option_and_then, codes, bytes_eq}
 use Rattle.amqp_composites.specs.declared.modes.SenderSettleMode.{SenderSettleMode}
 use Rattle.amqp_composites.specs.declared.modes.SenderSettleMode.TheVariants as snd
 use Rattle.amqp_composites.specs.declared.modes.ReceiverSettleMode.{ReceiverSettleMode}
@@ -12,7 +12,7 @@ use Rattle.amqp_sender.specs.declared.settings.SenderSettings.{SenderSettings}
 use Rattle.amqp_receiver.specs.declared.settings.ReceiverSettings.{ReceiverSettings}
 use Rattle.amqp_script.specs.Number.{number_in}
 use Rattle.amqp_script.specs.Fields.{text_in, or_else}
-use Rattle.amqp_link_script.specs.declared.keys.LinkKey.TheVariants.{Name, Source, Target, Snd, Rcv, Max, Count, Dynamic, Credit, Dyn}
+use Rattle.amqp_link_script.specs.declared.keys.LinkKey.TheVariants.{Name, Source, Target, Snd, Rcv, Max, Count, Dynamic, Credit, Dyn, Auto}
 use Rattle.amqp_link_script.specs.Keys.{has_only, value_of, optional_text_in, flag_in, count_in, max_in}
 
 abbrev pub sender_mode_of : List ℕ → Option SenderSettleMode
@@ -82,6 +82,7 @@ receiver_of arguments = do
   rcv_settle_mode ← receiver_mode_in arguments
   max_message_size ← max_in arguments
   credit_mode ← credit_mode_in arguments
+  auto_accept ← flag_in Auto arguments
   Some (record {
     name = name;
     source = source;
@@ -91,20 +92,22 @@ receiver_of arguments = do
     rcv_settle_mode = rcv_settle_mode;
     max_message_size = max_message_size;
     credit_mode = credit_mode;
+    auto_accept = auto_accept;
     verify = true;
   })
 
 -- what the arguments say of a receiver
 abbrev pub receiver_in : List (List ℕ) → Option ReceiverSettings
 receiver_in arguments =
-    if has_only (Name ∷ Source ∷ Target ∷ Snd ∷ Rcv ∷ Max ∷ Credit ∷ Dynamic ∷ []) arguments then receiver_of arguments else None
+    if has_only (Name ∷ Source ∷ Target ∷ Snd ∷ Rcv ∷ Max ∷ Credit ∷ Auto ∷ Dynamic ∷ []) arguments then receiver_of arguments else None
 
-unfoldable pub accept_of : List (List ℕ) → Option (AcceptSettings × CreditMode)
+unfoldable pub accept_of : List (List ℕ) → Option (AcceptSettings × CreditMode × Bool)
 accept_of arguments = do
   max_message_size ← max_in arguments
   initial_delivery_count ← count_in arguments
   dynamic_address ← optional_text_in Dyn arguments
   credit_mode ← credit_mode_in arguments
+  auto_accept ← flag_in Auto arguments
   Some (
     record {
       max_message_size = max_message_size;
@@ -112,8 +115,9 @@ accept_of arguments = do
       dynamic_address = dynamic_address;
     },
     credit_mode,
+    auto_accept,
   )
 
--- what the arguments say of a link that is accepted, and when it gives credit as a receiver
-abbrev pub accept_in : List (List ℕ) → Option (AcceptSettings × CreditMode)
-accept_in arguments = if has_only (Max ∷ Credit ∷ Count ∷ Dyn ∷ []) arguments then accept_of arguments else None
+-- what the arguments say of a link that is accepted; as a receiver when it gives credit, and whether it accepts by itself
+abbrev pub accept_in : List (List ℕ) → Option (AcceptSettings × CreditMode × Bool)
+accept_in arguments = if has_only (Max ∷ Credit ∷ Auto ∷ Count ∷ Dyn ∷ []) arguments then accept_of arguments else None

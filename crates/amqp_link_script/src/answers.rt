@@ -1,8 +1,8 @@
 //! The text of the answers to calls for links.
 //!
-//! An answer is `pending`, `sender`, `receiver`, `sent`, `done`, `credit N`, `outcome STATE`, `delivery ID TAG MESSAGE` with the
+//! An answer is `pending`, `sender`, `receiver`, `sent`, `disposer`, `done`, `detached`, `closed`, `credit N`, `outcome STATE`, `delivery ID TAG MESSAGE` with the
 //! message in canonical bytes, or `error PATH FIELDS` with a PATH that begins with `SenderAttach`, `ReceiverAttach`, `Accept`, `Send`,
-//! `Recv`, `Disposition` or `Flow`. A STATE is `accepted`, `released`, `rejected` and the error or `-`, `modified F U MAP` with `yes`,
+//! `Recv`, `Disposition`, `Flow` or `Detach`. A STATE is `accepted`, `released`, `rejected` and the error or `-`, `modified F U MAP` with `yes`,
 //! `no` or `-` for the two flags, or `declared BYTES`. In place of the message stands `long` where it has no canonical bytes.
 ghost use Rattle.std.specs.Prelude.{◌≡◌, ◌++◌, OnOk};
 ghost use Rattle.amqp_messages.specs.Message.{seen};
@@ -14,7 +14,9 @@ ghost use Rattle.amqp_link_script.specs.Answers.{flag_text, optional_fault_text,
 use amqp_composites::error::Error as AmqpError;
 use amqp_data::OrderedMap;
 use amqp_delivery::DeliveryInfo;
-use amqp_error_texts::links::{push_accept, push_attach, push_illegal_state, push_recv, push_send};
+use amqp_error_texts::links::{
+    push_accept, push_attach, push_detach, push_illegal_state, push_recv, push_send,
+};
 use amqp_fields::{BaseError, FieldMap};
 use amqp_link_words::LinkReply;
 use amqp_messages::{Message, encode_message};
@@ -153,6 +155,7 @@ pub fn push_link_answer(
         LinkReply::Sender => push_word(out, b"sender"),
         LinkReply::Receiver => push_word(out, b"receiver"),
         LinkReply::Sent => push_word(out, b"sent"),
+        LinkReply::Disposer => push_word(out, b"disposer"),
         LinkReply::Outcome(state) => {
             out.extend_from_slice(b"outcome ")?;
             push_state(alloc, out, state)
@@ -173,5 +176,8 @@ pub fn push_link_answer(
             push_illegal_state(alloc, out, b"error Disposition.", error)
         }
         LinkReply::FlowError(error) => { push_illegal_state(alloc, out, b"error Flow.", error) }
+        LinkReply::Detached => push_word(out, b"detached"),
+        LinkReply::Closed => push_word(out, b"closed"),
+        LinkReply::DetachError(error) => { push_detach(alloc, out, b"error Detach.", error) }
     }
 }

@@ -3,30 +3,45 @@
 //! | word and arguments | the call |
 //! |---|---|
 //! | `sender S name=T target=T source=T snd=M rcv=R max=N count=N dynamic=yes` | the client attaches a sender on the session S |
-//! | `receiver S name=T source=T target=T snd=M rcv=R max=N credit=C dynamic=yes` | the client attaches a receiver |
-//! | `accept_link S max=N credit=C count=N dyn=T` | the listener accepts the first link that waits, or the next |
+//! | `receiver S name=T source=T target=T snd=M rcv=R max=N credit=C auto=yes dynamic=yes` | the client attaches a receiver |
+//! | `accept_link S max=N credit=C auto=yes count=N dyn=T` | the listener accepts the first link that waits, or the next |
 //! | `send L MSG settled=B batchable=yes` | sends a message at the sender L |
 //! | `outcome P` | asks what has become of the message that the step P sent |
 //! | `recv L` | asks the receiver L for the next message |
 //! | `dispose L STATE D,D` | gives the deliveries of the steps D, one or more, the state in which they end |
 //! | `set_credit L N`, `credit L` | gives credit, or asks for it |
+//! | `credit_mode L C` | sets when the receiver L gives credit |
+//! | `auto L B` | sets whether the receiver L accepts each delivery as it gives it |
+//! | `drain L` | asks the sender to use up its credit |
+//! | `send_properties L` | tells the sender how the link stands |
+//! | `disposer L` | makes a disposer of the deliveries of the receiver L |
+//! | `disposer_accept X D`, `disposer_release X D` | accepts or releases the delivery of the step D by the disposer X |
+//! | `on_detach L` | waits for the peer's Detach of the link L |
+//! | `detach L error=T`, `close_link L error=T` | detaches or closes it; T, if there, is the condition of an error |
+//! | `abandon L` | closes it, and waits for no answer |
 //!
-//! S, L, P and D are positions of steps, from 0, below 2^64. `name` is there at each `sender` and `receiver`. M is `unsettled`,
+//! S, L, P, D and X are positions of steps, from 0, below 2^64. `name` is there at each `sender` and `receiver`. M is `unsettled`,
 //! `settled` or `mixed`, as where it is left out; R is `first`, as where it is left out, or `second`. `max` (bytes, else no limit) is
 //! below 2^64, `count` (else 0) and credit below 2^32. C is `manual`, or how much credit is given again and again, 200 where it is
-//! left out. `dynamic` asks for a node that is made; `dyn` is the address of such nodes. B is `yes` or `no`. MSG is `text:T`, a message
+//! left out. With `auto` a receiver accepts each delivery as it gives it. `dynamic` asks for a node that is made; `dyn` is the address of such nodes. B is `yes` or `no`. MSG is `text:T`, a message
 //! with one string, or `hex:H`, the bytes of a message in hexadecimal digits. STATE is `accepted`, `released`, `rejected` or
 //! `rejected:T` with the condition of an error, `modified` or `modified:` with `f` (failed), `u` (undeliverable here) or `fu`.
 ghost use Rattle.std.specs.Prelude.{◌≡◌};
 ghost use Rattle.amqp_script.specs.Fields.{Says};
 ghost use Rattle.amqp_script.specs.Words.{words_left};
-ghost use Rattle.amqp_link_script.specs.Calls.{sender_call_in, receiver_call_in, accept_call_in, written_of, written_in, send_call_in, one_name_in, outcome_call_in, recv_call_in, credit_call_in, dispose_of, dispose_call_in, set_credit_of, set_credit_call_in, call_in};
+ghost use Rattle.amqp_link_script.specs.Names.{one_name_in};
+ghost use Rattle.amqp_link_script.specs.Partings.{on_detach_call_in, detach_call_in, close_call_in, abandon_call_in};
+ghost use Rattle.amqp_link_script.specs.Calls.{sender_call_in, receiver_call_in, accept_call_in, written_of, written_in, send_call_in, outcome_call_in, recv_call_in, credit_call_in, dispose_of, dispose_call_in, set_credit_of, set_credit_call_in, call_in};
 
 use crate::disposals::{names, state};
 use crate::keys::{LinkKey, flag, has_only, optional_choice, ulong};
+use crate::partings::{abandon_call, close_call, detach_call, on_detach_call};
+use crate::regulating::{
+    auto_call, credit_mode_call, dispose_by_call, disposer_call, regulating_call,
+};
 use crate::settings::{accept, receiver, sender};
 use crate::words::LinkWord;
-use amqp_link_words::{LinkCall, Sendable};
+use amqp_link_words::{Disposal, LinkCall, Regulation, Sendable};
 use amqp_script::script::fields::uint;
 use amqp_script::script::line_error::LineError;
 use amqp_script::script::words::Words;
@@ -70,11 +85,12 @@ fn accept_call(alloc: Global, arguments: Words<'_>) -> Result<LinkCall, LineErro
         return Err(LineError::Outside);
     };
     let session = ulong(session)?;
-    let (settings, credit_mode) = accept(alloc, arguments)?;
+    let (settings, credit_mode, auto_accept) = accept(alloc, arguments)?;
     Ok(LinkCall::Accept {
         session,
         settings,
         credit_mode,
+        auto_accept,
     })
 }
 
@@ -121,7 +137,7 @@ fn send_call(alloc: Global, arguments: Words<'_>) -> Result<LinkCall, LineError>
 }
 
 /// The one name that the arguments are.
-fn one_name(arguments: Words<'_>) -> Result<u64, LineError>
+pub(crate) fn one_name(arguments: Words<'_>) -> Result<u64, LineError>
     ensures { Says (one_name_in (words_left arguments.entry)) result }
 {
     let mut arguments = arguments;
@@ -230,5 +246,16 @@ pub fn call(alloc: Global, word: LinkWord, arguments: Words<'_>) -> Result<LinkC
         LinkWord::Dispose => dispose_call(alloc, arguments),
         LinkWord::SetCredit => set_credit_call(arguments),
         LinkWord::Credit => credit_call(arguments),
+        LinkWord::CreditMode => credit_mode_call(arguments),
+        LinkWord::Auto => auto_call(arguments),
+        LinkWord::Drain => regulating_call(arguments, Regulation::Drain),
+        LinkWord::SendProperties => regulating_call(arguments, Regulation::Properties),
+        LinkWord::Disposer => disposer_call(arguments),
+        LinkWord::DisposerAccept => dispose_by_call(arguments, Disposal::Accepted),
+        LinkWord::DisposerRelease => dispose_by_call(arguments, Disposal::Released),
+        LinkWord::OnDetach => on_detach_call(arguments),
+        LinkWord::Detach => detach_call(alloc, arguments),
+        LinkWord::CloseLink => close_call(alloc, arguments),
+        LinkWord::Abandon => abandon_call(arguments),
     }
 }

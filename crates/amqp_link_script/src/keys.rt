@@ -41,6 +41,10 @@ pub enum LinkKey {
     Settled,
     /// Whether the receiver may wait with its Disposition.
     Batchable,
+    /// Whether a receiver accepts each delivery as it gives it.
+    Auto,
+    /// The condition of an error.
+    Error,
 }
 
 impl LinkKey {
@@ -61,6 +65,8 @@ impl LinkKey {
             LinkKey::Dyn => b"dyn",
             LinkKey::Settled => b"settled",
             LinkKey::Batchable => b"batchable",
+            LinkKey::Auto => b"auto",
+            LinkKey::Error => b"error",
         }
     }
 }
@@ -130,7 +136,8 @@ pub fn flag(arguments: Words<'_>, key: LinkKey) -> Result<bool, LineError>
     }
 }
 
-fn choice(word: &[u8]) -> Result<bool, LineError>
+/// What `yes` or `no` says.
+pub fn choice(word: &[u8]) -> Result<bool, LineError>
     ensures { Says (choice_in word.now) result }
 {
     if is_text(word, b"yes") {

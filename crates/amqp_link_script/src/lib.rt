@@ -6,5 +6,7 @@ pub mod calls;
 pub mod disposals;
 pub mod keys;
 pub mod messages;
+mod partings;
+mod regulating;
 pub mod settings;
 pub mod words;

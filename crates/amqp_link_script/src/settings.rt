@@ -29,7 +29,7 @@ const SENDER_KEYS: [LinkKey; 8] = [
     LinkKey::Dynamic,
 ];
 
-const RECEIVER_KEYS: [LinkKey; 8] = [
+const RECEIVER_KEYS: [LinkKey; 9] = [
     LinkKey::Name,
     LinkKey::Source,
     LinkKey::Target,
@@ -37,10 +37,17 @@ const RECEIVER_KEYS: [LinkKey; 8] = [
     LinkKey::Rcv,
     LinkKey::Max,
     LinkKey::Credit,
+    LinkKey::Auto,
     LinkKey::Dynamic,
 ];
 
-const ACCEPT_KEYS: [LinkKey; 4] = [LinkKey::Max, LinkKey::Credit, LinkKey::Count, LinkKey::Dyn];
+const ACCEPT_KEYS: [LinkKey; 5] = [
+    LinkKey::Max,
+    LinkKey::Credit,
+    LinkKey::Auto,
+    LinkKey::Count,
+    LinkKey::Dyn,
+];
 
 fn read_sender_mode(word: &[u8]) -> Result<SenderSettleMode, LineError>
     ensures { Says (sender_mode_of word.now) result }
@@ -87,7 +94,8 @@ fn receiver_mode(arguments: Words<'_>) -> Result<ReceiverSettleMode, LineError>
     }
 }
 
-fn read_credit_mode(word: &[u8]) -> Result<CreditMode, LineError>
+/// When credit is given.
+pub fn read_credit_mode(word: &[u8]) -> Result<CreditMode, LineError>
     ensures { Says (credit_mode_of word.now) result }
 {
     if is_text(word, b"manual") {
@@ -163,6 +171,7 @@ fn receiver_fields(alloc: Global, arguments: Words<'_>) -> Result<ReceiverSettin
     let rcv_settle_mode = receiver_mode(arguments)?;
     let max_message_size = max_message_size(arguments)?;
     let credit_mode = credit_mode(arguments)?;
+    let auto_accept = flag(arguments, LinkKey::Auto)?;
     Ok(ReceiverSettings {
         name,
         source,
@@ -172,6 +181,7 @@ fn receiver_fields(alloc: Global, arguments: Words<'_>) -> Result<ReceiverSettin
         rcv_settle_mode,
         max_message_size,
         credit_mode,
+        auto_accept,
         verify: true,
     })
 }
@@ -190,26 +200,27 @@ pub fn receiver(alloc: Global, arguments: Words<'_>) -> Result<ReceiverSettings,
 fn accept_fields(
     alloc: Global,
     arguments: Words<'_>,
-) -> Result<(AcceptSettings, CreditMode), LineError>
+) -> Result<(AcceptSettings, CreditMode, bool), LineError>
     ensures { Says (accept_of (words_left arguments.entry)) result }
 {
     let max_message_size = max_message_size(arguments)?;
     let initial_delivery_count = count(arguments)?;
     let dynamic_address = optional_text(alloc, arguments, LinkKey::Dyn)?;
     let credit_mode = credit_mode(arguments)?;
+    let auto_accept = flag(arguments, LinkKey::Auto)?;
     let settings = AcceptSettings {
         max_message_size,
         initial_delivery_count,
         dynamic_address,
     };
-    Ok((settings, credit_mode))
+    Ok((settings, credit_mode, auto_accept))
 }
 
-/// What the arguments say of a link that is accepted, and when it gives credit as a receiver.
+/// What the arguments say of a link that is accepted; as a receiver when it gives credit, and whether it accepts by itself.
 pub fn accept(
     alloc: Global,
     arguments: Words<'_>,
-) -> Result<(AcceptSettings, CreditMode), LineError>
+) -> Result<(AcceptSettings, CreditMode, bool), LineError>
     ensures { Says (accept_in (words_left arguments.entry)) result }
 {
     if !has_only(&ACCEPT_KEYS, arguments) {

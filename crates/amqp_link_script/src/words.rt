@@ -1,6 +1,6 @@
 //! The words of links.
 ghost use Rattle.std.specs.Prelude.{◌≡◌};
-ghost use Rattle.amqp_link_script.specs.Words.{word_of};
+ghost use Rattle.amqp_link_script.specs.Words.{regulating_word_of, word_of, parting_word_of};
 
 use amqp_script::script::words::is_text;
 
@@ -25,9 +25,61 @@ pub enum LinkWord {
     SetCredit,
     /// Asks how much credit the sender has.
     Credit,
+    /// Sets when a receiver gives credit.
+    CreditMode,
+    /// Sets whether a receiver accepts each delivery as it gives it.
+    Auto,
+    /// Asks the sender to use up its credit.
+    Drain,
+    /// Tells the sender how the link stands.
+    SendProperties,
+    /// Makes a disposer.
+    Disposer,
+    /// Accepts a delivery by a disposer.
+    DisposerAccept,
+    /// Releases a delivery by a disposer.
+    DisposerRelease,
+    /// Waits for the peer's Detach.
+    OnDetach,
+    /// Detaches a link.
+    Detach,
+    /// Closes a link.
+    CloseLink,
+    /// Closes a link, and waits for no answer.
+    Abandon,
+}
+
+/// The word that the bytes are, if they are one by which a receiver goes on otherwise, or one of its disposers.
+#[tactic(auto, unfolding(crate::specs::Words::regulating_word_of))]
+fn regulating_word(word: &[u8]) -> Option<LinkWord>
+    ensures { result ≡ regulating_word_of word.now }
+{
+    if is_text(word, b"credit_mode") {
+        return Some(LinkWord::CreditMode);
+    }
+    if is_text(word, b"auto") {
+        return Some(LinkWord::Auto);
+    }
+    if is_text(word, b"drain") {
+        return Some(LinkWord::Drain);
+    }
+    if is_text(word, b"send_properties") {
+        return Some(LinkWord::SendProperties);
+    }
+    if is_text(word, b"disposer") {
+        return Some(LinkWord::Disposer);
+    }
+    if is_text(word, b"disposer_accept") {
+        return Some(LinkWord::DisposerAccept);
+    }
+    if is_text(word, b"disposer_release") {
+        return Some(LinkWord::DisposerRelease);
+    }
+    parting_word(word)
 }
 
 /// The word of links that the bytes are, if they are one.
+#[tactic(auto, unfolding(crate::specs::Words::word_of))]
 pub fn link_word(word: &[u8]) -> Option<LinkWord>
     ensures { result ≡ word_of word.now }
 {
@@ -57,6 +109,26 @@ pub fn link_word(word: &[u8]) -> Option<LinkWord>
     }
     if is_text(word, b"credit") {
         return Some(LinkWord::Credit);
+    }
+    regulating_word(word)
+}
+
+/// The word by which a link is left that the bytes are, if they are one.
+#[tactic(auto, unfolding(crate::specs::Words::parting_word_of))]
+fn parting_word(word: &[u8]) -> Option<LinkWord>
+    ensures { result ≡ parting_word_of word.now }
+{
+    if is_text(word, b"on_detach") {
+        return Some(LinkWord::OnDetach);
+    }
+    if is_text(word, b"detach") {
+        return Some(LinkWord::Detach);
+    }
+    if is_text(word, b"close_link") {
+        return Some(LinkWord::CloseLink);
+    }
+    if is_text(word, b"abandon") {
+        return Some(LinkWord::Abandon);
     }
     None
 }

@@ -19,7 +19,7 @@ use Rattle.amqp_link_tables.specs.declared.deliveries.Delivered.{Delivered}
 use Rattle.amqp_link_tables.specs.declared.error.AllocLinkError.{AllocLinkError}
 use Rattle.amqp_link_tables.specs.declared.handles.Held.{Held}
 use Rattle.amqp_link_tables.specs.Calls.{link_at, names, with_names, allocation, allocated, attached, released_at, released}
-use Rattle.amqp_link_tables.specs.Deliveries.{entered, forgotten}
+use Rattle.amqp_link_tables.specs.Deliveries.{entered, forgotten, AreApart}
 use Rattle.amqp_link_tables.specs.Laws.{IsApart}
 use Rattle.amqp_link_tables.specs.State.{State, no_links}
 
@@ -102,13 +102,16 @@ unfolding IsDistinct
 unfolded = tt
 
 pub apart_none : IsApart no_links
-apart_none = (unfolded, unfolded)
+apart_none = unfolded
+
+pub unnumbered : AreApart []
+unnumbered = unfolded
 
 apart_answered : (o : Result ℕ AllocLinkError) (name : List ℕ) (role : Role) (link : ℕ) (s : State) → IsApart s → IsApart (allocated o name role link s)
 apart_answered (Err e) name role link s a = a
 apart_answered (Ok handle) name role link s a =
     let t : State = entering handle (held_of name role link) s in
-    apart_named role (insert_entry bytes_eq (names role t) name link) t (distinct handle (held_of name role link) s.handles a.0, a.1)
+    apart_named role (insert_entry bytes_eq (names role t) name link) t (distinct handle (held_of name role link) s.handles a)
 
 pub apart_allocated : (name : List ℕ) (role : Role) (max link : ℕ) (s : State) → IsApart s → IsApart (allocated (allocation name role max s) name role link s)
 apart_allocated name role max link s a = apart_answered (allocation name role max s) name role link s a
@@ -117,16 +120,16 @@ apart_at : (o : Option Held) (handle : ℕ) (s : State) → IsApart s → IsApar
 apart_at None handle s a = a
 apart_at (Some held) handle s a =
     let t : State = leaving handle s in
-    apart_named held.role (swap_remove_entry (bytes_eq held.name) (names held.role t)) t ((left handle s.handles a.0).unique, a.1)
+    apart_named held.role (swap_remove_entry (bytes_eq held.name) (names held.role t)) t (left handle s.handles a).unique
 
 pub apart_released : (handle : ℕ) (s : State) → IsApart s → IsApart (released handle s)
 apart_released handle s a = apart_at (lookup (nat_eq handle) s.handles) handle s a
 
-pub apart_entered : (id : ℕ) (d : Delivered) (s : State) → IsApart s → IsApart (entered id d s)
-apart_entered id d s a = (a.0, distinct id d s.deliveries a.1)
+pub apart_entered : (id : ℕ) (d : Delivered) (ds : List (ℕ × Delivered)) → AreApart ds → AreApart (entered id d ds)
+apart_entered id d ds a = distinct id d ds a
 
-pub apart_forgotten : (id : ℕ) (s : State) → IsApart s → IsApart (forgotten id s)
-apart_forgotten id s a = (a.0, (left id s.deliveries a.1).unique)
+pub apart_forgotten : (id : ℕ) (ds : List (ℕ × Delivered)) → AreApart ds → AreApart (forgotten id ds)
+apart_forgotten id ds a = (left id ds a).unique
 
 -- ---- the links of the handles
 
@@ -154,7 +157,7 @@ free_at : (o : Option Held) (handle : ℕ) (s : State) → lookup (nat_eq handle
 free_at None handle s e a = ap link_of e
 free_at (Some held) handle s e a =
     let t : State = leaving handle s in
-    ap (λ hs. link_of (lookup (nat_eq handle) hs)) (handles_named held.role (swap_remove_entry (bytes_eq held.name) (names held.role t)) t) ∙ ap link_of (left handle s.handles a.0).gone
+    ap (λ hs. link_of (lookup (nat_eq handle) hs)) (handles_named held.role (swap_remove_entry (bytes_eq held.name) (names held.role t)) t) ∙ ap link_of (left handle s.handles a).gone
 
 pub free_again : (handle : ℕ) (s : State) → IsApart s → link_at handle (released handle s) ≡ None
 free_again handle s a = free_at (lookup (nat_eq handle) s.handles) handle s refl a
@@ -163,7 +166,7 @@ others_at : (o : Option Held) (handle other : ℕ) (s : State) → IsApart s →
 others_at None handle other s a apart = refl
 others_at (Some held) handle other s a apart =
     let t : State = leaving handle s in
-    ap (λ hs. link_of (lookup (nat_eq other) hs)) (handles_named held.role (swap_remove_entry (bytes_eq held.name) (names held.role t)) t) ∙ ap link_of ((left handle s.handles a.0).others other apart)
+    ap (λ hs. link_of (lookup (nat_eq other) hs)) (handles_named held.role (swap_remove_entry (bytes_eq held.name) (names held.role t)) t) ∙ ap link_of ((left handle s.handles a).others other apart)
 
 pub others_released : (handle other : ℕ) (s : State) → IsApart s → nat_eq handle other ≡ false → link_at other (released handle s) ≡ link_at other s
 others_released handle other s a apart = others_at (lookup (nat_eq handle) s.handles) handle other s a apart

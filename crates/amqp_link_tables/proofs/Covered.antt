@@ -6,9 +6,7 @@ use Rattle.std.proofs.lemmas.Map.Keys.{IsDistinct-head, IsDistinct-tail}
 use Rattle.std.specs.List.{AllByRecursion, IsDistinct, count_by}
 use Rattle.std.specs.Map.{lookup, keys_of}
 use Rattle.amqp_link_tables.specs.declared.deliveries.Delivered.{Delivered}
-use Rattle.amqp_link_tables.specs.Laws.{IsApart}
-use Rattle.amqp_link_tables.specs.State.{State}
-use Rattle.amqp_link_tables.specs.Deliveries.{ahead, number_at, is_within, is_there, IsCover, covered_by_range, covered_by_table, covered}
+use Rattle.amqp_link_tables.specs.Deliveries.{ahead, number_at, is_within, is_there, AreApart, IsCover, covered_by_range, covered_by_table, covered}
 use Rattle.std.proofs.lemmas.List.{append-nil}
 use Rattle.std.proofs.lemmas.List.FromFn.{filter_of_map_range_with_len_more, sum_by-map-range_with_len_more}
 use Rattle.std.specs.List.{range_with_len}
@@ -147,9 +145,6 @@ chosen_covers : (c : Bool) (first last : ℕ) (ds : List (ℕ × Delivered)) (xs
 chosen_covers true first last ds xs ys p q = p
 chosen_covers false first last ds xs ys p q = q
 
-pub covers : (first last : ℕ) (s : State) → first < 2 ^ 32 → last < 2 ^ 32 → IsDistinct nat_eq (keys_of s.deliveries) → IsCover first last s.deliveries (covered first last s)
-covers first last s f l d =
-    chosen_covers (nat_lt (ahead first last) (length s.deliveries)) first last s.deliveries (covered_by_range first last s.deliveries) (covered_by_table first last s.deliveries) (range_covers first last s.deliveries f l) (table_covers first last s.deliveries d)
-
-pub covers_apart : (first last : ℕ) (s : State) → first < 2 ^ 32 → last < 2 ^ 32 → IsApart s → IsCover first last s.deliveries (covered first last s)
-covers_apart first last s f l a = covers first last s f l a.1
+pub covers : (first last : ℕ) (ds : List (ℕ × Delivered)) → first < 2 ^ 32 → last < 2 ^ 32 → AreApart ds → IsCover first last ds (covered first last ds)
+covers first last ds f l d =
+    chosen_covers (nat_lt (ahead first last) (length ds)) first last ds (covered_by_range first last ds) (covered_by_table first last ds) (range_covers first last ds f l) (table_covers first last ds d)

@@ -1,22 +1,29 @@
--- The deliveries of this end by their numbers, which are modulo 2^32 (OASIS AMQP 1.0, part 2, section 2.8.9; RFC 1982, section 3).
+-- Deliveries by their numbers, which are modulo 2^32 (OASIS AMQP 1.0, part 2, section 2.8.9; RFC 1982, section 3).
 use Rattle.std.specs.Prelude.{◌≡◌, ℕ, ◌+◌, ◌-◌, ◌%◌, ◌^◌, ◌<◌, ◌&&◌, Bool, nat_eq, nat_le, nat_lt, List, map, length, Option, is_some, if◌then◌else◌}
-use Rattle.std.specs.List.{filter, range_with_len, count_by}
+use Rattle.std.specs.List.{filter, range_with_len, count_by, IsDistinct}
 use Rattle.std.specs.Map.{lookup, keys_of}
 use Rattle.indexmap.specs.IndexMap.{insert_entry, swap_remove_entry}
 use Rattle.amqp_link_tables.specs.declared.deliveries.Delivered.{Delivered}
-use Rattle.amqp_link_tables.specs.State.{State}
+use Rattle.amqp_link_tables.specs.declared.deliveries.DeliveryTable.{DeliveryTable}
+
+abbrev pub deliveries_in : DeliveryTable → List (ℕ × Delivered)
+deliveries_in t = t.deliveries.entries
 
 -- a delivery has that number
-abbrev pub entered : ℕ → Delivered → State → State
-entered id delivery s = record s { deliveries = insert_entry nat_eq s.deliveries id delivery }
+abbrev pub entered : ℕ → Delivered → List (ℕ × Delivered) → List (ℕ × Delivered)
+entered id delivery ds = insert_entry nat_eq ds id delivery
 
 -- the delivery of that number
-abbrev pub delivery_of : ℕ → State → Option Delivered
-delivery_of id s = lookup (nat_eq id) s.deliveries
+abbrev pub delivery_of : ℕ → List (ℕ × Delivered) → Option Delivered
+delivery_of id ds = lookup (nat_eq id) ds
 
 -- no delivery has that number
-abbrev pub forgotten : ℕ → State → State
-forgotten id s = record s { deliveries = swap_remove_entry (nat_eq id) s.deliveries }
+abbrev pub forgotten : ℕ → List (ℕ × Delivered) → List (ℕ × Delivered)
+forgotten id ds = swap_remove_entry (nat_eq id) ds
+
+-- no number stands twice
+abbrev pub AreApart : List (ℕ × Delivered) → Type 0
+AreApart ds = IsDistinct nat_eq (keys_of ds)
 
 -- how far a number is ahead of the first
 abbrev pub ahead : ℕ → ℕ → ℕ
@@ -43,9 +50,8 @@ abbrev pub covered_by_table : ℕ → ℕ → List (ℕ × Delivered) → List �
 covered_by_table first last ds = filter (is_within first last) (keys_of ds)
 
 -- the numbers from the first to the last that have a delivery: by the range where that has no more numbers than there are deliveries
-abbrev pub covered : ℕ → ℕ → State → List ℕ
-covered first last s =
-    let ds = s.deliveries in
+abbrev pub covered : ℕ → ℕ → List (ℕ × Delivered) → List ℕ
+covered first last ds =
     if nat_lt (ahead first last) (length ds) then covered_by_range first last ds else covered_by_table first last ds
 
 -- a number stands there once if a delivery has it and it is one from the first to the last, and else not at all

@@ -9,9 +9,9 @@ use Rattle.amqp_link_tables.specs.Handles.{is_held, IsLowestFree}
 use Rattle.amqp_link_tables.specs.Calls.{link_named}
 use Rattle.amqp_link_tables.specs.State.{State}
 
--- no handle of this end and no number stands twice
+-- no handle of this end stands twice
 abbrev pub IsApart : State → Type 0
-IsApart s = IsDistinct nat_eq (keys_of s.handles) × IsDistinct nat_eq (keys_of s.deliveries)
+IsApart s = IsDistinct nat_eq (keys_of s.handles)
 
 -- what the answer to a call for a handle means
 pub record IsRight (answer : Result ℕ AllocLinkError) (name : List ℕ) (role : Role) (max : ℕ) (s : State) : Type 0 where

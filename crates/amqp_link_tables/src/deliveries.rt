@@ -1,14 +1,13 @@
-//! The deliveries of this end by their numbers, which are modulo 2 ^ 32 (OASIS AMQP 1.0, part 2, section 2.8.9; RFC 1982).
-ghost use Rattle.std.specs.Prelude.{◌≡◌, ◌+◌, ◌≤◌, ◌^◌, OnOk, IfOk};
+//! Deliveries by their numbers, which are modulo 2 ^ 32 (OASIS AMQP 1.0, part 2, section 2.8.9; RFC 1982).
+ghost use Rattle.std.specs.Prelude.{◌≡◌, ◌+◌, ◌≤◌, ◌^◌, [], OnOk, IfOk};
 ghost use Rattle.std.specs.Option.{option_copied};
-ghost use Rattle.amqp_link_tables.specs.Deliveries.{entered, delivery_of, forgotten, ahead, is_within, covered_by_range, covered_by_table, covered, IsCover};
-ghost use Rattle.amqp_link_tables.specs.State.{seen};
+ghost use Rattle.amqp_link_tables.specs.Deliveries.{deliveries_in, entered, delivery_of, forgotten, ahead, is_within, covered_by_range, covered_by_table, covered, IsCover};
 
-use crate::table::LinkTable;
 use amqp_text::Binary;
-use std::alloc::AllocError;
+use indexmap::IndexMap;
+use std::alloc::{AllocError, Global};
 
-/// A delivery that this end has sent and that is not settled at both ends.
+/// A delivery that is not settled at both ends.
 pub struct Delivered {
     /// The name under which its link is called.
     pub link: u64,
@@ -20,6 +19,23 @@ impl Drop for Delivered {
     fn drop(self) {
         let Delivered { link: _, tag } = self;
         drop(tag);
+    }
+}
+
+/// The deliveries of one session in one direction, by their numbers.
+pub struct DeliveryTable {
+    alloc: Global,
+    deliveries: IndexMap<u32, Delivered>,
+}
+
+// The table is let go by a call, so that no caller sees what stands in it.
+impl Drop for DeliveryTable {
+    fn drop(self) {
+        let DeliveryTable {
+            alloc: _,
+            deliveries,
+        } = self;
+        drop(deliveries);
     }
 }
 
@@ -45,10 +61,20 @@ fn is_within(first: u32, last: u32, number: u32) -> bool
     ahead(first, number) <= ahead(first, last)
 }
 
-impl LinkTable {
+impl DeliveryTable {
+    /// No deliveries; takes no memory.
+    pub fn new(alloc: Global) -> Self
+        ensures { deliveries_in result ≡ [] }
+    {
+        DeliveryTable {
+            alloc,
+            deliveries: IndexMap::new(alloc),
+        }
+    }
+
     /// A delivery has that number. The one error is want of memory.
     pub fn enter(&mut self, delivery_id: u32, delivery: Delivered) -> Result<(), AllocError>
-        ensures { OnOk result (seen self.new ≡ entered delivery_id delivery (seen self.old)) }
+        ensures { OnOk result (deliveries_in self.new ≡ entered delivery_id delivery (deliveries_in self.old)) }
     {
         drop(self.deliveries.insert(delivery_id, delivery)?);
         Ok(())
@@ -56,16 +82,16 @@ impl LinkTable {
 
     /// The delivery of that number.
     pub fn delivery(&self, delivery_id: u32) -> Option<&Delivered>
-        ensures { option_copied result ≡ delivery_of delivery_id (seen self.now) }
+        ensures { option_copied result ≡ delivery_of delivery_id (deliveries_in self.now) }
     {
         self.deliveries.get(&delivery_id)
     }
 
     /// No delivery has that number. The answer is the one that had it.
     pub fn forget(&mut self, delivery_id: u32) -> Option<Delivered>
-        ensures delivery { result ≡ delivery_of delivery_id (seen self.old) }
-        ensures state { seen self.new ≡ forgotten delivery_id (seen self.old) }
-        ensures gone { delivery_of delivery_id (seen self.new) ≡ None }
+        ensures delivery { result ≡ delivery_of delivery_id (deliveries_in self.old) }
+        ensures state { deliveries_in self.new ≡ forgotten delivery_id (deliveries_in self.old) }
+        ensures gone { delivery_of delivery_id (deliveries_in self.new) ≡ None }
     {
         self.deliveries.swap_remove(&delivery_id)
     }
@@ -73,8 +99,8 @@ impl LinkTable {
     /// The numbers from the first to the last, modulo 2 ^ 32, that have a delivery: each once. It takes time for as many numbers as the
     /// range has, or as there are deliveries, whichever is less. The one error is want of memory.
     pub fn covered(&self, first: u32, last: u32) -> Result<Vec<u32>, AllocError>
-        ensures numbers { IfOk result (λ numbers. numbers.items ≡ covered first last (seen self.now)) }
-        ensures once { IfOk result (λ numbers. IsCover first last (seen self.now).deliveries numbers.items) }
+        ensures numbers { IfOk result (λ numbers. numbers.items ≡ covered first last (deliveries_in self.now)) }
+        ensures once { IfOk result (λ numbers. IsCover first last (deliveries_in self.now) numbers.items) }
     {
         if (ahead(first, last) as usize) < self.deliveries.len() {
             self.covered_by_range(first, last)
@@ -85,7 +111,7 @@ impl LinkTable {
 
     /// Those numbers, in the order of the range.
     fn covered_by_range(&self, first: u32, last: u32) -> Result<Vec<u32>, AllocError>
-        ensures { IfOk result (λ numbers. numbers.items ≡ covered_by_range first last (seen self.now).deliveries) }
+        ensures { IfOk result (λ numbers. numbers.items ≡ covered_by_range first last (deliveries_in self.now)) }
     {
         let mut numbers = Vec::new(self.alloc);
         for steps in 0..width(first, last) {
@@ -99,7 +125,7 @@ impl LinkTable {
 
     /// Those numbers, in the order of the table.
     fn covered_by_table(&self, first: u32, last: u32) -> Result<Vec<u32>, AllocError>
-        ensures { IfOk result (λ numbers. numbers.items ≡ covered_by_table first last (seen self.now).deliveries) }
+        ensures { IfOk result (λ numbers. numbers.items ≡ covered_by_table first last (deliveries_in self.now)) }
     {
         self.deliveries
             .keys()

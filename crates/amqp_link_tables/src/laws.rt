@@ -1,9 +1,9 @@
 //! What follows of the contracts, over the whole life of a session's links.
-ghost use Rattle.std.specs.Prelude.{◌≡◌, ℕ, ◌<◌, ◌^◌, nat_eq, true, false, List, Some, None, Ok};
+ghost use Rattle.std.specs.Prelude.{◌≡◌, ℕ, ◌<◌, ◌^◌, nat_eq, true, false, List, [], Some, None, Ok};
 ghost use Rattle.amqp_composites.specs.declared.modes.Role.{Role};
 ghost use Rattle.amqp_link_tables.specs.declared.deliveries.Delivered.{Delivered};
 ghost use Rattle.amqp_link_tables.specs.Calls.{link_at, allocation, allocated, attached, released, joined, parted, spending, is_spent};
-ghost use Rattle.amqp_link_tables.specs.Deliveries.{entered, forgotten, covered, IsCover};
+ghost use Rattle.amqp_link_tables.specs.Deliveries.{entered, forgotten, covered, AreApart, IsCover};
 ghost use Rattle.amqp_link_tables.specs.Laws.{IsApart, IsRight};
 ghost use Rattle.amqp_link_tables.specs.State.{State, no_links};
 
@@ -15,7 +15,7 @@ pub fn answers_are_right()
 {}
 
 /// At every moment no handle of this end and no number of a delivery stands twice.
-#[tactic(auto, using(crate::proofs::Apart::apart_none, crate::proofs::Apart::apart_allocated, crate::proofs::Apart::apart_released, crate::proofs::Apart::apart_entered, crate::proofs::Apart::apart_forgotten))]
+#[tactic(auto, using(crate::proofs::Apart::apart_none, crate::proofs::Apart::apart_allocated, crate::proofs::Apart::apart_released, crate::proofs::Apart::unnumbered, crate::proofs::Apart::apart_entered, crate::proofs::Apart::apart_forgotten))]
 pub fn nothing_stands_twice()
     ensures none { IsApart no_links }
     ensures allocated { (name : List ℕ) (role : Role) (max link : ℕ) (s : State) → IsApart s → IsApart (allocated (allocation name role max s) name role link s) }
@@ -23,8 +23,9 @@ pub fn nothing_stands_twice()
     ensures joined { (remote link : ℕ) (s : State) → IsApart s → IsApart (joined remote link s) }
     ensures parted { (remote : ℕ) (s : State) → IsApart s → IsApart (parted remote s) }
     ensures spending { (name : List ℕ) (s : State) → IsApart s → IsApart (spending name s) }
-    ensures entered { (id : ℕ) (d : Delivered) (s : State) → IsApart s → IsApart (entered id d s) }
-    ensures forgotten { (id : ℕ) (s : State) → IsApart s → IsApart (forgotten id s) }
+    ensures unnumbered { AreApart [] }
+    ensures entered { (id : ℕ) (d : Delivered) (ds : List (ℕ × Delivered)) → AreApart ds → AreApart (entered id d ds) }
+    ensures forgotten { (id : ℕ) (ds : List (ℕ × Delivered)) → AreApart ds → AreApart (forgotten id ds) }
 {}
 
 /// Two links never have one handle: one that a call gets had no link, and each other handle keeps its own.
@@ -52,7 +53,7 @@ pub fn spent_is_spent()
 {}
 
 /// Of the numbers from the first to the last, modulo 2 ^ 32, those that have a delivery are covered, each once, and no others.
-#[tactic(auto, using(crate::proofs::Covered::covers_apart))]
+#[tactic(auto, using(crate::proofs::Covered::covers))]
 pub fn covers_each_once()
-    ensures { (first last : ℕ) (s : State) → first < 2 ^ 32 → last < 2 ^ 32 → IsApart s → IsCover first last s.deliveries (covered first last s) }
+    ensures { (first last : ℕ) (ds : List (ℕ × Delivered)) → first < 2 ^ 32 → last < 2 ^ 32 → AreApart ds → IsCover first last ds (covered first last ds) }
 {}

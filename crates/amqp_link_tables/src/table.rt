@@ -4,7 +4,6 @@ ghost use Rattle.amqp_link_tables.specs.Handles.{IsLowestFree};
 ghost use Rattle.amqp_link_tables.specs.Calls.{link_at, link_named, named, unnamed, attached, allocation, allocated, IsAnswer, ButForMemory, released, joined, link_from, parted, spending, is_spent};
 ghost use Rattle.amqp_link_tables.specs.State.{seen, no_links};
 
-use crate::deliveries::Delivered;
 use crate::error::AllocLinkError;
 use crate::handles::{Handles, Held};
 use amqp_composites::modes::Role;
@@ -12,10 +11,10 @@ use amqp_text::Text;
 use indexmap::{IndexMap, IndexSet};
 use std::alloc::{AllocError, Global};
 
-/// The links of one session, which are known by the names under which they are called: by the handles of both ends, by their names in
-/// their roles, and by the numbers of their deliveries.
+/// The links of one session, which are known by the names under which they are called: by the handles of both ends, and by their names in
+/// their roles.
 pub struct LinkTable {
-    pub(crate) alloc: Global,
+    alloc: Global,
     /// The handles of this end.
     handles: Handles,
     /// The links at which this end sends, by their names.
@@ -26,8 +25,6 @@ pub struct LinkTable {
     remotes: IndexMap<u32, u64>,
     /// The names that no attach may use again.
     spent: IndexSet<Text>,
-    /// The deliveries of this end by their numbers.
-    pub(crate) deliveries: IndexMap<u32, Delivered>,
 }
 
 // The table is let go by a call, so that no caller sees what stands in it.
@@ -40,14 +37,12 @@ impl Drop for LinkTable {
             receivers,
             remotes,
             spent,
-            deliveries,
         } = self;
         drop(handles);
         drop(senders);
         drop(receivers);
         drop(remotes);
         drop(spent);
-        drop(deliveries);
     }
 }
 
@@ -63,7 +58,6 @@ impl LinkTable {
             receivers: IndexMap::new(alloc),
             remotes: IndexMap::new(alloc),
             spent: IndexSet::new(alloc),
-            deliveries: IndexMap::new(alloc),
         }
     }
 

@@ -78,6 +78,7 @@ pub(crate) fn copied_receiver(
         rcv_settle_mode: settings.rcv_settle_mode,
         max_message_size: settings.max_message_size,
         credit_mode: settings.credit_mode,
+        auto_accept: settings.auto_accept,
         verify: settings.verify,
     })
 }

@@ -3,6 +3,7 @@ ghost use Rattle.std.specs.Prelude.{◌≡◌, IfOk};
 
 use crate::copies::{copied_accept, copied_condition, copied_receiver, copied_sender};
 use crate::names::NameList;
+use crate::regulation::Regulation;
 use amqp_delivery::CreditMode;
 use amqp_link::AcceptSettings;
 use amqp_receiver::ReceiverSettings;
@@ -42,6 +43,25 @@ pub enum Disposal {
     },
 }
 
+/// How a link is left (part 2, sections 2.6.4 to 2.6.6).
+#[derive(Debug, Drop)]
+pub enum Parting {
+    /// Waits for the peer's Detach.
+    OnDetach,
+    /// Detaches the link.
+    Detach {
+        /// The condition of the error that the peer is told, if it is told one.
+        error: Option<Symbol>,
+    },
+    /// Closes the link.
+    Close {
+        /// The condition of the error that the peer is told, if it is told one.
+        error: Option<Symbol>,
+    },
+    /// Closes the link, and waits for no answer.
+    Abandon,
+}
+
 /// A call for a link, or on a link. A link is known by the name of the call that made it, and so are sends and deliveries.
 #[derive(Debug, Drop)]
 pub enum LinkCall {
@@ -67,6 +87,8 @@ pub enum LinkCall {
         settings: AcceptSettings,
         /// When a receiver gives credit.
         credit_mode: CreditMode,
+        /// Whether a receiver accepts each delivery as it gives it.
+        auto_accept: bool,
     },
     /// Sends a message.
     Send {
@@ -105,6 +127,34 @@ pub enum LinkCall {
     Credit {
         /// The name of the receiver.
         link: u64,
+    },
+    /// Has a receiver go on otherwise.
+    Regulate {
+        /// The name of the receiver.
+        link: u64,
+        /// How.
+        regulation: Regulation,
+    },
+    /// Makes a disposer of the deliveries of a receiver, which keeps how the link stands.
+    Disposer {
+        /// The name of the receiver.
+        link: u64,
+    },
+    /// Gives a delivery a state in which it ends, by a disposer.
+    DisposeBy {
+        /// The name of the call that made the disposer.
+        disposer: u64,
+        /// The state.
+        disposal: Disposal,
+        /// The name of the call that gave the delivery.
+        delivery: u64,
+    },
+    /// Leaves a link.
+    Part {
+        /// The name of the link.
+        link: u64,
+        /// How it is left.
+        parting: Parting,
     },
 }
 
@@ -146,7 +196,34 @@ impl Disposal {
     }
 }
 
+impl Parting {
+    /// A copy; the one error is want of memory.
+    pub fn try_clone(&self, alloc: Global) -> Result<Self, AllocError>
+        ensures { IfOk result (λ p. p ≡ self.now) }
+    {
+        match self {
+            Parting::OnDetach => Ok(Parting::OnDetach),
+            Parting::Detach { error } => {
+                let error = copied_condition(alloc, error)?;
+                Ok(Parting::Detach { error })
+            }
+            Parting::Close { error } => {
+                let error = copied_condition(alloc, error)?;
+                Ok(Parting::Close { error })
+            }
+            Parting::Abandon => Ok(Parting::Abandon),
+        }
+    }
+}
+
 impl LinkCall {
+    fn part(alloc: Global, link: u64, parting: &Parting) -> Result<Self, AllocError>
+        ensures { IfOk result (λ c. c ≡ LinkCall.Part link parting.now) }
+    {
+        let parting = parting.try_clone(alloc)?;
+        Ok(LinkCall::Part { link, parting })
+    }
+
     fn sender(alloc: Global, session: u64, settings: &SenderSettings) -> Result<Self, AllocError>
         ensures { IfOk result (λ c. c ≡ LinkCall.Sender session settings.now) }
     {
@@ -170,14 +247,16 @@ impl LinkCall {
         session: u64,
         settings: &AcceptSettings,
         credit_mode: CreditMode,
+        auto_accept: bool,
     ) -> Result<Self, AllocError>
-        ensures { IfOk result (λ c. c ≡ LinkCall.Accept session settings.now credit_mode) }
+        ensures { IfOk result (λ c. c ≡ LinkCall.Accept session settings.now credit_mode auto_accept) }
     {
         let settings = copied_accept(alloc, settings)?;
         Ok(LinkCall::Accept {
             session,
             settings,
             credit_mode,
+            auto_accept,
         })
     }
 
@@ -205,6 +284,22 @@ impl LinkCall {
         })
     }
 
+    fn dispose_by(
+        alloc: Global,
+        disposer: u64,
+        disposal: &Disposal,
+        delivery: u64,
+    ) -> Result<Self, AllocError>
+        ensures { IfOk result (λ c. c ≡ LinkCall.DisposeBy disposer disposal.now delivery) }
+    {
+        let disposal = disposal.try_clone(alloc)?;
+        Ok(LinkCall::DisposeBy {
+            disposer,
+            disposal,
+            delivery,
+        })
+    }
+
     /// A copy; the one error is want of memory.
     pub fn try_clone(&self, alloc: Global) -> Result<Self, AllocError>
         ensures { IfOk result (λ c. c ≡ self.now) }
@@ -218,7 +313,8 @@ impl LinkCall {
                 session,
                 settings,
                 credit_mode,
-            } => LinkCall::accept(alloc, *session, settings, *credit_mode),
+                auto_accept,
+            } => LinkCall::accept(alloc, *session, settings, *credit_mode, *auto_accept),
             LinkCall::Send { link, message } => LinkCall::send(*link, message),
             LinkCall::Outcome { send } => Ok(LinkCall::Outcome { send: *send }),
             LinkCall::Recv { link } => Ok(LinkCall::Recv { link: *link }),
@@ -232,6 +328,17 @@ impl LinkCall {
                 credit: *credit,
             }),
             LinkCall::Credit { link } => Ok(LinkCall::Credit { link: *link }),
+            LinkCall::Regulate { link, regulation } => Ok(LinkCall::Regulate {
+                link: *link,
+                regulation: *regulation,
+            }),
+            LinkCall::Disposer { link } => Ok(LinkCall::Disposer { link: *link }),
+            LinkCall::DisposeBy {
+                disposer,
+                disposal,
+                delivery,
+            } => LinkCall::dispose_by(alloc, *disposer, disposal, *delivery),
+            LinkCall::Part { link, parting } => LinkCall::part(alloc, *link, parting),
         }
     }
 }

@@ -2,7 +2,7 @@
 ghost use Rattle.std.specs.Prelude.{◌≡◌};
 
 use amqp_delivery::DeliveryInfo;
-use amqp_link::{DispositionError, FlowError, ReceiverAttachError, SenderAttachError};
+use amqp_link::{DetachError, DispositionError, FlowError, ReceiverAttachError, SenderAttachError};
 use amqp_messages::Message;
 use amqp_receiver::RecvError;
 use amqp_sender::SendError;
@@ -29,6 +29,8 @@ pub enum LinkReply {
     Receiver,
     /// The message was sent.
     Sent,
+    /// A disposer is made.
+    Disposer,
     /// What has become of a message.
     Outcome(Outcome),
     /// A message.
@@ -56,6 +58,12 @@ pub enum LinkReply {
     DispositionError(DispositionError),
     /// No credit is given.
     FlowError(FlowError),
+    /// Both ends have detached the link.
+    Detached,
+    /// Both ends have closed the link.
+    Closed,
+    /// The link was not detached or closed as it was asked; or how the peer has detached it.
+    DetachError(DetachError),
 }
 
 // An answer is let go by a call, so that no caller sees the parts of errors.
@@ -66,7 +74,10 @@ impl Drop for LinkReply {
             | LinkReply::Sender
             | LinkReply::Receiver
             | LinkReply::Sent
+            | LinkReply::Disposer
             | LinkReply::Done
+            | LinkReply::Detached
+            | LinkReply::Closed
             | LinkReply::Credit(_) => {}
             LinkReply::Outcome(outcome) => drop(outcome),
             LinkReply::Delivery { info, message } => {
@@ -80,6 +91,7 @@ impl Drop for LinkReply {
             LinkReply::RecvError(error) => drop(error),
             LinkReply::DispositionError(error) => drop(error),
             LinkReply::FlowError(error) => drop(error),
+            LinkReply::DetachError(error) => drop(error),
         }
     }
 }

@@ -17,8 +17,9 @@ use Rattle.amqp_session_links.specs.declared.place.WaitingAccept.{WaitingAccept}
 use Rattle.amqp_session_links.specs.Incoming.{attach_pushed, first_of, attach_taken, early_of, early_taken, early_put}
 use Rattle.amqp_session_links.specs.State.{State as Place, awaiting_attach, accept_taken}
 use Rattle.amqp_links.specs.Attaching.{claimed, standing, joining}
-use Rattle.amqp_links.specs.Hearing.{is_detach, hearing, other_role, answer_read}
-use Rattle.amqp_links.specs.State.{State, place_of, at_place, answering}
+use Rattle.amqp_link_calls.specs.Leaving.{is_reattaching}
+use Rattle.amqp_links.specs.Hearing.{is_detach, hearing, other_role, answered_at, attach_heard, answer_read}
+use Rattle.amqp_links.specs.State.{State, place_of, link_of, at_place, answering}
 use Rattle.amqp_links.specs.Taking.{taken_up}
 
 -- the first Attach that waits on the session
@@ -53,7 +54,7 @@ catching_up session link remote s =
 -- the link that answers the Attach stands under the name of its call
 abbrev pub attach_accepted : ℕ → WaitingAccept → ℕ → Attach → State → State
 attach_accepted session accept handle x s =
-    let l = accepted session accept.settings accept.credit_mode handle x in
+    let l = accepted session accept.settings accept.credit_mode accept.auto_accept handle x in
     let t = joining session x.handle accept.name (standing accept.name (accept_answered l) s) in
     catching_up session accept.name x.handle (taken_up accept.name (answering accept.name (accept_reply l) t))
 
@@ -106,7 +107,24 @@ waiting_met session s = meeting (accept_of (place_of session s)) session (at_pla
 abbrev pub attach_waits : ℕ → Attach → State → State
 attach_waits session x s = waiting_met session (at_place session (attach_pushed x) s)
 
--- an Attach of the peer was read: an end that accepts lets it wait for a call, the other has attached the link itself
+abbrev pub reattaching_as : ℕ → Option Called → Option ℕ
+reattaching_as link None = None
+reattaching_as link (Some l) = if is_reattaching l then Some link else None
+
+-- the link of this end that was attached again and awaits that Attach
+abbrev pub reattaching_at : Option ℕ → State → Option ℕ
+reattaching_at None s = None
+reattaching_at (Some link) s = reattaching_as link (link_of link s)
+
+abbrev pub awaiting : ℕ → Attach → State → Option ℕ
+awaiting session x s = reattaching_at (answered_at x (place_of session s)) s
+
+abbrev pub attach_for : Option ℕ → ℕ → Attach → State → State
+attach_for None session x s = attach_waits session x s
+attach_for (Some link) session x s = attach_heard session link x s
+
+-- an Attach of the peer was read: an end that accepts lets it wait for a call, but for that of a link which it has attached again; the
+-- other has attached the link itself
 abbrev pub attach_came : Bool → ℕ → Attach → State → State
-attach_came true session x s = attach_waits session x s
+attach_came true session x s = attach_for (awaiting session x s) session x s
 attach_came false session x s = answer_read session x s

@@ -12,13 +12,8 @@ use Rattle.amqp_session_links.specs.declared.place.Claim.{Claim}
 use Rattle.amqp_session_links.specs.declared.place.Claim.TheVariants.{Handle, Refused}
 use Rattle.amqp_session_links.specs.Claims.{claiming, joined}
 use Rattle.amqp_session_links.specs.State.{State as Place, awaiting_answer}
-use Rattle.amqp_links.specs.State.{State, place_of, with_place, at_place, answering}
+use Rattle.amqp_links.specs.State.{State, Claimed, place_of, with_place, at_place, answering}
 use Rattle.amqp_links.specs.Taking.{taken_up}
-
--- what a link gets of its session, and the links behind it
-pub record Claimed : Type 0 where
-  pub answer : Claim
-  pub state : State
 
 abbrev pub claimed_at : Option Place → ℕ → List ℕ → Role → ℕ → Option ℕ → State → Claimed
 claimed_at None session name role link max s = record { answer = Refused SessionNotMapped; state = s }

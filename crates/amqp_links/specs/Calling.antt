@@ -1,5 +1,5 @@
 -- The calls on links (OASIS AMQP 1.0, part 2, sections 2.6.7 and 2.6.12).
-use Rattle.std.specs.Prelude.{◌≡◌, ℕ, nat_eq, List, [], ◌∷◌, ◌++◌, Option, Some, None}
+use Rattle.std.specs.Prelude.{◌≡◌, ℕ, Bool, nat_eq, List, Option, Some, None}
 use Rattle.std.specs.Map.{lookup}
 use Rattle.indexmap.specs.IndexMap.{insert_entry}
 use Rattle.amqp_delivery.specs.declared.info.CreditMode.{CreditMode}
@@ -16,16 +16,16 @@ use Rattle.amqp_link_words.specs.declared.link_call.Sendable.{Sendable}
 use Rattle.amqp_link_words.specs.declared.link_reply.LinkReply.{LinkReply}
 use Rattle.amqp_link_words.specs.declared.link_reply.LinkReply.TheVariants as reply
 use Rattle.amqp_sender.specs.declared.sender.DeliveryToken.{DeliveryToken}
-use Rattle.amqp_links.specs.declared.links.GivenDelivery.{GivenDelivery}
+use Rattle.amqp_session_links.specs.declared.place.WaitingAccept.{WaitingAccept}
 use Rattle.amqp_links.specs.declared.links.SentDelivery.{SentDelivery}
 use Rattle.amqp_links.specs.Accepting.{accepting}
+use Rattle.amqp_links.specs.Leaving.{leaving_at}
 use Rattle.amqp_links.specs.Attaching.{attaching_sender, attaching_receiver}
+use Rattle.amqp_links.specs.Disposers.{infos_of, disposer_made, disposing_by}
+use Rattle.amqp_links.specs.Numbering.{given_left, is_done, disposed_left}
+use Rattle.amqp_links.specs.Regulating.{regulating_at}
 use Rattle.amqp_links.specs.State.{State, entered, link_of, with_link, answering}
-use Rattle.amqp_links.specs.Taking.{taken_up}
-
--- a call on a link is answered, and what has become of the link is taken up
-abbrev pub finished : ℕ → ℕ → LinkReply → State → State
-finished name link reply s = taken_up link (answering name reply s)
+use Rattle.amqp_links.specs.Taking.{finished}
 
 -- ---- sending
 
@@ -64,25 +64,18 @@ delivery_kept name link (Some info) s =
 -- the receiver is asked, and answers so
 abbrev pub received_with : LinkReply → Called → ℕ → ℕ → State → State
 received_with answer l name link s =
-    finished name link answer (delivery_kept name link (info_of answer) (with_link link (with_side (having_received l.side) l) s))
+    let t = with_link link (with_side (having_received answer l.side) l) s in
+    finished name link answer (given_left link (info_of answer) (delivery_kept name link (info_of answer) t))
 
 abbrev pub ReceivesAt : Option Called → ℕ → ℕ → State → State → Type 0
 ReceivesAt None name link old new = new ≡ old
 ReceivesAt (Some l) name link old new = (answer : LinkReply) × (Receives answer l.side × (new ≡ received_with answer l name link old))
 
--- what names the deliveries of those calls
-abbrev pub info_at : Option GivenDelivery → List DeliveryInfo
-info_at None = []
-info_at (Some x) = x.info ∷ []
-
-abbrev pub infos_of : List ℕ → List (ℕ × GivenDelivery) → List DeliveryInfo
-infos_of [] given = []
-infos_of (n ∷ ns) given = info_at (lookup (nat_eq n) given) ++ infos_of ns given
-
 abbrev pub disposing_at : Option Called → ℕ → ℕ → Disposal → List DeliveryInfo → State → State
 disposing_at None name link x infos s = s
 disposing_at (Some l) name link x infos s =
-    finished name link (disposes x infos l.side).reply (with_link link (with_side (disposes x infos l.side).side l) s)
+    let m = disposes x infos l.side in
+    finished name link m.reply (disposed_left (is_done m.reply) link infos (with_link link (with_side m.side l) s))
 
 abbrev pub disposing : ℕ → ℕ → Disposal → List ℕ → State → State
 disposing name link x deliveries s = disposing_at (link_of link s) name link x (infos_of deliveries s.deliveries) s
@@ -98,15 +91,25 @@ credit_at (Some l) name s = answering name (reply.Credit (credit_of l.side)) s
 
 -- ---- all calls
 
+-- a call that accepts a link, as it waits
+abbrev pub waiting_as : ℕ → AcceptSettings → CreditMode → Bool → Option ℕ → WaitingAccept
+waiting_as name settings credit_mode auto_accept max =
+    record { name = name; settings = settings; credit_mode = credit_mode; auto_accept = auto_accept; handle_max = max }
+
 -- a call of that name is made; `max` is the highest handle of this end on its session
 abbrev pub Calls : ℕ → LinkCall → Option ℕ → State → State → Type 0
 Calls name (call.Sender session settings) max old new = new ≡ attaching_sender name session settings max (entered session old)
 Calls name (call.Receiver session settings) max old new = new ≡ attaching_receiver name session settings max (entered session old)
-Calls name (call.Accept session settings credit_mode) max old new =
-    new ≡ accepting session (record { name = name; settings = settings; credit_mode = credit_mode; handle_max = max }) (entered session old)
+Calls name (call.Accept session settings credit_mode auto_accept) max old new =
+    new ≡ accepting session (waiting_as name settings credit_mode auto_accept max) (entered session old)
 Calls name (call.Send link message) max old new = new ≡ sending_at (link_of link old) name link message old
 Calls name (call.Outcome send) max old new = new ≡ outcome_for (lookup (nat_eq send) old.sends) name old
 Calls name (call.Recv link) max old new = ReceivesAt (link_of link old) name link old new
 Calls name (call.Dispose link disposal deliveries) max old new = new ≡ disposing name link disposal deliveries old
 Calls name (call.SetCredit link credit) max old new = new ≡ crediting_at (link_of link old) name link credit old
 Calls name (call.Credit link) max old new = new ≡ credit_at (link_of link old) name old
+Calls name (call.Regulate link regulation) max old new = new ≡ regulating_at (link_of link old) name link regulation old
+Calls name (call.Disposer link) max old new = new ≡ disposer_made (link_of link old) name link old
+Calls name (call.DisposeBy disposer disposal delivery) max old new =
+    new ≡ disposing_by (lookup (nat_eq disposer) old.disposers) name disposal delivery old
+Calls name (call.Part link parting) max old new = new ≡ leaving_at (link_of link old) name link parting old

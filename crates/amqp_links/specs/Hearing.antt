@@ -12,6 +12,7 @@ use Rattle.amqp_session_links.specs.Claims.{parted}
 use Rattle.amqp_session_links.specs.Incoming.{kept}
 use Rattle.amqp_session_links.specs.State.{State as Place}
 use Rattle.amqp_links.specs.Attaching.{joining}
+use Rattle.amqp_links.specs.Numbering.{numbering}
 use Rattle.amqp_links.specs.Parts.{Astray, heard}
 use Rattle.amqp_links.specs.State.{State, place_of, link_of, with_link, at_place}
 use Rattle.amqp_links.specs.Taking.{taken_up}
@@ -31,10 +32,10 @@ abbrev pub hearing_at : Option Called → ℕ → LinkInput → State → State
 hearing_at None link x s = s
 hearing_at (Some l) link x s = with_link link (heard x l) s
 
--- the link hears a frame
+-- the link hears a frame; a delivery that it begins is known by its number
 abbrev pub hearing : ℕ → ℕ → ℕ → LinkInput → State → State
 hearing session link remote x s =
-    let t = parting (is_detach x) session remote s in taken_up link (hearing_at (link_of link t) link x t)
+    let t = numbering session link x (parting (is_detach x) session remote s) in taken_up link (hearing_at (link_of link t) link x t)
 
 -- the link of that handle of the peer
 abbrev pub link_from_at : ℕ → Option Place → Option ℕ

@@ -1,11 +1,15 @@
 pub mod Parts
 pub mod State
 pub mod Taking
+pub mod Leaving
 pub mod May
 pub mod Attaching
+pub mod Settling
+pub mod Numbering
 pub mod Hearing
 pub mod Accepting
+pub mod Disposers
+pub mod Regulating
 pub mod Calling
-pub mod Settling
 pub mod Stops
 pub mod Inputs

@@ -3,14 +3,17 @@ use Rattle.std.specs.Prelude.{◌≡◌, ℕ, nat_eq, ◌==◌, Bool, true, fals
 use Rattle.std.specs.Map.{lookup}
 use Rattle.amqp_composites.specs.declared.modes.Role.{Role}
 use Rattle.amqp_composites.specs.declared.modes.Role.TheVariants as role
-use Rattle.amqp_link_calls.specs.Called.{Called, is_awaited}
+use Rattle.amqp_link_calls.specs.Called.{Called, takes_calls, may_abandon, is_awaited}
 use Rattle.amqp_link_calls.specs.Side.{role_of}
 use Rattle.amqp_link_tables.specs.Calls.{is_spent}
 use Rattle.amqp_link_words.specs.declared.link_call.LinkCall.{LinkCall}
 use Rattle.amqp_link_words.specs.declared.link_call.LinkCall.TheVariants as call
+use Rattle.amqp_link_words.specs.declared.link_call.Parting.{Parting}
+use Rattle.amqp_link_words.specs.declared.link_call.Parting.TheVariants as parting
 use Rattle.amqp_sender.specs.declared.sender.DeliveryToken.{DeliveryToken}
 use Rattle.amqp_session_links.specs.State.{State as Place, is_busy}
 use Rattle.amqp_links.specs.declared.links.GivenDelivery.{GivenDelivery}
+use Rattle.amqp_links.specs.declared.links.KeptDisposer.{KeptDisposer}
 use Rattle.amqp_links.specs.declared.links.SentDelivery.{SentDelivery}
 use Rattle.amqp_links.specs.State.{State, place_of, link_of}
 
@@ -40,10 +43,10 @@ same_role role.Sender role.Sender = true
 same_role role.Receiver role.Receiver = true
 same_role x y = false
 
--- whether the link was made, with this end in that role
+-- whether the link was made, with this end in that role, and takes calls
 abbrev pub made_as : Role → Option Called → Bool
 made_as role None = false
-made_as role (Some l) = l.is_made && same_role (role_of l.side) role
+made_as role (Some l) = takes_calls l && same_role (role_of l.side) role
 
 abbrev pub is_made : ℕ → Role → State → Bool
 is_made link role s = made_as role (link_of link s)
@@ -76,17 +79,32 @@ is_any (d ∷ ds) = true
 abbrev pub may_dispose : ℕ → List ℕ → State → Bool
 may_dispose link deliveries s = is_made link role.Receiver s && (is_any deliveries && are_given link deliveries s)
 
+-- whether that disposer was made, and its receiver gave the delivery
+abbrev pub may_dispose_by : Option KeptDisposer → ℕ → State → Bool
+may_dispose_by None delivery s = false
+may_dispose_by (Some x) delivery s = given_by x.link (lookup (nat_eq delivery) s.deliveries)
+
+-- whether a call that leaves the link is taken
+abbrev pub may_leave_at : Parting → Option Called → Bool
+may_leave_at x None = false
+may_leave_at parting.Abandon (Some l) = may_abandon l
+may_leave_at other (Some l) = takes_calls l
+
 -- whether a call is taken
 abbrev pub may_call : LinkCall → State → Bool
 may_call (call.Sender session settings) s = may_attach session settings.name s
 may_call (call.Receiver session settings) s = may_attach session settings.name s
-may_call (call.Accept session settings credit_mode) s = not (is_busy_on session s)
+may_call (call.Accept session settings credit_mode auto_accept) s = not (is_busy_on session s)
 may_call (call.Send link message) s = message.has_body && is_made link role.Sender s
 may_call (call.Outcome send) s = may_ask send s
 may_call (call.Recv link) s = is_made link role.Receiver s
 may_call (call.Dispose link disposal deliveries) s = may_dispose link deliveries s
 may_call (call.SetCredit link credit) s = is_made link role.Receiver s
 may_call (call.Credit link) s = is_made link role.Receiver s
+may_call (call.Regulate link regulation) s = is_made link role.Receiver s
+may_call (call.Disposer link) s = is_made link role.Receiver s
+may_call (call.DisposeBy disposer disposal delivery) s = may_dispose_by (lookup (nat_eq disposer) s.disposers) delivery s
+may_call (call.Part link x) s = may_leave_at x (link_of link s)
 
 abbrev pub MayCall : State → LinkCall → Type 0
 MayCall s x = IsTrue (may_call x s)

@@ -46,6 +46,9 @@ name_of l = (side.link_of l.side).own.name
 abbrev pub is_over : Called → Bool
 is_over l = link.is_over (side.link_of l.side).phase
 
+abbrev pub is_heard : Called → Bool
+is_heard l = link.is_heard (side.link_of l.side).phase
+
 -- the link hears a frame
 abbrev pub heard : LinkInput → Called → Called
 heard (input.Flow x) l = hearing.flow_read x l
@@ -53,10 +56,10 @@ heard (input.Transfer x payload) l = hearing.transfer_read x payload l
 heard (input.Detach x) l = hearing.detach_read x l
 heard x l = l
 
--- it hears what has become of a delivery, unless it is over
+-- it hears what has become of a delivery, until both ends have sent their Detach
 abbrev pub disposition_heard : CoveredDelivery → Bool → Option DeliveryState → Called → Called
-disposition_heard x settled state l = if is_over l then l else hearing.disposition_read x settled state l
+disposition_heard x settled state l = if is_heard l then hearing.disposition_read x settled state l else l
 
 -- whether the number of the delivery may be forgotten
 abbrev pub is_forgotten : CoveredDelivery → Bool → Option DeliveryState → Called → Bool
-is_forgotten x settled state l = if is_over l then true else hearing.is_settled_by l.side x settled state
+is_forgotten x settled state l = if is_heard l then hearing.is_settled_by l.side x settled state else true

@@ -4,24 +4,32 @@ use Rattle.std.specs.Map.{lookup, set_value}
 use Rattle.amqp_link_calls.specs.Called.{Called}
 use Rattle.amqp_link_words.specs.declared.link_reply.LinkReply.{LinkReply}
 use Rattle.amqp_link_words.specs.declared.link_reply.NamedLinkReply.{NamedLinkReply}
+use Rattle.amqp_session_links.specs.declared.place.Claim.{Claim}
 use Rattle.amqp_session_links.specs.State.{State as Place, none_attached}
 use Rattle.indexmap.specs.IndexMap.{insert_entry}
 use Rattle.amqp_links.specs.declared.links.GivenDelivery.{GivenDelivery}
+use Rattle.amqp_links.specs.declared.links.KeptDisposer.{KeptDisposer}
 use Rattle.amqp_links.specs.declared.links.Links.{Links}
 use Rattle.amqp_links.specs.declared.links.SentDelivery.{SentDelivery}
 use Rattle.amqp_links.specs.Parts.{Told, Pops}
 
 -- whether this end accepts the links of the peer; what the links of each session share; the links by the names of the calls that made
--- them; the messages that were sent and the deliveries that were given, by the names of their calls; what is to be done on the sessions;
--- the answers that were not taken
+-- them; the messages that were sent, the deliveries that were given and the disposers that were made, by the names of their calls; what is
+-- to be done on the sessions; the answers that were not taken
 pub record State : Type 0 where
   pub accepts : Bool
   pub sessions : List (ℕ × Place)
   pub endpoints : List (ℕ × Called)
   pub sends : List (ℕ × SentDelivery)
   pub deliveries : List (ℕ × GivenDelivery)
+  pub disposers : List (ℕ × KeptDisposer)
   pub output : List Told
   pub replies : List NamedLinkReply
+
+-- what a link gets of its session, and the links behind it
+pub record Claimed : Type 0 where
+  pub answer : Claim
+  pub state : State
 
 abbrev pub seen : Links → State
 seen s = record {
@@ -30,13 +38,14 @@ seen s = record {
   endpoints = s.endpoints.entries;
   sends = s.sends.entries;
   deliveries = s.deliveries.entries;
+  disposers = s.disposers.entries;
   output = s.output;
   replies = s.replies.items;
 }
 
 -- there are no links
 abbrev pub no_links : Bool → State
-no_links accepts = record { accepts = accepts; sessions = []; endpoints = []; sends = []; deliveries = []; output = []; replies = [] }
+no_links accepts = record { accepts = accepts; sessions = []; endpoints = []; sends = []; deliveries = []; disposers = []; output = []; replies = [] }
 
 -- what the links of the session of that name share
 abbrev pub place_of : ℕ → State → Option Place

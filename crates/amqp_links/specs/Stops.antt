@@ -1,7 +1,8 @@
 -- The end of a session, as its links see it (OASIS AMQP 1.0, part 2, sections 2.5.4 and 2.6.5).
 use Rattle.std.specs.Prelude.{ℕ, List, [], ◌∷◌, Option, Some, None}
 use Rattle.amqp_frames.specs.declared.shared.SessionStopReason.{SessionStopReason}
-use Rattle.amqp_link_calls.specs.Answering.{concluded, answers_taken}
+use Rattle.amqp_link_calls.specs.Answering.{answers_taken}
+use Rattle.amqp_link_calls.specs.Hearing.{concluded}
 use Rattle.amqp_link_calls.specs.Called.{Called}
 use Rattle.amqp_link_calls.specs.Called as called
 use Rattle.amqp_session_links.specs.State.{State as Place, stopped}

@@ -3,10 +3,17 @@
 use Rattle.std.specs.Prelude.{ℕ, Bool, true, false, not, ◌&&◌, is_some, List, ◌++◌, map, Option, Some, None, if◌then◌else◌}
 use Rattle.amqp_link_calls.specs.Answering.{answers_taken}
 use Rattle.amqp_link_calls.specs.Called.{Called}
-use Rattle.amqp_session_links.specs.Claims.{is_at, released, spending}
+use Rattle.amqp_composites.specs.declared.modes.Role.{Role}
+use Rattle.amqp_link.specs.declared.error.AttachError.TheVariants.{SessionNotMapped}
+use Rattle.amqp_link_calls.specs.Leaving.{wants_handle, handle_given, handle_refused}
+use Rattle.amqp_link_calls.specs.Side.{role_of}
+use Rattle.amqp_link_words.specs.declared.link_reply.LinkReply.{LinkReply}
+use Rattle.amqp_session_links.specs.declared.place.Claim.{Claim}
+use Rattle.amqp_session_links.specs.declared.place.Claim.TheVariants.{Handle, Refused}
+use Rattle.amqp_session_links.specs.Claims.{is_at, released, spending, reclaiming}
 use Rattle.amqp_session_links.specs.State.{State as Place, attach_ended}
 use Rattle.amqp_links.specs.Parts.{Frame, output_of, emptied, handle_of, name_of, is_over}
-use Rattle.amqp_links.specs.State.{State, place_of, link_of, with_link, at_place, answering_all}
+use Rattle.amqp_links.specs.State.{State, Claimed, place_of, link_of, with_place, with_link, at_place, answering, answering_all}
 
 -- what the link has to write goes behind what is to be done
 abbrev pub written_at : Option Called → ℕ → State → State
@@ -61,6 +68,43 @@ freed_at (Some l) link s = if is_over l then at_place l.session (released (handl
 abbrev pub freed : ℕ → State → State
 freed link s = freed_at (link_of link s) link s
 
+-- what a link gets of its session that is to be attached again, and the links behind it
+abbrev pub reclaimed_at : Option Place → ℕ → List ℕ → Role → ℕ → State → Claimed
+reclaimed_at None session name role link s = record { answer = Refused SessionNotMapped; state = s }
+reclaimed_at (Some p) session name role link s =
+    record { answer = (reclaiming name role link p).answer; state = with_place session (reclaiming name role link p).state s }
+
+abbrev pub reclaimed : ℕ → List ℕ → Role → ℕ → State → Claimed
+reclaimed session name role link s = reclaimed_at (place_of session s) session name role link s
+
+-- a handle: its Attach is to be written; none: the call that leaves it is answered
+abbrev pub given_at : Option Called → ℕ → ℕ → State → State
+given_at None handle link s = s
+given_at (Some l) handle link s = with_link link (handle_given handle l) s
+
+abbrev pub refused_at : Option Called → ℕ → State → State
+refused_at None link s = s
+refused_at (Some l) link s = with_link link (handle_refused l) s
+
+abbrev pub placed_by : Claim → ℕ → State → State
+placed_by (Handle handle) link s = written link (given_at (link_of link s) handle link s)
+placed_by (Refused error) link s = told link (refused_at (link_of link s) link s)
+
+abbrev pub placed : ℕ → List ℕ → Role → ℕ → State → State
+placed session name role link s = let c = reclaimed session name role link s in placed_by c.answer link c.state
+
+-- a link that is to be closed on a further attachment is attached again (section 2.6.6)
+abbrev pub reattached_at : Option Called → ℕ → State → State
+reattached_at None link s = s
+reattached_at (Some l) link s = if wants_handle l then placed l.session (name_of l) (role_of l.side) link s else s
+
+abbrev pub reattached : ℕ → State → State
+reattached link s = reattached_at (link_of link s) link s
+
 -- all of it
 abbrev pub taken_up : ℕ → State → State
-taken_up link s = freed link (attach_told link (told link (written link s)))
+taken_up link s = reattached link (freed link (attach_told link (told link (written link s))))
+
+-- a call on a link is answered, and what has become of the link is taken up
+abbrev pub finished : ℕ → ℕ → LinkReply → State → State
+finished name link reply s = taken_up link (answering name reply s)

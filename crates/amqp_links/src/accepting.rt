@@ -50,11 +50,19 @@ fn accepted_link(
     handle: u32,
     attach: Attach,
 ) -> Result<(CalledLink, LinkReply), AllocError>
-    ensures link { IfOk result (λ r. r.0 ≡ accept_answered (called.accepted session accept.settings accept.credit_mode handle attach)) }
-    ensures reply { IfOk result (λ r. r.1 ≡ accept_reply (called.accepted session accept.settings accept.credit_mode handle attach)) }
+    ensures link { IfOk result (λ r. r.0 ≡ accept_answered (called.accepted session accept.settings accept.credit_mode accept.auto_accept handle attach)) }
+    ensures reply { IfOk result (λ r. r.1 ≡ accept_reply (called.accepted session accept.settings accept.credit_mode accept.auto_accept handle attach)) }
 {
-    let (settings, credit_mode) = accept.into_parts();
-    let mut link = CalledLink::accept(alloc, session, settings, credit_mode, handle, attach)?;
+    let (settings, credit_mode, auto_accept) = accept.into_parts();
+    let mut link = CalledLink::accept(
+        alloc,
+        session,
+        settings,
+        credit_mode,
+        auto_accept,
+        handle,
+        attach,
+    )?;
     let reply = link.accepted()?;
     Ok((link, reply))
 }

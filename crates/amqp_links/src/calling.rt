@@ -1,8 +1,11 @@
 //! The calls on links (OASIS AMQP 1.0, part 2, sections 2.6.7 and 2.6.12).
 ghost use Rattle.std.specs.Prelude.{◌≡◌, ◌++◌, nat_eq, option_map, OnOk, IfOk};
 ghost use Rattle.std.specs.Map.{lookup};
-ghost use Rattle.amqp_links.specs.Calling.{finished, send_kept, sending_at, outcome_at, outcome_for, info_of, delivery_kept, ReceivesAt, info_at, infos_of, disposing, crediting_at, credit_at, Calls};
+ghost use Rattle.amqp_links.specs.Calling.{send_kept, sending_at, outcome_at, outcome_for, info_of, delivery_kept, ReceivesAt, disposing, crediting_at, credit_at, Calls};
+ghost use Rattle.amqp_links.specs.Disposers.{info_at, infos_of};
 ghost use Rattle.amqp_links.specs.State.{seen, link_of};
+ghost use Rattle.amqp_links.specs.Leaving.{leaving_at};
+ghost use Rattle.amqp_links.specs.Taking.{finished};
 
 use crate::links::{GivenDelivery, Links, SentDelivery};
 use amqp_delivery::DeliveryInfo;
@@ -48,12 +51,14 @@ impl Links {
                 session,
                 settings,
                 credit_mode,
+                auto_accept,
             } => {
                 self.enter(session)?;
                 let accept = WaitingAccept {
                     name,
                     settings,
                     credit_mode,
+                    auto_accept,
                     handle_max,
                 };
                 self.accept(session, accept)
@@ -68,11 +73,24 @@ impl Links {
             } => self.dispose(name, link, disposal, deliveries.as_slice()),
             LinkCall::SetCredit { link, credit } => self.set_credit(name, link, credit),
             LinkCall::Credit { link } => self.credit(name, link),
+            LinkCall::Regulate { link, regulation } => self.regulate(name, link, regulation),
+            LinkCall::Disposer { link } => self.make_disposer(name, link),
+            LinkCall::DisposeBy {
+                disposer,
+                disposal,
+                delivery,
+            } => self.dispose_by(name, disposer, disposal, delivery),
+            LinkCall::Part { link, parting } => self.part(name, link, parting),
         }
     }
 
     /// Answers a call on a link, and takes up what has become of it.
-    fn finish(&mut self, name: u64, link: u64, reply: LinkReply) -> Result<(), AllocError>
+    pub(crate) fn finish(
+        &mut self,
+        name: u64,
+        link: u64,
+        reply: LinkReply,
+    ) -> Result<(), AllocError>
         ensures { OnOk result (seen self.new ≡ finished name link reply (seen self.old)) }
     {
         self.answer(name, reply)?;
@@ -151,6 +169,7 @@ impl Links {
         };
         let reply = endpoint.recv()?;
         self.keep_delivery(name, link, &reply)?;
+        self.leave_given(link, &reply);
         self.finish(name, link, reply)
     }
 
@@ -169,7 +188,7 @@ impl Links {
     }
 
     /// What names the deliveries of those calls.
-    fn infos_of(&self, deliveries: &[u64]) -> Result<Vec<DeliveryInfo>, AllocError>
+    pub(crate) fn infos_of(&self, deliveries: &[u64]) -> Result<Vec<DeliveryInfo>, AllocError>
         ensures { IfOk result (λ infos. infos.items ≡ infos_of deliveries.now (seen self.now).deliveries) }
     {
         let mut infos = Vec::new(self.alloc);
@@ -195,6 +214,7 @@ impl Links {
             return Ok(());
         };
         let reply = endpoint.dispose(disposal, &infos)?;
+        self.leave_disposed(link, &infos, &reply);
         self.finish(name, link, reply)
     }
 

@@ -1,6 +1,6 @@
 //! What sessions hand to their links (OASIS AMQP 1.0, part 2, sections 2.6 and 2.7).
 ghost use Rattle.std.specs.Prelude.{◌≡◌, OnOk};
-ghost use Rattle.amqp_links.specs.Accepting.{accept_of, waiting_met, attach_came};
+ghost use Rattle.amqp_links.specs.Accepting.{accept_of, waiting_met, reattaching_as, awaiting, attach_for, attach_came};
 ghost use Rattle.amqp_links.specs.Hearing.{is_detach, parting, hearing_at, hearing, link_from_at, frame_read, attach_heard_at, attach_heard, answered_at, answer_read};
 ghost use Rattle.amqp_links.specs.Inputs.{handle_of, word_read, input_read};
 ghost use Rattle.amqp_links.specs.Parts.{heard};
@@ -123,6 +123,7 @@ impl Links {
         ensures { OnOk result (seen self.new ≡ hearing session link remote input (seen self.old)) }
     {
         self.part_if(is_detach(&input), session, remote);
+        self.number(session, link, &input)?;
         self.hear_at(link, input)?;
         self.take_up(link)
     }
@@ -155,10 +156,42 @@ impl Links {
         ensures { OnOk result (seen self.new ≡ attach_came (seen self.old).accepts session attach (seen self.old)) }
     {
         if self.accepts {
-            self.push_attach(session, attach)?;
-            self.accept_waiting(session)
+            self.on_peer_attach(session, attach)
         } else {
             self.on_answer(session, attach)
+        }
+    }
+
+    /// The link, if this end has attached it again and awaits the peer's Attach.
+    fn reattaching(&self, link: u64) -> Option<u64>
+        ensures { result ≡ reattaching_as link (link_of link (seen self.now)) }
+    {
+        let endpoint = self.endpoints.get(&link)?;
+        if endpoint.is_reattaching() {
+            Some(link)
+        } else {
+            None
+        }
+    }
+
+    /// The link of this end that was attached again and awaits that Attach.
+    fn awaiting(&self, session: u64, attach: &Attach) -> Option<u64>
+        ensures { result ≡ awaiting session attach.now (seen self.now) }
+    {
+        let link = self.answered_link(session, attach)?;
+        self.reattaching(link)
+    }
+
+    /// An Attach was read at an end that accepts: a link that was attached again hears it, else it waits for a call.
+    fn on_peer_attach(&mut self, session: u64, attach: Attach) -> Result<(), AllocError>
+        ensures { OnOk result (seen self.new ≡ attach_for (awaiting session attach (seen self.old)) session attach (seen self.old)) }
+    {
+        match self.awaiting(session, &attach) {
+            Some(link) => self.hear_attach(session, link, attach),
+            None => {
+                self.push_attach(session, attach)?;
+                self.accept_waiting(session)
+            }
         }
     }
 

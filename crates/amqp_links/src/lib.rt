@@ -2,15 +2,19 @@
 //! part 2, section 2.6).
 #![tactic(auto)]
 
-pub use links::{GivenDelivery, Links, SentDelivery};
+pub use links::{GivenDelivery, KeptDisposer, Links, SentDelivery};
 pub use output::LinksOutput;
 
 mod accepting;
 mod attaching;
 mod calling;
+mod disposers;
 mod hearing;
+mod leaving;
 pub mod links;
+mod numbering;
 pub mod output;
+mod regulating;
 mod settling;
 mod stopping;
 mod taking;

@@ -1,16 +1,16 @@
 //! The links of an end.
-ghost use Rattle.std.specs.Prelude.{◌≡◌, ◌↔◌, IsTrue, [], nat_eq, option_map, OnOk};
+ghost use Rattle.std.specs.Prelude.{◌≡◌, ◌↔◌, IsTrue, [], nat_eq, option_map, Some, OnOk};
 ghost use Rattle.std.specs.Map.{lookup};
-ghost use Rattle.amqp_links.specs.May.{MayCall, may_call, is_busy_on, is_spent_on, may_attach, same_role, made_as, is_made, may_ask, may_ask_at, given_by, are_given, is_any, may_dispose};
+ghost use Rattle.amqp_links.specs.May.{MayCall, may_call, is_busy_on, is_spent_on, may_attach, same_role, made_as, is_made, may_ask, may_ask_at, given_by, are_given, is_any, may_dispose, may_dispose_by, may_leave_at};
 ghost use Rattle.amqp_links.specs.Parts.{told};
 ghost use Rattle.amqp_links.specs.State.{seen, no_links, link_of, answering, answering_all, TakesOutput};
 
 use crate::output::{LinksOutput, OutputQueue};
 use amqp_composites::modes::Role;
 use amqp_data::Text;
-use amqp_delivery::DeliveryInfo;
+use amqp_delivery::{DeliveryInfo, DisposerView};
 use amqp_link_calls::CalledLink;
-use amqp_link_words::{LinkCall, LinkReply, NamedLinkReply};
+use amqp_link_words::{LinkCall, LinkReply, NamedLinkReply, Parting};
 use amqp_sender::DeliveryToken;
 use amqp_session_links::SessionLinks;
 use indexmap::IndexMap;
@@ -43,8 +43,17 @@ impl Drop for GivenDelivery {
     }
 }
 
-/// The links of an end. A link, a message that was sent and a delivery that was given are known by the names of their calls, and a
-/// session by the name of the call that made it.
+/// A disposer that a call has made.
+#[derive(Clone, Copy, Debug)]
+pub struct KeptDisposer {
+    /// The name of the receiver.
+    pub link: u64,
+    /// What it keeps of the link.
+    pub view: DisposerView,
+}
+
+/// The links of an end. A link, a message that was sent, a delivery that was given and a disposer are known by the names of their calls,
+/// and a session by the name of the call that made it.
 pub struct Links {
     pub(crate) alloc: Global,
     /// Whether this end accepts the links of the peer.
@@ -57,6 +66,8 @@ pub struct Links {
     pub(crate) sends: IndexMap<u64, SentDelivery>,
     /// The deliveries that were given.
     pub(crate) deliveries: IndexMap<u64, GivenDelivery>,
+    /// The disposers that were made.
+    pub(crate) disposers: IndexMap<u64, KeptDisposer>,
     /// What is to be done on the sessions, in order.
     pub(crate) output: OutputQueue,
     /// The answers that were not taken, in order.
@@ -73,6 +84,7 @@ impl Drop for Links {
             endpoints,
             sends,
             deliveries,
+            disposers,
             output,
             replies,
         } = self;
@@ -80,6 +92,7 @@ impl Drop for Links {
         drop(endpoints);
         drop(sends);
         drop(deliveries);
+        drop(disposers);
         drop(output);
         drop(replies);
     }
@@ -104,6 +117,16 @@ fn is_any(deliveries: &[u64]) -> bool
     !deliveries.is_empty()
 }
 
+/// Whether a link takes that call that leaves it.
+fn takes(link: &CalledLink, parting: &Parting) -> bool
+    ensures { result ≡ may_leave_at parting.now (Some link.now) }
+{
+    match parting {
+        Parting::Abandon => link.may_abandon(),
+        Parting::OnDetach | Parting::Detach { .. } | Parting::Close { .. } => link.takes_calls(),
+    }
+}
+
 impl Links {
     /// No links, at an end that accepts those of the peer or not; takes no memory.
     pub fn new(alloc: Global, accepts: bool) -> Self
@@ -116,6 +139,7 @@ impl Links {
             endpoints: IndexMap::new(alloc),
             sends: IndexMap::new(alloc),
             deliveries: IndexMap::new(alloc),
+            disposers: IndexMap::new(alloc),
             output: OutputQueue::new(alloc),
             replies: Vec::new(alloc),
         }
@@ -147,12 +171,12 @@ impl Links {
         !self.is_busy(session) && !self.is_spent(session, name)
     }
 
-    /// Whether that link was made, with this end in that role.
+    /// Whether that link was made, with this end in that role, and takes calls.
     fn is_made(&self, link: u64, role: Role) -> bool
         ensures { result ≡ is_made link role (seen self.now) }
     {
         match self.endpoints.get(&link) {
-            Some(endpoint) => endpoint.is_made() && same_role(endpoint.role(), role),
+            Some(endpoint) => endpoint.takes_calls() && same_role(endpoint.role(), role),
             None => false,
         }
     }
@@ -204,10 +228,30 @@ impl Links {
         self.is_made(link, Role::Receiver) && is_any(deliveries) && self.are_given(link, deliveries)
     }
 
+    fn may_dispose_by(&self, disposer: u64, delivery: u64) -> bool
+        ensures { result ≡ may_dispose_by (lookup (nat_eq disposer) (seen self.now).disposers) delivery (seen self.now) }
+    {
+        match self.disposers.get(&disposer) {
+            Some(kept) => self.is_given(kept.link, delivery),
+            None => false,
+        }
+    }
+
+    /// Whether that call that leaves a link is taken.
+    fn may_leave(&self, link: u64, parting: &Parting) -> bool
+        ensures { result ≡ may_leave_at parting.now (link_of link (seen self.now)) }
+    {
+        match self.endpoints.get(&link) {
+            Some(endpoint) => takes(endpoint, parting),
+            None => false,
+        }
+    }
+
     /// Whether the links take a call: an attach while no attach or accept waits on its session, of a name that is not spent there; an
     /// accept while none waits; a `send` of a message with a body on a sender that was made; an `outcome` of a message that was sent,
-    /// where no other waits; a `recv`, `set_credit` or `credit` on a receiver that was made; a disposal of one or more deliveries,
-    /// each of which that receiver gave.
+    /// where no other waits; another call for a receiver on one that was made; a disposal of one or more deliveries, each of which that
+    /// receiver, or the receiver of that disposer, gave; a call that leaves a link that was made. A link takes calls while none waits
+    /// that leaves it, and once it was detached `abandon` alone, once it was closed or abandoned none, but for outcomes and disposers.
     pub fn may_call(&self, call: &LinkCall) -> bool
         ensures { IsTrue result ↔ MayCall (seen self.now) call.now }
     {
@@ -218,6 +262,7 @@ impl Links {
                 session,
                 settings: _,
                 credit_mode: _,
+                auto_accept: _,
             } => !self.is_busy(*session),
             LinkCall::Send { link, message } => {
                 message.has_body && self.is_made(*link, Role::Sender)
@@ -231,6 +276,17 @@ impl Links {
             LinkCall::Recv { link } => self.is_made(*link, Role::Receiver),
             LinkCall::SetCredit { link, credit: _ } => self.is_made(*link, Role::Receiver),
             LinkCall::Credit { link } => self.is_made(*link, Role::Receiver),
+            LinkCall::Regulate {
+                link,
+                regulation: _,
+            } => self.is_made(*link, Role::Receiver),
+            LinkCall::Disposer { link } => self.is_made(*link, Role::Receiver),
+            LinkCall::DisposeBy {
+                disposer,
+                disposal: _,
+                delivery,
+            } => self.may_dispose_by(*disposer, *delivery),
+            LinkCall::Part { link, parting } => self.may_leave(*link, parting),
         }
     }
 

@@ -1,8 +1,7 @@
-//! The deliveries of this end by their numbers in the session, and what becomes of them (OASIS AMQP 1.0, part 2, sections 2.6.12 and
-//! 2.7.6).
+//! Deliveries by their numbers in the session, and what becomes of them (OASIS AMQP 1.0, part 2, sections 2.6.12 and 2.7.6).
 ghost use Rattle.std.specs.Prelude.{◌≡◌, option_map, OnOk, IfOk};
 ghost use Rattle.amqp_links.specs.Parts.{disposition_heard, is_forgotten};
-ghost use Rattle.amqp_links.specs.Settling.{left, forgetting, link_settled, forgets, settled_at, covered_by, delivery_at, settled, all_settled, covered_at, covered_settled, disposition_read};
+ghost use Rattle.amqp_links.specs.Settling.{left, forgetting, link_settled, forgets, settled_at, covered_by, delivery_at, settled, all_settled, covered_at, disposition_read};
 ghost use Rattle.amqp_links.specs.State.{seen, place_of, link_of};
 
 use crate::links::Links;
@@ -56,8 +55,8 @@ fn covered_delivery(
 /// Lets a delivery and its state go.
 fn discard_covered(_covered: CoveredDelivery, _state: Option<DeliveryState>) {}
 
-/// A link hears what has become of a delivery. The answer is whether its number may be forgotten: the delivery is settled, or the link
-/// is over, and then nothing changes.
+/// A link hears what has become of a delivery. The answer is whether its number may be forgotten: the delivery is settled, or both ends
+/// have sent their Detach, and then nothing changes.
 fn settle_at(
     link: &mut CalledLink,
     covered: CoveredDelivery,
@@ -67,7 +66,7 @@ fn settle_at(
     ensures link { OnOk result (link.new ≡ disposition_heard covered settled state link.old) }
     ensures answer { IfOk result (λ forgotten. forgotten ≡ is_forgotten covered settled state link.old) }
 {
-    if link.is_over() {
+    if !link.is_heard() {
         discard_covered(covered, state);
         return Ok(true);
     }
@@ -88,8 +87,7 @@ impl Links {
         }
     }
 
-    /// A Disposition was read. One of the receivers of the peer speaks of deliveries of this end. One of its senders changes nothing:
-    /// in the modes in which a receiver settles first it knows what it says.
+    /// A Disposition was read. One of the receivers of the peer speaks of deliveries of this end, one of its senders of its own.
     pub(crate) fn on_disposition(
         &mut self,
         session: u64,
@@ -97,10 +95,8 @@ impl Links {
     ) -> Result<(), AllocError>
         ensures { OnOk result (seen self.new ≡ disposition_read session disposition (seen self.old)) }
     {
-        match disposition.role {
-            Role::Receiver => self.settle_covered(session, &disposition),
-            Role::Sender => Ok(()),
-        }
+        let numbers = self.covered(session, &disposition)?;
+        self.settle_all(&numbers, session, &disposition)
     }
 
     /// The numbers of deliveries that it covers.
@@ -109,16 +105,9 @@ impl Links {
     {
         let last = disposition.last.unwrap_or(disposition.first);
         match self.sessions.get(&session) {
-            Some(place) => place.covered(disposition.first, last),
+            Some(place) => place.covered(disposition.role, disposition.first, last),
             None => Ok(Vec::new(self.alloc)),
         }
-    }
-
-    fn settle_covered(&mut self, session: u64, disposition: &Disposition) -> Result<(), AllocError>
-        ensures { OnOk result (seen self.new ≡ covered_settled session disposition.now (seen self.old)) }
-    {
-        let numbers = self.covered(session, disposition)?;
-        self.settle_all(&numbers, session, disposition)
     }
 
     fn settle_all(
@@ -135,18 +124,19 @@ impl Links {
         Ok(())
     }
 
-    /// The delivery of that number, and the name of its link.
+    /// The delivery of that number of which a peer in that role speaks, and the name of its link.
     fn delivery(
         &self,
+        teller: Role,
         session: u64,
         number: u32,
     ) -> Result<Option<(u64, CoveredDelivery)>, AllocError>
-        ensures { IfOk result (λ found. found ≡ option_map (covered_by number) (delivery_at number (place_of session (seen self.now)))) }
+        ensures { IfOk result (λ found. found ≡ option_map (covered_by number) (delivery_at teller number (place_of session (seen self.now)))) }
     {
         let Some(place) = self.sessions.get(&session) else {
             return Ok(None);
         };
-        match place.delivery(number) {
+        match place.delivery(teller, number) {
             Some(delivered) => {
                 let covered = covered_delivery(self.alloc, number, delivered)?;
                 Ok(Some(covered))
@@ -164,7 +154,7 @@ impl Links {
     ) -> Result<(), AllocError>
         ensures { OnOk result (seen self.new ≡ settled session number disposition.now (seen self.old)) }
     {
-        match self.delivery(session, number)? {
+        match self.delivery(disposition.role, session, number)? {
             Some((link, covered)) => self.settle_at(session, link, covered, disposition),
             None => Ok(()),
         }
@@ -181,7 +171,7 @@ impl Links {
     {
         let number = covered.delivery_id;
         let is_settled = self.settle_link(link, covered, disposition)?;
-        self.forget_if(is_settled, session, number);
+        self.forget_if(is_settled, disposition.role, session, number);
         self.take_up(link)
     }
 
@@ -206,14 +196,14 @@ impl Links {
     }
 
     /// A delivery that is settled needs its number no more.
-    fn forget_if(&mut self, is_settled: bool, session: u64, number: u32)
-        ensures { seen self.new ≡ forgetting is_settled session number (seen self.old) }
+    pub(crate) fn forget_if(&mut self, is_settled: bool, teller: Role, session: u64, number: u32)
+        ensures { seen self.new ≡ forgetting is_settled teller session number (seen self.old) }
     {
         if !is_settled {
             return;
         }
         if let Some(place) = self.sessions.get_mut(&session) {
-            place.forget(number);
+            place.forget(teller, number);
         }
     }
 }

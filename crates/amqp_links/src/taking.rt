@@ -1,15 +1,19 @@
 //! What has become of a link: what it has to write, the answers of calls that have waited, and its handle once it is over (OASIS AMQP
 //! 1.0, part 2, sections 2.6.3 and 2.6.6).
-ghost use Rattle.std.specs.Prelude.{◌≡◌, ◌++◌, map, OnOk};
+ghost use Rattle.std.specs.Prelude.{◌≡◌, ◌++◌, map, OnOk, IfOk};
 ghost use Rattle.amqp_links.specs.Parts.{Frame, output_of, emptied};
-ghost use Rattle.amqp_links.specs.State.{seen, place_of, at_place};
-ghost use Rattle.amqp_links.specs.Taking.{written, told, attaching_at, told_on, attach_told, spent_by, freed, taken_up};
+ghost use Rattle.amqp_links.specs.State.{seen, place_of, link_of, at_place};
+ghost use Rattle.amqp_links.specs.Taking.{written, told, attaching_at, told_on, attach_told, spent_by, freed, reclaimed, given_at, refused_at, placed, reattached, taken_up};
 ghost use Rattle.amqp_session_links.specs.Claims.{is_at, released};
 ghost use Rattle.amqp_session_links.specs.State.{attach_ended};
 
 use crate::links::Links;
 use crate::output::{LinksOutput, OutputQueue};
+use amqp_composites::modes::Role;
+use amqp_data::Text;
+use amqp_link::AttachError;
 use amqp_link_calls::CalledLink;
+use amqp_session_links::Claim;
 use std::alloc::AllocError;
 
 /// Has what a link has to write written behind that.
@@ -43,7 +47,7 @@ impl Links {
         self.tell(link)?;
         self.tell_attach(link)?;
         self.free(link);
-        Ok(())
+        self.reattach(link)
     }
 
     /// What the link has to write goes behind what is to be done.
@@ -151,6 +155,81 @@ impl Links {
     {
         if let Some(place) = self.sessions.get_mut(&session) {
             place.release(handle, link);
+        }
+    }
+
+    /// A link that is to be closed on a further attachment is attached again.
+    fn reattach(&mut self, link: u64) -> Result<(), AllocError>
+        ensures { OnOk result (seen self.new ≡ reattached link (seen self.old)) }
+    {
+        let Some(endpoint) = self.endpoints.get(&link) else {
+            return Ok(());
+        };
+        if !endpoint.wants_handle() {
+            return Ok(());
+        }
+        let session = endpoint.session();
+        let role = endpoint.role();
+        let name = endpoint.name().try_clone(self.alloc)?;
+        self.place_again(session, name, role, link)
+    }
+
+    fn place_again(
+        &mut self,
+        session: u64,
+        name: Text,
+        role: Role,
+        link: u64,
+    ) -> Result<(), AllocError>
+        ensures { OnOk result (seen self.new ≡ placed session name role link (seen self.old)) }
+    {
+        match self.reclaim(session, name, role, link)? {
+            Claim::Handle(handle) => {
+                self.give_handle(link, handle)?;
+                self.write_out(link)
+            }
+            Claim::Refused(error) => {
+                drop(error);
+                self.refuse_handle(link)?;
+                self.tell(link)
+            }
+        }
+    }
+
+    fn reclaim(
+        &mut self,
+        session: u64,
+        name: Text,
+        role: Role,
+        link: u64,
+    ) -> Result<Claim, AllocError>
+        ensures state { OnOk result (seen self.new ≡ (reclaimed session name role link (seen self.old)).state) }
+        ensures answer { IfOk result (λ claim. claim ≡ (reclaimed session name role link (seen self.old)).answer) }
+    {
+        match self.sessions.get_mut(&session) {
+            Some(place) => place.reclaim(name, role, link),
+            None => {
+                drop(name);
+                Ok(Claim::Refused(AttachError::SessionNotMapped))
+            }
+        }
+    }
+
+    fn give_handle(&mut self, link: u64, handle: u32) -> Result<(), AllocError>
+        ensures { OnOk result (seen self.new ≡ given_at (link_of link (seen self.old)) handle link (seen self.old)) }
+    {
+        match self.endpoints.get_mut(&link) {
+            Some(endpoint) => endpoint.give_handle(handle),
+            None => Ok(()),
+        }
+    }
+
+    fn refuse_handle(&mut self, link: u64) -> Result<(), AllocError>
+        ensures { OnOk result (seen self.new ≡ refused_at (link_of link (seen self.old)) link (seen self.old)) }
+    {
+        match self.endpoints.get_mut(&link) {
+            Some(endpoint) => endpoint.refuse_handle(),
+            None => Ok(()),
         }
     }
 }

@@ -6,6 +6,7 @@ use Rattle.amqp_receiver.specs.declared.delivering.RecvReply.{RecvReply}
 use Rattle.amqp_receiver.specs.declared.delivering.RecvReply.TheVariants.{Pending, Ready}
 use Rattle.amqp_receiver.specs.declared.error.RecvError.{RecvError}
 use Rattle.amqp_receiver.specs.declared.error.RecvError.TheVariants as error
+use Rattle.amqp_receiver.specs.AutoAccept.{auto_accepted}
 use Rattle.amqp_receiver.specs.Receiver.{State}
 use Rattle.amqp_receiver.specs.Receiving.{Got, Step, Steps}
 
@@ -21,9 +22,24 @@ Decodes (Err (error.Memory a)) handle x = Unit {0}
 Decodes (Err (error.MessageDecode info source)) handle x = (info ≡ x.info) × IsTheMessage (Err source) (SpellsMessage (all_bytes x.payloads))
 Decodes (Err e) handle x = ⊥
 
+-- a message that is given is accepted, where that is to be done at once
+abbrev pub given_behind : Result Delivery RecvError → Got → State → State
+given_behind (Ok d) x s = auto_accepted x.info s
+given_behind (Err e) x s = s
+
+-- this is what the bytes of a delivery spell that is complete
+abbrev pub IsGiven : Result Delivery RecvError → Got → State → State → Type 0
+IsGiven result x old new = (new ≡ given_behind result x old) × Decodes result old.link.own.handle x
+
+abbrev pub Gives : Result RecvReply RecvError → Got → State → State → Type 0
+Gives (Ok Pending) x old new = ⊥
+Gives (Ok (Ready d)) x old new = IsGiven (Ok d) x old new
+Gives (Err (error.Memory a)) x old new = Unit {0}
+Gives (Err e) x old new = IsGiven (Err e) x old new
+
 -- a delivery was complete, and this is what its bytes spell
 abbrev pub GivesMessage : Result Delivery RecvError → Step → State → Type 0
-GivesMessage result step new = (x : Got) × ((step.answer ≡ Some (Ok x)) × (new ≡ step.state) × Decodes result new.link.own.handle x)
+GivesMessage result step new = (x : Got) × ((step.answer ≡ Some (Ok x)) × IsGiven result x step.state new)
 
 -- a message, none yet, or why there is none
 abbrev pub Receives : Result RecvReply RecvError → Step → State → Type 0

@@ -1,4 +1,7 @@
 pub mod Receiver
 pub mod Receiving
 pub mod Disposing
+pub mod AutoAccept
+pub mod Regulating
 pub mod Delivering
+pub mod Parting

@@ -29,7 +29,8 @@ use Rattle.amqp_receiver.specs.declared.settings.ReceiverSettings.{ReceiverSetti
 
 -- the link; the book of its deliveries and its credit; the Transfers that wait; the delivery of which more is to come; where the
 -- sender's delivery-count began, how many deliveries it has begun since, modulo 2^32, and how much credit it has drained; whether the
--- last Transfer that was read has more to come
+-- last Transfer that was read has more to come; whether each delivery is accepted as it is given; whether the sender was asked to use up
+-- its credit, and was given none since
 pub record State : Type 0 where
   pub link : link.Link
   pub book : Book
@@ -39,12 +40,14 @@ pub record State : Type 0 where
   pub begun : ℕ
   pub drained : ℕ
   pub is_inside : Bool
+  pub auto_accept : Bool
+  pub is_draining : Bool
 
 abbrev pub seen : Receiver → State
-seen s = record { link = link.seen s.link; book = s.book.book; incoming = s.incoming.items; buffer = option_map parts.seen s.buffer; initial = s.initial; begun = s.begun; drained = s.drained; is_inside = s.is_inside }
+seen s = record { link = link.seen s.link; book = s.book.book; incoming = s.incoming.items; buffer = option_map parts.seen s.buffer; initial = s.initial; begun = s.begun; drained = s.drained; is_inside = s.is_inside; auto_accept = s.auto_accept; is_draining = s.is_draining }
 
-abbrev pub fresh : link.Link → CreditMode → State
-fresh l credit_mode = record { link = l; book = empty_book l.own.rcv_settle_mode credit_mode 0; incoming = []; buffer = None; initial = 0; begun = 0; drained = 0; is_inside = false }
+abbrev pub fresh : link.Link → CreditMode → Bool → State
+fresh l credit_mode auto_accept = record { link = l; book = empty_book l.own.rcv_settle_mode credit_mode 0; incoming = []; buffer = None; initial = 0; begun = 0; drained = 0; is_inside = false; auto_accept = auto_accept; is_draining = false }
 
 -- the Attach that the settings say
 abbrev pub own_of : ReceiverSettings → ℕ → Attach
@@ -52,16 +55,17 @@ own_of x handle = record { name = x.name; handle = handle; role = role.Receiver;
 
 -- this end attaches
 abbrev pub asked : ReceiverSettings → ℕ → State
-asked x handle = fresh (link.asked x.verify (own_of x handle)) x.credit_mode
+asked x handle = fresh (link.asked x.verify (own_of x handle)) x.credit_mode x.auto_accept
 
 -- ---- credit
 
--- the sender is told its credit (section 2.6.7)
-abbrev pub telling_credit : State → State
-telling_credit s = record s { link = link.saying (b.Flow (link_flow s.link.own.handle s.book.delivery_count s.book.credit false)) s.link }
+-- the sender is told its credit, and whether it is to use it up (section 2.6.7)
+abbrev pub telling_credit : Bool → State → State
+telling_credit drain s = record s { link = link.saying (b.Flow (link_flow s.link.own.handle s.book.delivery_count s.book.credit drain)) s.link }
 
+-- credit that is given is not to be used up
 abbrev pub giving : ℕ → State → State
-giving credit s = telling_credit (record s { book = with_credit s.book credit })
+giving credit s = telling_credit false (record s { book = with_credit s.book credit; is_draining = false })
 
 -- once both ends have attached, credit is given where it is kept up
 abbrev pub giving_first : CreditMode → State → State
@@ -78,7 +82,7 @@ opened_if false count s = s
 
 -- this end answers the Attach of a sender
 abbrev pub accepted : AcceptSettings → CreditMode → ℕ → Attach → State
-accepted x credit_mode handle attach = opened_if (accept.accepted x handle attach).is_made attach.initial_delivery_count (fresh (accept.accepted x handle attach) credit_mode)
+accepted x credit_mode handle attach = opened_if (accept.accepted x handle attach).is_made attach.initial_delivery_count (fresh (accept.accepted x handle attach) credit_mode false)
 
 -- the peer's Attach was read: it opens the link where that was not attached before
 abbrev pub attach_read : Attach → State → State

@@ -166,7 +166,7 @@ abbrev pub taken_whole : Transfer → List ℕ → State → Step
 taken_whole x payload s = if is_stray_state x s then closes error.DeliveryTagIsNone s else (if is_too_large (total x payload s) s.link.max_message_size then too_large (total x payload s) s else joined x payload s)
 
 -- a Transfer is taken: one that is aborted, one that resumes a delivery of which nothing is known here, or a part
-abbrev pub taken : Transfer → List ℕ → State → Step
+unfoldable pub taken : Transfer → List ℕ → State → Step
 taken x payload s = if x.aborted then aborted_at s.buffer x s else (if x.resume && not (belongs s.buffer x) then goes s else taken_whole x payload s)
 
 -- ---- the call

@@ -15,17 +15,17 @@ use bytes::Bytes;
 use std::alloc::{AllocError, Global};
 
 impl Receiver {
-    /// Tells the sender its credit.
-    fn tell_credit(&mut self)
+    /// Tells the sender its credit, and whether it is to use it up.
+    pub(crate) fn tell_credit(&mut self, drain: bool)
         requires { 0 < link.spare self.old.link }
-        ensures { seen self.new ≡ telling_credit (seen self.old) }
+        ensures { seen self.new ≡ telling_credit drain (seen self.old) }
     {
         let handle = self.link.handle();
         let flow = link_flow(
             handle,
             self.book.delivery_count(),
             self.book.credit(),
-            false,
+            drain,
         );
         self.link.say(LinkFrame::Flow(flow));
     }
@@ -36,7 +36,8 @@ impl Receiver {
         ensures { seen self.new ≡ giving credit (seen self.old) }
     {
         self.book.set_credit(credit);
-        self.tell_credit();
+        self.is_draining = false;
+        self.tell_credit(false);
     }
 
     fn give_first(&mut self, mode: CreditMode)
@@ -69,7 +70,7 @@ impl Receiver {
     }
 
     /// A receiver that answers the Attach of a sender: its own is to be written, and behind it a Flow where credit is kept up, or a
-    /// closing Detach where the link is refused. The one error is want of memory.
+    /// closing Detach where the link is refused. It accepts no delivery by itself. The one error is want of memory.
     pub fn accept(
         alloc: Global,
         settings: AcceptSettings,
@@ -83,7 +84,7 @@ impl Receiver {
         let count = attach.initial_delivery_count;
         let link = LinkEndpoint::accept(alloc, settings, handle, attach)?;
         let is_made = link.is_made();
-        let mut receiver = Receiver::new(alloc, link, credit_mode);
+        let mut receiver = Receiver::new(alloc, link, credit_mode, false);
         receiver.link.make_room(1)?;
         receiver.open_if(is_made, count);
         Ok(receiver)
@@ -102,8 +103,8 @@ impl Receiver {
         Ok(())
     }
 
-    /// Gives the sender that much credit, which `CreditMode::Auto` keeps up from then on: a Flow is to be written. `IllegalState` comes
-    /// where the link is not attached, then `SessionStopped` where the session has stopped.
+    /// Gives the sender that much credit, which `CreditMode::Auto` keeps up from then on, and which it need not use up: a Flow is to be
+    /// written. `IllegalState` comes where the link is not attached, then `SessionStopped` where the session has stopped.
     pub fn set_credit(&mut self, credit: u32) -> Result<(), FlowError>
         ensures { Answers result (credit_set credit (seen self.old)) (seen self.new) }
     {
@@ -139,7 +140,12 @@ impl Receiver {
             LinkPhase::AttachSent
             | LinkPhase::DetachExpected
             | LinkPhase::Refused
+            | LinkPhase::DetachSent
             | LinkPhase::CloseSent
+            | LinkPhase::HalfClosed
+            | LinkPhase::HandleWanted
+            | LinkPhase::ReattachSent
+            | LinkPhase::RecloseSent
             | LinkPhase::Detached => {
                 amqp_parts::let_go(transfer);
                 self.link.on_unexpected()
@@ -158,7 +164,8 @@ impl Receiver {
         count.wrapping_sub(known)
     }
 
-    fn drain(&mut self, amount: u32)
+    /// The sender has used up so much of its credit.
+    fn lose_credit(&mut self, amount: u32)
         ensures { seen self.new ≡ draining amount (seen self.old) }
     {
         self.book.drained(amount);
@@ -172,7 +179,7 @@ impl Receiver {
             && drain
         {
             let amount = self.drained_more(count);
-            self.drain(amount);
+            self.lose_credit(amount);
         }
     }
 
@@ -189,7 +196,12 @@ impl Receiver {
             LinkPhase::AttachSent
             | LinkPhase::DetachExpected
             | LinkPhase::Refused
+            | LinkPhase::DetachSent
             | LinkPhase::CloseSent
+            | LinkPhase::HalfClosed
+            | LinkPhase::HandleWanted
+            | LinkPhase::ReattachSent
+            | LinkPhase::RecloseSent
             | LinkPhase::Detached => self.link.on_unexpected(),
         }
     }

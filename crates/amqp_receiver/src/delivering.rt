@@ -3,7 +3,7 @@ ghost use Rattle.std.specs.Prelude.{◌≡◌, IfOk};
 ghost use Rattle.amqp_messages.specs.Reading.{IsTheMessage, SpellsMessage};
 ghost use Rattle.amqp_receiver.specs.Receiver.{seen};
 ghost use Rattle.amqp_receiver.specs.Receiving.{got, received};
-ghost use Rattle.amqp_receiver.specs.Delivering.{all_bytes, Decodes, Receives};
+ghost use Rattle.amqp_receiver.specs.Delivering.{all_bytes, Decodes, Gives, Receives};
 
 use crate::error::RecvError;
 use crate::receiver::Receiver;
@@ -107,16 +107,25 @@ fn decoded(alloc: Global, link_handle: u32, received: Received) -> Result<Delive
 }
 
 impl Receiver {
-    /// The next message: none where more has to come. The errors are those of `receive`, and `MessageDecode` exactly where the bytes
-    /// of a delivery spell no message: it stays unsettled. For want of memory the receiver is not known any more.
+    /// The message of a delivery that is complete; it is accepted, where that is to be done at once.
+    fn give_message(&mut self, received: Received) -> Result<RecvReply, RecvError>
+        ensures { Gives result (got received) (seen self.old) (seen self.new) }
+    {
+        let delivery = decoded(self.alloc, self.link.handle(), received)?;
+        self.accept_if_auto(&delivery.info)?;
+        Ok(RecvReply::Ready(delivery))
+    }
+
+    #[tactic(auto, using(crate::proofs::Giving::given))]
+    /// The next message: none where more has to come. Where deliveries are accepted as they are given, this one is: a Disposition is to
+    /// be written, and a Flow where credit is due, but nothing where the link is not attached any more or its session has stopped. The
+    /// errors are those of `receive`, and `MessageDecode` exactly where the bytes of a delivery spell no message: it stays unsettled. For
+    /// want of memory the receiver is not known any more.
     pub fn recv(&mut self) -> Result<RecvReply, RecvError>
         ensures { Receives result (received (seen self.old)) (seen self.new) }
     {
         match self.receive()? {
-            Some(received) => {
-                let delivery = decoded(self.alloc, self.link.handle(), received)?;
-                Ok(RecvReply::Ready(delivery))
-            }
+            Some(received) => self.give_message(received),
             None => Ok(RecvReply::Pending),
         }
     }

@@ -5,10 +5,10 @@ ghost use Rattle.amqp_delivery.specs.Book.{view_of};
 ghost use Rattle.amqp_delivery.specs.States.{accepted};
 ghost use Rattle.amqp_termini.specs.TerminalState.{state_of_terminal};
 ghost use Rattle.amqp_receiver.specs.Receiver.{seen, Answers};
-ghost use Rattle.amqp_receiver.specs.Disposing.{last_of, frame_for, writing, written, refusal_of, disposing, disposed_by, disposed};
+ghost use Rattle.amqp_receiver.specs.Disposing.{last_of, frame_for, writing, written, is_refill, undrained, refusal_of, disposing, disposed_by, disposed, settles};
 
 use crate::receiver::Receiver;
-use amqp_composites::modes::Role;
+use amqp_composites::modes::{ReceiverSettleMode, Role};
 use amqp_delivery::{BookReply, DeliveryInfo, DisposerView, Order, OrderList, copy_state};
 use amqp_frames::LinkFrame;
 use amqp_link::{DispositionError, link_flow};
@@ -52,6 +52,17 @@ fn frame_for(alloc: Global, handle: u32, order: &Order) -> Result<LinkFrame, All
     }
 }
 
+/// Whether credit was given.
+fn is_refill(reply: &BookReply) -> bool
+    ensures { result ≡ is_refill reply.now }
+{
+    match reply {
+        BookReply::Done { found: _, refilled } => *refilled,
+        BookReply::Taken(_) => false,
+        BookReply::Stale => false,
+    }
+}
+
 fn refusal_of(reply: &BookReply) -> Option<DispositionError>
     ensures { result ≡ refusal_of reply.now }
 {
@@ -85,11 +96,20 @@ impl Receiver {
     }
 
     /// Writes what the book has ordered.
-    fn write_book(&mut self) -> Result<(), AllocError>
+    pub(crate) fn write_book(&mut self) -> Result<(), AllocError>
         ensures { OnOk result (seen self.new ≡ written (seen self.old)) }
     {
         let orders = self.book.take_orders();
         self.say_orders(orders)
+    }
+
+    /// Where credit was given the sender need not use it up.
+    pub(crate) fn end_drain_if(&mut self, reply: &BookReply)
+        ensures { seen self.new ≡ undrained reply.now (seen self.old) }
+    {
+        if is_refill(reply) {
+            self.is_draining = false;
+        }
     }
 
     fn dispose_in_book(
@@ -101,6 +121,7 @@ impl Receiver {
         ensures { Answers result (disposing view.now infos.now state (seen self.old)) (seen self.new) }
     {
         let reply = self.book.dispose_all(view, infos, state)?;
+        self.end_drain_if(&reply);
         self.write_book()?;
         match refusal_of(&reply) {
             Some(error) => Err(error),
@@ -124,6 +145,14 @@ impl Receiver {
             return Err(error);
         }
         self.dispose_in_book(view, infos, state)
+    }
+
+    /// Whether a delivery is settled as it is disposed of: not in `ReceiverSettleMode::Second`, where its sender settles first.
+    pub fn settles(&self, info: &DeliveryInfo) -> bool
+        ensures { result ≡ settles info.now (seen self.now) }
+    {
+        let mode = info.rcv_settle_mode.unwrap_or(self.view().mode);
+        matches!(mode, ReceiverSettleMode::First)
     }
 
     /// The view of the link as it is now, for a disposer.

@@ -8,11 +8,14 @@ pub use receiver::{Incoming, Receiver};
 pub use receiving::Received;
 pub use settings::ReceiverSettings;
 
+mod auto_accept;
 mod crediting;
 pub mod delivering;
 mod disposing;
 pub mod error;
+mod parting;
 pub mod receiver;
 pub mod receiving;
+mod regulating;
 pub mod settings;
 mod taking;

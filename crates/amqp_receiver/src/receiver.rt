@@ -65,6 +65,10 @@ pub struct Receiver {
     pub(crate) drained: u32,
     /// Whether the last Transfer that was read has more to come.
     pub(crate) is_inside: bool,
+    /// Whether each delivery is accepted as it is given.
+    pub(crate) auto_accept: bool,
+    /// Whether the sender was asked to use up its credit, and was given none since.
+    pub(crate) is_draining: bool,
 }
 
 // A receiver is let go by a call, so that no caller sees what it holds.
@@ -80,6 +84,8 @@ impl Drop for Receiver {
             begun: _,
             drained: _,
             is_inside: _,
+            auto_accept: _,
+            is_draining: _,
         } = self;
         drop(link);
         drop(book);
@@ -114,8 +120,13 @@ fn own_of(alloc: Global, settings: ReceiverSettings, handle: u32) -> Result<Atta
 
 impl Receiver {
     /// A receiver without deliveries.
-    pub(crate) fn new(alloc: Global, endpoint: LinkEndpoint, credit_mode: CreditMode) -> Self
-        ensures { seen result ≡ fresh (link.seen endpoint) credit_mode }
+    pub(crate) fn new(
+        alloc: Global,
+        endpoint: LinkEndpoint,
+        credit_mode: CreditMode,
+        auto_accept: bool,
+    ) -> Self
+        ensures { seen result ≡ fresh (link.seen endpoint) credit_mode auto_accept }
     {
         let mode = endpoint.terms().rcv_settle_mode;
         Receiver {
@@ -128,6 +139,8 @@ impl Receiver {
             begun: 0,
             drained: 0,
             is_inside: false,
+            auto_accept,
+            is_draining: false,
         }
     }
 
@@ -141,9 +154,10 @@ impl Receiver {
     {
         let verify = settings.verify;
         let credit_mode = settings.credit_mode;
+        let auto_accept = settings.auto_accept;
         let own = own_of(alloc, settings, handle)?;
         let link = LinkEndpoint::attach(alloc, own, verify)?;
-        Ok(Receiver::new(alloc, link, credit_mode))
+        Ok(Receiver::new(alloc, link, credit_mode, auto_accept))
     }
 
     /// The peer's Detach was read: it is answered at once, unless it answers the Detach of this end.

@@ -22,6 +22,8 @@ pub struct ReceiverSettings {
     pub max_message_size: Option<u64>,
     /// When the sender is given credit.
     pub credit_mode: CreditMode,
+    /// Whether each delivery is accepted as it is given.
+    pub auto_accept: bool,
     /// Whether the addresses of termini that are to be made are looked at in the answer.
     pub verify: bool,
 }

@@ -418,6 +418,7 @@ impl Receiver {
         self.join(transfer, payload)
     }
 
+    #[tactic(auto, unfolding(crate::specs::Receiving::taken))]
     /// Takes a Transfer that has waited: none where more has to come.
     pub(crate) fn take(
         &mut self,

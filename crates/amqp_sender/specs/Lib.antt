@@ -1,3 +1,4 @@
 pub mod Sender
 pub mod Sending
 pub mod Settling
+pub mod Parting

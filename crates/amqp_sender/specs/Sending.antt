@@ -11,6 +11,7 @@ use Rattle.amqp_performatives.specs.declared.transfer.Transfer.{Transfer}
 use Rattle.amqp_frames.specs.declared.body.FrameBody.TheVariants as b
 use Rattle.amqp_link.specs.declared.endpoint.LinkPhase.{LinkPhase}
 use Rattle.amqp_link.specs.declared.endpoint.LinkPhase.TheVariants as phase
+use Rattle.amqp_link.specs.declared.error.DetachError.TheVariants.{IllegalState}
 use Rattle.amqp_link.specs.declared.error.LinkStateError.{LinkStateError}
 use Rattle.amqp_link.specs.Link as link
 use Rattle.amqp_link.specs.Numbers.{minus, plus, link_flow}
@@ -70,7 +71,8 @@ sending_with false payload format settled batchable s = tells (Ok Pending) s
 
 abbrev pub sending_unless : Option LinkStateError → List ℕ → ℕ → Bool → Bool → State → Made
 sending_unless (Some e) payload format settled batchable s = tells (Err (error.LinkStateError e)) s
-sending_unless None payload format settled batchable s = sending_with (nat_lt 0 s.credit) payload format settled batchable s
+sending_unless None payload format settled batchable s =
+    if link.is_detaching s.link.phase then tells (Err (error.Detached IllegalState)) s else sending_with (nat_lt 0 s.credit) payload format settled batchable s
 
 abbrev pub sending : List ℕ → ℕ → Option Bool → Bool → State → Made
 sending payload format wanted batchable s =

@@ -1,7 +1,7 @@
 //! Why a message is not sent, or has no outcome (OASIS AMQP 1.0, part 2, sections 2.6.12 and 2.7.3).
 ghost use Rattle.std.specs.Prelude.{◌≡◌};
 
-use amqp_link::LinkStateError;
+use amqp_link::{DetachError, LinkStateError};
 use std::alloc::AllocError;
 use thiserror::Error;
 
@@ -14,6 +14,9 @@ pub enum SendError {
     /// The link takes no message, or tells no outcome.
     #[error("LinkStateError")]
     LinkStateError(LinkStateError),
+    /// This end has detached the link, and the peer has not answered.
+    #[error("Detached")]
+    Detached(DetachError),
     /// The delivery was settled without a state in which a delivery ends.
     #[error("NonTerminalDeliveryState")]
     NonTerminalDeliveryState,

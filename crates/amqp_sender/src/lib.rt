@@ -6,6 +6,7 @@ pub use sender::{DeliveryToken, OutcomePoll, SendReply, Sender, Settlement};
 pub use settings::SenderSettings;
 
 pub mod error;
+mod parting;
 pub mod sender;
 mod sending;
 pub mod settings;

@@ -11,7 +11,7 @@ use crate::sender::{DeliveryToken, SendReply, Sender, Settlement};
 use amqp_composites::modes::SenderSettleMode;
 use amqp_data::Binary;
 use amqp_frames::LinkFrame;
-use amqp_link::{LinkPhase, link_flow};
+use amqp_link::{DetachError, LinkPhase, link_flow};
 use amqp_performatives::flow::Flow;
 use amqp_performatives::transfer::Transfer;
 use amqp_termini::{Accepted, Outcome};
@@ -148,6 +148,9 @@ impl Sender {
         if let Some(error) = self.link.refusal()? {
             return Err(SendError::LinkStateError(error));
         }
+        if self.link.is_detaching() {
+            return Err(SendError::Detached(DetachError::IllegalState));
+        }
         if self.credit == 0 {
             return Ok(SendReply::Pending);
         }
@@ -158,7 +161,7 @@ impl Sender {
     /// splits. It is sent settled as the link's mode says, in `SenderSettleMode::Mixed` as is asked for, else not. `Pending` comes
     /// where there is no credit. Refusals in this order: `MessageSizeExceeded` where the message is larger than the link takes;
     /// `LinkStateError` where this end has closed the link, the peer has detached it, the session has stopped or the link is not
-    /// attached.
+    /// attached; `Detached` with `IllegalState` where the Detach of this end waits for its answer.
     pub fn send(
         &mut self,
         payload: Bytes,
@@ -223,7 +226,12 @@ impl Sender {
             LinkPhase::AttachSent
             | LinkPhase::DetachExpected
             | LinkPhase::Refused
+            | LinkPhase::DetachSent
             | LinkPhase::CloseSent
+            | LinkPhase::HalfClosed
+            | LinkPhase::HandleWanted
+            | LinkPhase::ReattachSent
+            | LinkPhase::RecloseSent
             | LinkPhase::Detached => self.link.on_unexpected(),
         }
     }

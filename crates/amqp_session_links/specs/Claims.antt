@@ -20,17 +20,17 @@ abbrev pub refuses : AttachError → State → Claimed
 refuses e s = record { answer = Refused e; state = s }
 
 -- by the names and handles that are held
-abbrev pub claimed_by : Result ℕ AllocLinkError → List ℕ → Role → ℕ → State → Claimed
-claimed_by (Ok handle) name role link s = record {
+abbrev pub claimed_by : Result ℕ AllocLinkError → ℕ → List ℕ → Role → ℕ → State → Claimed
+claimed_by (Ok handle) max name role link s = record {
   answer = Handle handle;
-  state = record s { table = table.allocated (Ok handle) name role link s.table; links = s.links ++ link ∷ [] };
+  state = record s { table = table.allocated (Ok handle) name role link s.table; links = s.links ++ link ∷ []; handle_max = Some max };
 }
-claimed_by (Err (full.Memory a)) name role link s = refuses (error.Memory a) s
-claimed_by (Err full.DuplicatedLinkName) name role link s = refuses error.DuplicatedLinkName s
-claimed_by (Err full.HandleMaxReached) name role link s = refuses error.HandleMaxReached s
+claimed_by (Err (full.Memory a)) max name role link s = refuses (error.Memory a) s
+claimed_by (Err full.DuplicatedLinkName) max name role link s = refuses error.DuplicatedLinkName s
+claimed_by (Err full.HandleMaxReached) max name role link s = refuses error.HandleMaxReached s
 
 abbrev pub claimed_below : ℕ → List ℕ → Role → ℕ → State → Claimed
-claimed_below max name role link s = claimed_by (table.allocation name role max s.table) name role link s
+claimed_below max name role link s = claimed_by (table.allocation name role max s.table) max name role link s
 
 abbrev pub claimed_up_to : Option ℕ → List ℕ → Role → ℕ → State → Claimed
 claimed_up_to None name role link s = refuses error.SessionNotMapped s
@@ -43,6 +43,23 @@ claimed_unless None max name role link s = claimed_up_to max name role link s
 -- a link of that name and role asks for a handle up to `max`
 abbrev pub claiming : List ℕ → Role → ℕ → Option ℕ → State → Claimed
 claiming name role link max s = claimed_unless s.stop_reason max name role link s
+
+-- ---- a handle for a further attachment
+
+abbrev pub reclaimed_by : Result ℕ AllocLinkError → List ℕ → Role → ℕ → State → Claimed
+reclaimed_by (Ok handle) name role link s =
+    record { answer = Handle handle; state = record s { table = table.allocated (Ok handle) name role link s.table } }
+reclaimed_by (Err (full.Memory a)) name role link s = refuses (error.Memory a) s
+reclaimed_by (Err full.DuplicatedLinkName) name role link s = refuses error.DuplicatedLinkName s
+reclaimed_by (Err full.HandleMaxReached) name role link s = refuses error.HandleMaxReached s
+
+abbrev pub reclaimed_up_to : Option ℕ → List ℕ → Role → ℕ → State → Claimed
+reclaimed_up_to None name role link s = refuses error.SessionNotMapped s
+reclaimed_up_to (Some max) name role link s = reclaimed_by (table.allocation name role max s.table) name role link s
+
+-- a link that was attached before asks for a handle again
+abbrev pub reclaiming : List ℕ → Role → ℕ → State → Claimed
+reclaiming name role link s = reclaimed_up_to s.handle_max name role link s
 
 -- whether a place is that link's
 abbrev pub is_at : Option ℕ → ℕ → Bool

@@ -1,4 +1,5 @@
 pub mod Inputs
 pub mod State
+pub mod Numbers
 pub mod Claims
 pub mod Incoming

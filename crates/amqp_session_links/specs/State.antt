@@ -1,32 +1,32 @@
 -- What the links of one session share, as their rules see it (OASIS AMQP 1.0, part 2, sections 2.5 and 2.6).
-use Rattle.std.specs.Prelude.{◌≡◌, ℕ, nat_eq, Bool, true, false, ◌||◌, is_some, List, [], ◌∷◌, ◌++◌, Option, Some, None, if◌then◌else◌}
-use Rattle.amqp_composites.specs.declared.modes.Role.{Role}
+use Rattle.std.specs.Prelude.{ℕ, Bool, ◌||◌, is_some, List, [], Option, Some, None}
 use Rattle.amqp_frames.specs.declared.shared.SessionStopReason.{SessionStopReason}
 use Rattle.amqp_link.specs.Link.{first_reason}
-use Rattle.amqp_link_tables.specs.Calls as table
-use Rattle.amqp_link_tables.specs.Deliveries as table_of
 use Rattle.amqp_link_tables.specs.declared.deliveries.Delivered.{Delivered}
 use Rattle.amqp_link_tables.specs.State.{State as Table, no_links}
 use Rattle.amqp_performatives.specs.declared.attach.Attach.{Attach}
-use Rattle.amqp_session.specs.declared.session.LeftDelivery.{LeftDelivery}
 use Rattle.amqp_session.specs.declared.session.LinkInput.{LinkInput}
 use Rattle.amqp_session_links.specs.declared.place.WaitingAccept.{WaitingAccept}
 
--- the links that hold a handle, by handles and names, and the deliveries of this end by numbers; each link that was made on the session;
--- the link whose attach waits for the peer's answer; the call that waits for an Attach of the peer; the Attaches of the peer that no
--- call has accepted; what was read of the handles of the peer that no link has; why the session has stopped
+-- the links that hold a handle, by handles and names; the deliveries that this end has sent and those that the peer has sent, by numbers;
+-- each link that was made on the session; the link whose attach waits for the peer's answer; the call that waits for an Attach of the
+-- peer; the Attaches of the peer that no call has accepted; what was read of the handles of the peer that no link has; the highest
+-- handle that this end may use, once a link has got one; why the session has stopped
 pub record State : Type 0 where
   pub table : Table
+  pub outgoing : List (ℕ × Delivered)
+  pub incoming : List (ℕ × Delivered)
   pub links : List ℕ
   pub attaching : Option ℕ
   pub accepting : Option WaitingAccept
   pub attaches : List Attach
   pub early : List (ℕ × List LinkInput)
+  pub handle_max : Option ℕ
   pub stop_reason : Option SessionStopReason
 
 -- no link was attached
 abbrev pub none_attached : State
-none_attached = record { table = no_links; links = []; attaching = None; accepting = None; attaches = []; early = []; stop_reason = None }
+none_attached = record { table = no_links; outgoing = []; incoming = []; links = []; attaching = None; accepting = None; attaches = []; early = []; handle_max = None; stop_reason = None }
 
 -- whether a call waits
 abbrev pub is_busy : State → Bool
@@ -49,21 +49,6 @@ awaiting_attach accept s = record s { accepting = Some accept }
 -- no call does
 abbrev pub accept_taken : State → State
 accept_taken s = record s { accepting = None }
-
--- ---- the deliveries of this end
-
--- a delivery that was not settled as it left is known by its number
-abbrev pub entered_at : Option ℕ → LeftDelivery → State → State
-entered_at None x s = s
-entered_at (Some link) x s =
-    if x.settled then s else record s { table = table_of.entered x.delivery_id (record { link = link; tag = x.delivery_tag }) s.table }
-
-abbrev pub entered : LeftDelivery → State → State
-entered x s = entered_at (table.link_at x.handle s.table) x s
-
--- no delivery has that number
-abbrev pub forgotten : ℕ → State → State
-forgotten number s = record s { table = table_of.forgotten number s.table }
 
 -- ---- the end of the session
 

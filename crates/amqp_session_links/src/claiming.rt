@@ -1,6 +1,6 @@
 //! How links get their handles, and give them back (OASIS AMQP 1.0, part 2, sections 2.6.2 and 2.6.4).
-ghost use Rattle.std.specs.Prelude.{◌≡◌, OnOk, IfOk};
-ghost use Rattle.amqp_session_links.specs.Claims.{claimed_below, claimed_up_to, claiming, is_at, released, joined, parted, spending};
+ghost use Rattle.std.specs.Prelude.{◌≡◌, Some, OnOk, IfOk};
+ghost use Rattle.amqp_session_links.specs.Claims.{claimed_below, claimed_up_to, claiming, reclaimed_up_to, reclaiming, is_at, released, joined, parted, spending};
 
 use crate::place::{Claim, SessionLinks};
 use amqp_composites::modes::Role;
@@ -75,6 +75,7 @@ impl SessionLinks {
         match self.table.allocate(name, role, link, handle_max) {
             Ok(handle) => {
                 self.links.push(link)?;
+                self.handle_max = Some(handle_max);
                 Ok(Claim::Handle(handle))
             }
             Err(AllocLinkError::Memory(error)) => Err(error),
@@ -83,6 +84,44 @@ impl SessionLinks {
             }
             Err(AllocLinkError::HandleMaxReached) => {
                 Ok(Claim::Refused(AttachError::HandleMaxReached))
+            }
+        }
+    }
+
+    fn reclaim_handle(
+        &mut self,
+        name: Text,
+        role: Role,
+        link: u64,
+        handle_max: u32,
+    ) -> Result<Claim, AllocError>
+        ensures state { OnOk result (self.new ≡ (reclaimed_up_to (Some handle_max) name role link self.old).state) }
+        ensures answer { IfOk result (λ claim. claim ≡ (reclaimed_up_to (Some handle_max) name role link self.old).answer) }
+    {
+        match self.table.allocate(name, role, link, handle_max) {
+            Ok(handle) => Ok(Claim::Handle(handle)),
+            Err(AllocLinkError::Memory(error)) => Err(error),
+            Err(AllocLinkError::DuplicatedLinkName) => {
+                Ok(Claim::Refused(AttachError::DuplicatedLinkName))
+            }
+            Err(AllocLinkError::HandleMaxReached) => {
+                Ok(Claim::Refused(AttachError::HandleMaxReached))
+            }
+        }
+    }
+
+    /// A link that was attached before gets the lowest handle of this end that is free, up to the highest that a link could get before.
+    /// Refusals: `DuplicatedLinkName`, then `HandleMaxReached`; `SessionNotMapped` where no link has had a handle. Then nothing
+    /// changes. The one error is want of memory.
+    pub fn reclaim(&mut self, name: Text, role: Role, link: u64) -> Result<Claim, AllocError>
+        ensures state { OnOk result (self.new ≡ (reclaiming name role link self.old).state) }
+        ensures answer { IfOk result (λ claim. claim ≡ (reclaiming name role link self.old).answer) }
+    {
+        match self.handle_max {
+            Some(handle_max) => self.reclaim_handle(name, role, link, handle_max),
+            None => {
+                drop(name);
+                Ok(Claim::Refused(AttachError::SessionNotMapped))
             }
         }
     }

@@ -8,5 +8,6 @@ pub use place::{Claim, SessionLinks, WaitingAccept};
 mod claiming;
 mod incoming;
 pub mod inputs;
+mod numbers;
 pub mod place;
 mod standing;

@@ -1,7 +1,6 @@
 //! What the links of one session share: what it is built from, and what it tells of itself (OASIS AMQP 1.0, part 2, section 2.6).
 ghost use Rattle.std.specs.Prelude.{◌≡◌, ◌↔◌, IsTrue, [], option_map, IfOk};
 ghost use Rattle.amqp_link_tables.specs.Calls as table;
-ghost use Rattle.amqp_link_tables.specs.Deliveries as deliveries;
 ghost use Rattle.amqp_session_links.specs.State.{none_attached, is_busy};
 ghost use Rattle.amqp_session_links.specs.Incoming.{first_of};
 
@@ -11,7 +10,7 @@ use amqp_data::Text;
 use amqp_delivery::CreditMode;
 use amqp_frames::SessionStopReason;
 use amqp_link::{AcceptSettings, AttachError};
-use amqp_link_tables::{Delivered, LinkTable};
+use amqp_link_tables::{DeliveryTable, LinkTable};
 use amqp_performatives::attach::Attach;
 use indexmap::IndexMap;
 use std::alloc::{AllocError, Global};
@@ -27,6 +26,8 @@ pub struct WaitingAccept {
     pub settings: AcceptSettings,
     /// When a receiver gives credit.
     pub credit_mode: CreditMode,
+    /// Whether a receiver accepts each delivery as it gives it.
+    pub auto_accept: bool,
     /// The highest handle that this end may use; none where the session is not begun at both ends.
     pub handle_max: Option<u32>,
 }
@@ -38,6 +39,7 @@ impl Drop for WaitingAccept {
             name: _,
             settings,
             credit_mode: _,
+            auto_accept: _,
             handle_max: _,
         } = self;
         drop(settings);
@@ -45,17 +47,18 @@ impl Drop for WaitingAccept {
 }
 
 impl WaitingAccept {
-    /// Its settings and when a receiver gives credit.
-    pub fn into_parts(self) -> (AcceptSettings, CreditMode)
-        ensures { (result.0 ≡ self.settings) × (result.1 ≡ self.credit_mode) }
+    /// Its settings, when a receiver gives credit, and whether that accepts each delivery as it gives it.
+    pub fn into_parts(self) -> (AcceptSettings, CreditMode, bool)
+        ensures { (result.0 ≡ self.settings) × (result.1 ≡ self.credit_mode) × (result.2 ≡ self.auto_accept) }
     {
         let WaitingAccept {
             name: _,
             settings,
             credit_mode,
+            auto_accept,
             handle_max: _,
         } = self;
-        (settings, credit_mode)
+        (settings, credit_mode, auto_accept)
     }
 }
 
@@ -71,8 +74,12 @@ pub enum Claim {
 /// What the links of one session share. A link is known by the name of the call that made it.
 pub struct SessionLinks {
     pub(crate) alloc: Global,
-    /// The links that hold a handle, by handles and names, and the deliveries of this end by numbers.
+    /// The links that hold a handle, by handles and names.
     pub(crate) table: LinkTable,
+    /// The deliveries that this end has sent, by numbers.
+    pub(crate) outgoing: DeliveryTable,
+    /// The deliveries that the peer has sent, by numbers.
+    pub(crate) incoming: DeliveryTable,
     /// Each link that was made on the session, in order.
     pub(crate) links: Vec<u64>,
     /// The link whose attach waits for the peer's answer.
@@ -83,6 +90,8 @@ pub struct SessionLinks {
     pub(crate) attaches: VecDeque<Attach>,
     /// What was read of the handles of the peer that no link has, in order.
     pub(crate) early: IndexMap<u32, InputQueue>,
+    /// The highest handle that this end may use, once a link has got one.
+    pub(crate) handle_max: Option<u32>,
     /// Why the session has stopped.
     pub(crate) stop_reason: Option<SessionStopReason>,
 }
@@ -93,14 +102,19 @@ impl Drop for SessionLinks {
         let SessionLinks {
             alloc: _,
             table,
+            outgoing,
+            incoming,
             links,
             attaching: _,
             accepting,
             attaches,
             early,
+            handle_max: _,
             stop_reason,
         } = self;
         drop(table);
+        drop(outgoing);
+        drop(incoming);
         drop(links);
         drop(accepting);
         drop(attaches);
@@ -112,6 +126,7 @@ impl Drop for SessionLinks {
 impl Model for SessionLinks {
     ghost use Rattle.std.specs.Coded.{codes};
     ghost use Rattle.amqp_frames.specs.contracts.shared.SessionStopReason as reason_row;
+    ghost use Rattle.amqp_link_tables.specs.Deliveries.{deliveries_in};
     ghost use Rattle.amqp_link_tables.specs.State.{seen as table_seen};
     ghost use Rattle.amqp_performatives.specs.contracts.attach.Attach as attach_row;
     ghost use Rattle.amqp_session.specs.contracts.session.LinkInput as input_row;
@@ -123,11 +138,14 @@ impl Model for SessionLinks {
 
     ghost view = { λ p. record {
       table = table_seen p.table;
+      outgoing = deliveries_in p.outgoing;
+      incoming = deliveries_in p.incoming;
       links = p.links.items;
       attaching = p.attaching;
       accepting = p.accepting;
       attaches = p.attaches.items;
       early = p.early.entries;
+      handle_max = p.handle_max;
       stop_reason = p.stop_reason;
     } };
 }
@@ -140,11 +158,14 @@ impl SessionLinks {
         SessionLinks {
             alloc,
             table: LinkTable::new(alloc),
+            outgoing: DeliveryTable::new(alloc),
+            incoming: DeliveryTable::new(alloc),
             links: Vec::new(alloc),
             attaching: None,
             accepting: None,
             attaches: VecDeque::new(alloc),
             early: IndexMap::new(alloc),
+            handle_max: None,
             stop_reason: None,
         }
     }
@@ -182,20 +203,6 @@ impl SessionLinks {
         ensures { result ≡ table.link_from remote self.now.table }
     {
         self.table.link_from(remote)
-    }
-
-    /// The delivery of this end that has that number.
-    pub fn delivery(&self, number: u32) -> Option<&Delivered>
-        ensures { option_map (λ d. d.now) result ≡ deliveries.delivery_of number self.now.table }
-    {
-        self.table.delivery(number)
-    }
-
-    /// The numbers from the first to the last, modulo 2^32, that have a delivery. The one error is want of memory.
-    pub fn covered(&self, first: u32, last: u32) -> Result<Vec<u32>, AllocError>
-        ensures { IfOk result (λ numbers. numbers.items ≡ deliveries.covered first last self.now.table) }
-    {
-        self.table.covered(first, last)
     }
 
     /// The names of all links that were made on the session, in order. The one error is want of memory.

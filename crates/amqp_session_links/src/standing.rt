@@ -1,15 +1,9 @@
-//! The calls that wait, the deliveries that have left, and the end of the session.
-ghost use Rattle.std.specs.Prelude.{◌≡◌, Some, OnOk};
-ghost use Rattle.amqp_session_links.specs.State.{awaiting_answer, attach_ended, awaiting_attach, accept_taken, entered_at, entered, forgotten, stopped};
+//! The calls that wait, and the end of the session.
+ghost use Rattle.std.specs.Prelude.{◌≡◌};
+ghost use Rattle.amqp_session_links.specs.State.{awaiting_answer, attach_ended, awaiting_attach, accept_taken, stopped};
 
 use crate::place::{SessionLinks, WaitingAccept};
 use amqp_frames::SessionStopReason;
-use amqp_link_tables::Delivered;
-use amqp_session::LeftDelivery;
-use std::alloc::AllocError;
-
-/// Lets a delivery go.
-fn discard(_left: LeftDelivery) {}
 
 impl SessionLinks {
     /// The attach of that link waits for the peer's answer.
@@ -39,40 +33,6 @@ impl SessionLinks {
         ensures state { self.new ≡ accept_taken self.old }
     {
         self.accepting.take()
-    }
-
-    /// A delivery of this end has begun to leave; it is known by its number until it is settled. The one error is want of memory.
-    pub fn enter(&mut self, left: LeftDelivery) -> Result<(), AllocError>
-        ensures { OnOk result (self.new ≡ entered left self.old) }
-    {
-        match self.table.link_at(left.handle) {
-            Some(link) => self.enter_at(link, left),
-            None => {
-                discard(left);
-                Ok(())
-            }
-        }
-    }
-
-    fn enter_at(&mut self, link: u64, left: LeftDelivery) -> Result<(), AllocError>
-        ensures { OnOk result (self.new ≡ entered_at (Some link) left self.old) }
-    {
-        if left.settled {
-            discard(left);
-            return Ok(());
-        }
-        let delivered = Delivered {
-            link,
-            tag: left.delivery_tag,
-        };
-        self.table.enter(left.delivery_id, delivered)
-    }
-
-    /// No delivery has that number.
-    pub fn forget(&mut self, number: u32)
-        ensures { self.new ≡ forgotten number self.old }
-    {
-        drop(self.table.forget(number));
     }
 
     /// The session has stopped. The first reason stays.

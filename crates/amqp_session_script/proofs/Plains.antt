@@ -23,8 +23,8 @@ use Rattle.amqp_script.specs.Number.{number_in}
 use Rattle.amqp_script.specs.Line.{end_in, act_in as old_act_in, step_of as old_step_of, step_of_words as old_step_of_words, step_in as old_step_in}
 use Rattle.amqp_script.specs.Script.{line_then as old_line_then, steps_from as old_steps_from, Spells as OldSpells, IsFirstBad as IsOldFirstBad}
 use Rattle.amqp_link_script.specs.declared.words.LinkWord.{LinkWord}
-use Rattle.amqp_link_script.specs.declared.words.LinkWord.TheVariants.{Sender, Receiver, AcceptLink, Send, Outcome, Recv, Dispose, SetCredit, Credit}
-use Rattle.amqp_link_script.specs.Words.{word_of as link_word_of}
+use Rattle.amqp_link_script.specs.declared.words.LinkWord.TheVariants.{Sender, Receiver, AcceptLink, Send, Outcome, Recv, Dispose, SetCredit, Credit, CreditMode, Auto, Drain, SendProperties, Disposer, DisposerAccept, DisposerRelease, OnDetach, Detach, CloseLink, Abandon}
+use Rattle.amqp_link_script.specs.Words.{word_of as link_word_of, regulating_word_of, parting_word_of}
 use Rattle.amqp_link_script.specs.Calls.{call_in as link_call_in}
 use Rattle.amqp_session_script.specs.Line.{numbers_in, ended_in, names_no_session, act_of, step_among, session_act, link_act, link_or_connection_in, act_in, step_of, step_of_words, IsAct, with_act, IsStep, LineSays, IsOutside}
 use Rattle.amqp_session_script.specs.Script.{lines_of, SaySteps, IsFirstOutside, Spells, IsFirstBad, HasNoSessionWords}
@@ -126,6 +126,17 @@ name_of Recv = codes "recv"
 name_of Dispose = codes "dispose"
 name_of SetCredit = codes "set_credit"
 name_of Credit = codes "credit"
+name_of CreditMode = codes "credit_mode"
+name_of Auto = codes "auto"
+name_of Drain = codes "drain"
+name_of SendProperties = codes "send_properties"
+name_of Disposer = codes "disposer"
+name_of DisposerAccept = codes "disposer_accept"
+name_of DisposerRelease = codes "disposer_release"
+name_of OnDetach = codes "on_detach"
+name_of Detach = codes "detach"
+name_of CloseLink = codes "close_link"
+name_of Abandon = codes "abandon"
 
 picked : (b : Bool) (name word : List ℕ) (l m : LinkWord) (others : Option LinkWord) → bytes_eq word name ≡ b → name ≡ name_of l → (others ≡ Some m → word ≡ name_of m) → (if b then Some l else others) ≡ Some m → word ≡ name_of m
 picked true name word l m others e is f h = let same : l ≡ m = cc in (bytes_eq-Decides word name).0 e ∙ is ∙ ap name_of same
@@ -134,18 +145,51 @@ picked false name word l m others e is f h = f h
 not_picked : (word : List ℕ) (m : LinkWord) → None ≡ Some m → word ≡ name_of m
 not_picked word m h = cc
 
--- which word it is
-word_is : (word : List ℕ) (m : LinkWord) → link_word_of word ≡ Some m → word ≡ name_of m
-word_is word m h =
-    let p9 = picked (bytes_eq word (codes "credit")) (codes "credit") word Credit m _ refl refl (not_picked word m) in
-    let p8 = picked (bytes_eq word (codes "set_credit")) (codes "set_credit") word SetCredit m _ refl refl p9 in
-    let p7 = picked (bytes_eq word (codes "dispose")) (codes "dispose") word Dispose m _ refl refl p8 in
-    let p6 = picked (bytes_eq word (codes "recv")) (codes "recv") word Recv m _ refl refl p7 in
-    let p5 = picked (bytes_eq word (codes "outcome")) (codes "outcome") word Outcome m _ refl refl p6 in
+-- which word it is, where it is one of these or of the others
+parting : (word : List ℕ) (m : LinkWord) (rest : Option LinkWord) → (rest ≡ Some m → word ≡ name_of m) → (if bytes_eq word (codes "on_detach") then Some OnDetach else if bytes_eq word (codes "detach") then Some Detach else if bytes_eq word (codes "close_link") then Some CloseLink else if bytes_eq word (codes "abandon") then Some Abandon else rest) ≡ Some m → word ≡ name_of m
+parting word m rest f h =
+    let p4 = picked (bytes_eq word (codes "abandon")) (codes "abandon") word Abandon m _ refl refl f in
+    let p3 = picked (bytes_eq word (codes "close_link")) (codes "close_link") word CloseLink m _ refl refl p4 in
+    let p2 = picked (bytes_eq word (codes "detach")) (codes "detach") word Detach m _ refl refl p3 in
+    picked (bytes_eq word (codes "on_detach")) (codes "on_detach") word OnDetach m _ refl refl p2 h
+
+regulating : (word : List ℕ) (m : LinkWord) (rest : Option LinkWord) → (rest ≡ Some m → word ≡ name_of m) → (if bytes_eq word (codes "credit_mode") then Some CreditMode else if bytes_eq word (codes "auto") then Some Auto else if bytes_eq word (codes "drain") then Some Drain else if bytes_eq word (codes "send_properties") then Some SendProperties else if bytes_eq word (codes "disposer") then Some Disposer else if bytes_eq word (codes "disposer_accept") then Some DisposerAccept else if bytes_eq word (codes "disposer_release") then Some DisposerRelease else rest) ≡ Some m → word ≡ name_of m
+regulating word m rest f h =
+    let p7 = picked (bytes_eq word (codes "disposer_release")) (codes "disposer_release") word DisposerRelease m _ refl refl f in
+    let p6 = picked (bytes_eq word (codes "disposer_accept")) (codes "disposer_accept") word DisposerAccept m _ refl refl p7 in
+    let p5 = picked (bytes_eq word (codes "disposer")) (codes "disposer") word Disposer m _ refl refl p6 in
+    let p4 = picked (bytes_eq word (codes "send_properties")) (codes "send_properties") word SendProperties m _ refl refl p5 in
+    let p3 = picked (bytes_eq word (codes "drain")) (codes "drain") word Drain m _ refl refl p4 in
+    let p2 = picked (bytes_eq word (codes "auto")) (codes "auto") word Auto m _ refl refl p3 in
+    picked (bytes_eq word (codes "credit_mode")) (codes "credit_mode") word CreditMode m _ refl refl p2 h
+
+attaching : (word : List ℕ) (m : LinkWord) (rest : Option LinkWord) → (rest ≡ Some m → word ≡ name_of m) → (if bytes_eq word (codes "sender") then Some Sender else if bytes_eq word (codes "receiver") then Some Receiver else if bytes_eq word (codes "accept_link") then Some AcceptLink else if bytes_eq word (codes "send") then Some Send else if bytes_eq word (codes "outcome") then Some Outcome else rest) ≡ Some m → word ≡ name_of m
+attaching word m rest f h =
+    let p5 = picked (bytes_eq word (codes "outcome")) (codes "outcome") word Outcome m _ refl refl f in
     let p4 = picked (bytes_eq word (codes "send")) (codes "send") word Send m _ refl refl p5 in
     let p3 = picked (bytes_eq word (codes "accept_link")) (codes "accept_link") word AcceptLink m _ refl refl p4 in
     let p2 = picked (bytes_eq word (codes "receiver")) (codes "receiver") word Receiver m _ refl refl p3 in
     picked (bytes_eq word (codes "sender")) (codes "sender") word Sender m _ refl refl p2 h
+
+taking : (word : List ℕ) (m : LinkWord) (rest : Option LinkWord) → (rest ≡ Some m → word ≡ name_of m) → (if bytes_eq word (codes "recv") then Some Recv else if bytes_eq word (codes "dispose") then Some Dispose else if bytes_eq word (codes "set_credit") then Some SetCredit else if bytes_eq word (codes "credit") then Some Credit else rest) ≡ Some m → word ≡ name_of m
+taking word m rest f h =
+    let p4 = picked (bytes_eq word (codes "credit")) (codes "credit") word Credit m _ refl refl f in
+    let p3 = picked (bytes_eq word (codes "set_credit")) (codes "set_credit") word SetCredit m _ refl refl p4 in
+    let p2 = picked (bytes_eq word (codes "dispose")) (codes "dispose") word Dispose m _ refl refl p3 in
+    picked (bytes_eq word (codes "recv")) (codes "recv") word Recv m _ refl refl p2 h
+
+parting_is : (word : List ℕ) (m : LinkWord) → parting_word_of word ≡ Some m → word ≡ name_of m
+unfolding parting_word_of
+parting_is word m h = parting word m None (not_picked word m) h
+
+regulating_is : (word : List ℕ) (m : LinkWord) → regulating_word_of word ≡ Some m → word ≡ name_of m
+unfolding regulating_word_of
+regulating_is word m h = regulating word m (parting_word_of word) (parting_is word m) h
+
+-- which word it is
+word_is : (word : List ℕ) (m : LinkWord) → link_word_of word ≡ Some m → word ≡ name_of m
+unfolding link_word_of
+word_is word m h = attaching word m _ (taking word m (regulating_word_of word) (regulating_is word m)) h
 
 -- a word of links says nothing of connections
 none_of : (l : LinkWord) (arguments : List (List ℕ)) → old_act_in (name_of l) arguments ≡ None
@@ -158,6 +202,17 @@ none_of Recv arguments = refl
 none_of Dispose arguments = refl
 none_of SetCredit arguments = refl
 none_of Credit arguments = refl
+none_of CreditMode arguments = refl
+none_of Auto arguments = refl
+none_of Drain arguments = refl
+none_of SendProperties arguments = refl
+none_of Disposer arguments = refl
+none_of DisposerAccept arguments = refl
+none_of DisposerRelease arguments = refl
+none_of OnDetach arguments = refl
+none_of Detach arguments = refl
+none_of CloseLink arguments = refl
+none_of Abandon arguments = refl
 
 -- a word of connections is none of sessions or links
 act_kept : (word : List ℕ) (arguments : List (List ℕ)) (a : ConnectionAct) → old_act_in word arguments ≡ Some a → act_in word arguments ≡ Some (act_of a)

@@ -1,5 +1,5 @@
 use Rattle.std.proofs.Common.{◌≡◌, ◌++◌, drop}
-use Rattle.amqp_links.specs.Calling.{infos_of}
+use Rattle.amqp_links.specs.Disposers.{infos_of}
 use Rattle.amqp_links.specs.State.{seen}
 use Rattle.amqp_links.proofs.links.Links.infos_of.Given as goal
 

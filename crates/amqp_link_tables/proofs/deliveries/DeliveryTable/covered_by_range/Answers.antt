@@ -1,8 +1,8 @@
 use Rattle.std.proofs.Common.{◌∙◌, ap, sym, ℕ, Vec, Global}
 use Rattle.amqp_link_tables.specs.Deliveries.{number_at, is_there}
 use Rattle.amqp_link_tables.proofs.Covered.{more_there, more_absent}
-use Rattle.amqp_link_tables.proofs.table.LinkTable.covered_by_range.Goals.{then-contains_key+in_ok-push, else-contains_key}
-use Rattle.amqp_link_tables.proofs.table.LinkTable.covered_by_range.Goals as goal
+use Rattle.amqp_link_tables.proofs.deliveries.DeliveryTable.covered_by_range.Goals.{then-contains_key+in_ok-push, else-contains_key}
+use Rattle.amqp_link_tables.proofs.deliveries.DeliveryTable.covered_by_range.Goals as goal
 
 pub loop-steps-preserved : goal.loop-steps-preserved
 loop-steps-preserved c =

@@ -2,7 +2,7 @@ use Rattle.std.proofs.Common.{subst, sym, ◌≡◌}
 use Rattle.std.proofs.lemmas.Result.{IfOk-weaker}
 use Rattle.amqp_link_tables.specs.Deliveries.{IsCover, covered_by_range, covered_by_table}
 use Rattle.amqp_link_tables.proofs.Covered.{range_covers, table_covers}
-use Rattle.amqp_link_tables.proofs.table.LinkTable.covered.Goals as goal
+use Rattle.amqp_link_tables.proofs.deliveries.DeliveryTable.covered.Goals as goal
 
 pub returns-then-ahead-len-clause-once : goal.returns-then-ahead-len-clause-once
 returns-then-ahead-len-clause-once c =
