@@ -7,3 +7,4 @@ mod asking;
 pub mod end;
 mod linking;
 mod running;
+pub mod stopped;

@@ -7,11 +7,11 @@ use Rattle.amqp_frames.specs.declared.body.FrameBody.TheVariants as b
 use Rattle.amqp_frames.specs.Body.{read_again_body}
 use Rattle.amqp_transport.specs.declared.frames.Frame.{Frame}
 use Rattle.amqp_transport.specs.Kinds.{amqp_again}
-use Rattle.amqp_peer.specs.Frames.{sessions_of, asks}
+use Rattle.amqp_peer.specs.Frames.{sessions_of, asks, asking_of, others_of}
 use Rattle.amqp_peer.specs.History.{Local, given_in, sent_in}
 use Rattle.amqp_ends.specs.Joined.{Hears, Meets}
 use Rattle.amqp_ends.proofs.Streams.{filter_again, sessions_hear}
-use Rattle.amqp_end_streams.specs.Streams.{asking_of, others_of, IsFront, Carries}
+use Rattle.amqp_end_streams.specs.Streams.{IsFront, Carries}
 
 again_append : (xs ys : List Frame) → map amqp_again (xs ++ ys) ≡ map amqp_again xs ++ map amqp_again ys
 again_append [] ys = refl

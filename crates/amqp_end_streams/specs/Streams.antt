@@ -1,19 +1,11 @@
 -- Ends that carry sessions, in words of what happened at each, and of what their sessions were handed and gave (OASIS AMQP 1.0, part 2, section
 -- 2.5).
-use Rattle.std.specs.Prelude.{◌≡◌, List, ◌++◌, [], Bool, true, not, filter, map}
+use Rattle.std.specs.Prelude.{◌≡◌, List, ◌++◌, [], Bool, true}
 use Rattle.amqp_transport.specs.declared.frames.Frame.{Frame}
-use Rattle.amqp_peer.specs.Frames.{sessions_of, asking, asks}
-use Rattle.amqp_peer.specs.Handed.{hears_in, channels_in}
+use Rattle.amqp_peer.specs.Frames.{sessions_of, asking_of, others_of}
+use Rattle.amqp_peer.specs.Hearing.{hears_in, waiting_in, asked_in}
 use Rattle.amqp_peer.specs.History.{Local, given_in, sent_in}
 use Rattle.amqp_peer.specs.Peering.{Peering, Has}
-
--- the frames that ask for a session (section 2.7.2)
-abbrev pub asking_of : List Frame → List Frame
-asking_of xs = filter (λ (x : Frame). asks x.body) xs
-
--- and the others
-abbrev pub others_of : List Frame → List Frame
-others_of xs = filter (λ (x : Frame). not (asks x.body)) xs
 
 -- these are the first of those
 abbrev pub IsFront : List Frame → List Frame → Type 0
@@ -33,6 +25,6 @@ IsUpTo hears xs all = (later : List Frame) × (xs ++ later ≡ all) × (hears �
 -- The same of an end, with what waits at its connection: while it hears, nothing was lost.
 pub record Serves {L : Type 0} (p : Peering L) (asked heard gave : List Frame) (h : List Local) : Type 0 where
   pub has : Has p h
-  pub asked_all : IsUpTo (hears_in p.held) (asked ++ map asking (channels_in p.held).begun) (asking_of (sessions_of (given_in h)))
-  pub heard_all : IsUpTo (hears_in p.held) (heard ++ (channels_in p.held).incoming) (others_of (sessions_of (given_in h)))
+  pub asked_all : IsUpTo (hears_in p.held) (asked ++ asked_in p.held) (asking_of (sessions_of (given_in h)))
+  pub heard_all : IsUpTo (hears_in p.held) (heard ++ waiting_in p.held) (others_of (sessions_of (given_in h)))
   pub sent_all : IsUpTo (hears_in p.held) (sessions_of (sent_in h)) gave

@@ -2,9 +2,10 @@
 ghost use Rattle.std.specs.Prelude.{List, map};
 ghost use Rattle.amqp_transport.specs.declared.frames.Frame.{Frame};
 ghost use Rattle.amqp_transport.specs.Kinds.{amqp_again};
+ghost use Rattle.amqp_peer.specs.Frames.{asking_of, others_of};
 ghost use Rattle.amqp_peer.specs.History.{Local};
 ghost use Rattle.amqp_ends.specs.Joined.{Meets};
-ghost use Rattle.amqp_end_streams.specs.Streams.{asking_of, others_of, IsFront, Carries};
+ghost use Rattle.amqp_end_streams.specs.Streams.{IsFront, Carries};
 
 /// What the sessions of one end were handed is the front of what the sessions of the other gave to their connection, as it is
 /// read again: the frames that ask for a session, and the others.

@@ -16,8 +16,8 @@ use Rattle.amqp_engine.specs.declared.error.Error.TheVariants as connection
 use Rattle.amqp_engine.specs.declared.phase.Phase.{Phase}
 use Rattle.amqp_engine.specs.declared.phase.Phase.TheVariants as p
 use Rattle.amqp_engine.specs.Faults.{AllOwed}
-use Rattle.amqp_engine.specs.Outcomes.{IsOnward, IsWritten, Stepped as EngineStepped}
-use Rattle.amqp_engine.specs.Phases.{state_of, is_stopped, has_failed}
+use Rattle.amqp_engine.specs.Outcomes.{IsHanded, IsOnward, IsWritten, Stepped as EngineStepped}
+use Rattle.amqp_engine.specs.Phases.{state_of, is_stopped, has_failed, hears}
 use Rattle.amqp_engine.specs.Sentence.{Ran}
 use Rattle.amqp_engine.specs.State.{State}
 use Rattle.amqp_words.specs.declared.call.Call.{Call}
@@ -29,7 +29,7 @@ use Rattle.amqp_peer.specs.declared.held.Held.TheVariants.{Early, Late, Unopened
 use Rattle.amqp_peer.specs.declared.peer.Progress.{Progress}
 use Rattle.amqp_peer.specs.declared.peer.Progress.TheVariants as progress
 use Rattle.amqp_peer.specs.Causes.{BeginsWithOpen, HasCause}
-use Rattle.amqp_peer.specs.Frames.{sessions_of}
+use Rattle.amqp_peer.specs.Hearing.{Gathers}
 use Rattle.amqp_peer.specs.Held.{IsAwaiting, IsLeaving, IsSound, IsLate, IsExchanged, IsBusy, IsActive, link_at, is_made, is_made_state, reason_of}
 use Rattle.amqp_peer.specs.History.{Local, Replied, made_in, link_in, given_in, sent_in, replied_in, moment_in, IsInside}
 use Rattle.amqp_peer.specs.Peering.{Peering, Has, HasIn, HasCalled, IsUnmade, IsUnmadeAt, IsMadeIn, IsFaultIn, IsWaiting, IsOpen, IsClosing, HasFailedOpen, HasClosed, IsBrokenIn, IsBrokenHeld, link_of}
@@ -42,11 +42,11 @@ use Rattle.amqp_peer.proofs.Grows.{is_running, onward_from, onward_sound, waitin
 use Rattle.amqp_peer.proofs.Leaves.{still_leaves}
 use Rattle.amqp_peer.proofs.Histories.{inside-append, link_in-append, given_in-append, sent_in-append, replied_in-append, moment_in-inside}
 use Rattle.amqp_peer.proofs.Said.{IsDue}
+use Rattle.amqp_peer.proofs.Gathers.{gathers_late, gathers_none, gathers_same, gathers_join}
 use Rattle.amqp_peer.proofs.Beats.{IsTimed, timed}
 use Rattle.amqp_peer.proofs.Settled.{read_up_left, blocked_left}
 use Rattle.amqp_peer.proofs.Moved.{moved, passed, made_after, link_after, replied_after, running_grows}
 use Rattle.amqp_peer.proofs.Quiet.{quiet_replied, running_quiet, called_quiet, broken_quiet, fault_quiet}
-use Rattle.amqp_peer.proofs.Unsaid.{owed_unsaid, unsaid_join}
 use Rattle.amqp_peer.proofs.Written.{out_running}
 
 -- ---- runs of an end
@@ -57,12 +57,12 @@ record Moves {L : Type 0} (link : Ghosts L) (n : ℕ) (old new : Peering L) (es 
   pub went : (d : L) → Went link (link_of d old) (link_in es) (link_of d new)
   pub answered_is : replied_in es ≡ answers
   pub few : reads_in (link_in es) ≤ n
-  pub unsaid : sessions_of (sent_in es) ≡ []
+  pub gathers : Gathers old.held new.held es
 
 abbrev advanced : {L : Type 0} (link : Ghosts L) (at n : ℕ) (old new : Peering L) (es : List Local) (answers : List NamedReply) → Moves link n old new es answers → new.replies ≡ old.replies ++ answers → new.kind ≡ old.kind
     → ((h : List Local) → moment_in h ≡ at → Has old h → Has new (es ++ h)) → Advanced link at n old new
 advanced link at n old new es answers m a k g =
-    record { events = es; inside = m.inside; went = m.went; answers = a ∙ ap (λ (u : List NamedReply). old.replies ++ u) (sym m.answered_is); few = m.few; unsaid = m.unsaid; kind = k; grows = g }
+    record { events = es; inside = m.inside; went = m.went; answers = a ∙ ap (λ (u : List NamedReply). old.replies ++ u) (sym m.answered_is); few = m.few; gathers = m.gathers; kind = k; grows = g }
 
 -- the link went through what the engine's did
 pub went_late : {L : Type 0} (link : Ghosts L) (held held' : Held L) (s s' : State L) (r : Ran link s s') → held ≡ Late s → held' ≡ Late s' → (d : L) → Went link (link_at d held) (link_in (moved r)) (link_at d held')
@@ -71,18 +71,18 @@ went_late {L} link held held' s s' r e e' d =
     (subst (λ (x : L). Went link s.wire.codec.link (link_in (moved r)) x) (sym (ap (link_at d) e'))
     (subst (λ (es : List LinkEvent). Went link s.wire.codec.link es s'.wire.codec.link) (sym (passed r).link) r.went))
 
-moves : {L : Type 0} (link : Ghosts L) (n : ℕ) (old new : Peering L) (s s' : State L) (r : Ran link s s') → reads_in r.events ≤ n → AllOwed s.phase r.queued → old.held ≡ Late s → new.held ≡ Late s' → Moves link n old new (moved r) []
-moves link n old new s s' r f o e e' =
+moves : {L : Type 0} (link : Ghosts L) (n : ℕ) (old new : Peering L) (s s' : State L) (r : Ran link s s') → reads_in r.events ≤ n → AllOwed s.phase r.queued → IsHanded s r.given s' → (hears s'.phase ≡ true → hears s.phase ≡ true) → old.held ≡ Late s → new.held ≡ Late s' → Moves link n old new (moved r) []
+moves link n old new s s' r f o h l e e' =
     record {
       inside = (passed r).inside;
       went = went_late link old.held new.held s s' r e e';
       answered_is = (passed r).silent;
       few = subst (λ (es : List LinkEvent). reads_in es ≤ n) (sym (passed r).link) f;
-      unsaid = ap sessions_of (passed r).said ∙ owed_unsaid s.phase r.queued o;
+      gathers = gathers_late link old.held new.held s s' r o h l e e';
     }
 
 moves_answer : {L : Type 0} (link : Ghosts L) (n : ℕ) (old new : Peering L) (es : List Local) (answer : NamedReply) → Moves link n old new es [] → Moves link n old new (Replied answer ∷ es) (answer ∷ [])
-moves_answer link n old new es answer m = record { inside = m.inside; went = m.went; answered_is = ap (λ (u : List NamedReply). u ++ answer ∷ []) m.answered_is; few = m.few; unsaid = m.unsaid }
+moves_answer link n old new es answer m = record { inside = m.inside; went = m.went; answered_is = ap (λ (u : List NamedReply). u ++ answer ∷ []) m.answered_is; few = m.few; gathers = gathers_same old.held new.held es (Replied answer ∷ es) refl refl m.gathers }
 
 -- so many frames were read or queued
 worked_frames : {L : Type 0} {link : Ghosts L} {s s' : State L} (r : Ran link s s') → 1 ≤ length r.given + length r.queued → 1 ≤ length (given_in (moved r)) + length (sent_in (moved r))
@@ -105,7 +105,7 @@ pub pending_rests : {L : Type 0} (link : Ghosts L) (at : ℕ) (old : Peering L) 
 pending_rests link at old s s' e part awaits st =
     let r = st.run in
     record {
-      run = advanced link at 1 old (record old { held = Late s' }) (moved r) [] (moves link 1 old (record old { held = Late s' }) s s' r st.few st.owed e refl) (sym (append-nil old.replies)) refl
+      run = advanced link at 1 old (record old { held = Late s' }) (moved r) [] (moves link 1 old (record old { held = Late s' }) s s' r st.few st.owed st.handed st.listens e refl) (sym (append-nil old.replies)) refl
           (λ h t x. moves_in link at old.progress old s s' old.fault h r (timed link at s _ s' st) (inl st.owed) t e
           (λ call k prep u. unmade_same link call old.fault s s' h r (λ z. absurd (cc (failed_stops s.phase z, ap is_stopped st.told.phase, st.told.live))) k st.told.phase u)
           (λ call k prep o f. fault_same old.fault s s' h r (λ z. absurd (cc (failed_stops s.phase z, ap is_stopped st.told.phase, st.told.live))) st.told.phase f)
@@ -136,7 +136,7 @@ failed_advances link at old s s' e l st n sound leaves =
     let r = st.run in
     let new = record old { held = Late s'; fault = first_fault old.fault e } in
     record {
-      run = advanced link at 1 old new (moved r) [] (moves link 1 old new s s' r st.few st.owed l refl) (sym (append-nil old.replies)) refl
+      run = advanced link at 1 old new (moved r) [] (moves link 1 old new s s' r st.few st.owed st.handed st.listens l refl) (sym (append-nil old.replies)) refl
           (λ h t x. moves_in link at old.progress old s s' (first_fault old.fault e) h r (timed link at s _ s' st) (inl st.owed) t l
           (λ call k prep u. unmade_failed link at call old.fault e s s' h st k prep t n u)
           (λ call k prep o f. fault_failed link at call old.fault e s s' h st k o prep t n f) (λ call k prep b. breaks link at call e s s' h st k prep t n) leaves x);
@@ -171,7 +171,7 @@ pub worked_same : {L : Type 0} (link : Ghosts L) (at : ℕ) (old : Peering L) (s
 worked_same link at old s s' e st l n =
     let r = st.run in
     record {
-      run = advanced link at 1 old (record old { held = Late s' }) (moved r) [] (moves link 1 old (record old { held = Late s' }) s s' r st.few st.owed e refl) (sym (append-nil old.replies)) refl
+      run = advanced link at 1 old (record old { held = Late s' }) (moved r) [] (moves link 1 old (record old { held = Late s' }) s s' r st.few st.owed st.handed st.listens e refl) (sym (append-nil old.replies)) refl
           (λ h t x. worked_has link at old.progress old s s' h r (timed link at s _ s' st) (inl st.owed) t e st.told.onward l n x);
       frames = λ a. worked_frames r st.told.worked;
       most = omega arith;
@@ -213,7 +213,7 @@ worked_made {L} link at old s s' e st q n =
     let r = st.run in
     let new = greeted_if true (record old { held = Late s' }) in
     record {
-      run = advanced link at 1 old new (Replied (made_reply old.name) ∷ moved r) (made_reply old.name ∷ []) (moves_answer link 1 old new (moved r) (made_reply old.name) (moves link 1 old new s s' r st.few st.owed e refl)) refl refl
+      run = advanced link at 1 old new (Replied (made_reply old.name) ∷ moved r) (made_reply old.name ∷ []) (moves_answer link 1 old new (moved r) (made_reply old.name) (moves link 1 old new s s' r st.few st.owed st.handed st.listens e refl)) refl refl
           (λ h t x. made_has link at old s s' h st t e n (subst (λ (z : Progress). HasIn z old h) q x));
       frames = λ a. worked_frames r st.told.worked;
       most = omega arith;
@@ -295,7 +295,7 @@ flushed {L} {link} {s} {s'} r w = subst (λ (es : List LinkEvent). IsWritten s'.
 stopped_quiet : {L : Type 0} (link : Ghosts L) (at : ℕ) (old : Peering L) (s s' : State L) → old.held ≡ Late s → (CallWaits old.progress → ⊥) → (st : EngineStepped link at s (Ok step.Stopped) s') → (has_failed s.phase ≡ true → st.run.given ≡ []) → Rested link at 1 old (record old { held = Late s' })
 stopped_quiet link at old s s' e waits st n =
     record {
-      run = advanced link at 1 old (record old { held = Late s' }) (moved st.run) [] (moves link 1 old (record old { held = Late s' }) s s' st.run st.few st.owed e refl) (sym (append-nil old.replies)) refl
+      run = advanced link at 1 old (record old { held = Late s' }) (moved st.run) [] (moves link 1 old (record old { held = Late s' }) s s' st.run st.few st.owed st.handed st.listens e refl) (sym (append-nil old.replies)) refl
           (λ h t x. stopped_has link at old.progress old s s' h st n t e x);
       settled = λ a. absurd (not_active s' st.told.stopped a);
       concluded = λ a. inl (waits, flushed st.run st.told.written);
@@ -308,7 +308,7 @@ stopped_answered : {L : Type 0} (link : Ghosts L) (at : ℕ) (old : Peering L) (
 stopped_answered link at old s s' answer e st g =
     let new = finished (record old { held = Late s' }) answer in
     record {
-      run = advanced link at 1 old new (Replied (answered old.name answer) ∷ moved st.run) (answered old.name answer ∷ []) (moves_answer link 1 old new (moved st.run) (answered old.name answer) (moves link 1 old new s s' st.run st.few st.owed e refl)) refl refl g;
+      run = advanced link at 1 old new (Replied (answered old.name answer) ∷ moved st.run) (answered old.name answer ∷ []) (moves_answer link 1 old new (moved st.run) (answered old.name answer) (moves link 1 old new s s' st.run st.few st.owed st.handed st.listens e refl)) refl refl g;
       settled = λ a. absurd (not_active s' st.told.stopped a);
       concluded = λ a. inl (λ w. w, flushed st.run st.told.written);
       begun = λ x. x;
@@ -414,16 +414,16 @@ advanced_then {L} link at m n P a b c x y =
       went = λ d. subst (λ (es : List LinkEvent). Went link (link_of d a) es (link_of d c)) (sym (link_in-append y.events x.events)) (went_then link (link_of d a) (link_of d b) (link_of d c) (link_in x.events) (link_in y.events) (x.went d) (y.went d));
       answers = y.answers ∙ ap (λ (u : List NamedReply). u ++ replied_in y.events) x.answers ∙ append_assoc a.replies (replied_in x.events) (replied_in y.events) ∙ ap (λ (u : List NamedReply). a.replies ++ u) (sym (replied_in-append y.events x.events));
       few = let z = ap reads_in (link_in-append y.events x.events) ∙ reads_in-append (link_in y.events) (link_in x.events) in omega (arith, z, x.few, y.few);
-      unsaid = unsaid_join y.events x.events y.unsaid x.unsaid;
+      gathers = gathers_join a.held b.held c.held x.events y.events x.gathers y.gathers;
       kind = y.kind ∙ x.kind;
       grows = λ h t p. subst (λ (u : List Local). Has c u) (sym (append_assoc y.events x.events h)) (y.grows (x.events ++ h) (moment_in-inside x.events h x.inside ∙ t) (x.grows h t p));
     }
 
 abbrev pub advanced_more : {L : Type 0} (link : Ghosts L) (at m n : ℕ) (P : List Local → Type 0) (a b : Peering L) → m ≤ n → AdvancedFrom link at m P a b → AdvancedFrom link at n P a b
-advanced_more link at m n P a b l x = record { events = x.events; inside = x.inside; went = x.went; answers = x.answers; few = omega (arith, x.few, l); unsaid = x.unsaid; kind = x.kind; grows = x.grows }
+advanced_more link at m n P a b l x = record { events = x.events; inside = x.inside; went = x.went; answers = x.answers; few = omega (arith, x.few, l); gathers = x.gathers; kind = x.kind; grows = x.grows }
 
 abbrev pub advanced_none : {L : Type 0} (link : Ghosts L) (at : ℕ) (a : Peering L) → Advanced link at 0 a a
-advanced_none link at a = record { events = []; inside = tt; went = λ d. refl; answers = sym (append-nil a.replies); few = omega arith; unsaid = refl; kind = refl; grows = λ h t p. p }
+advanced_none link at a = record { events = []; inside = tt; went = λ d. refl; answers = sym (append-nil a.replies); few = omega arith; gathers = gathers_none a.held a.held [] refl (λ z. z) refl refl; kind = refl; grows = λ h t p. p }
 
 unfoldable pub worked_none : {L : Type 0} (link : Ghosts L) (at : ℕ) (a : Peering L) → Worked link at 0 a a
 worked_none link at a = record { run = advanced_none link at a; frames = λ z. omega arith; most = omega arith; stays = λ z. z; from = λ z. absurd (omega (arith, z)) }

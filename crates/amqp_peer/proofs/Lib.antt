@@ -3,6 +3,8 @@ pub mod Beats
 pub mod Settled
 pub mod Said
 pub mod Unsaid
+pub mod Gives
+pub mod Gathers
 pub mod Moved
 pub mod Written
 pub mod Layers

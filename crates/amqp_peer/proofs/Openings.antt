@@ -58,6 +58,7 @@ use Rattle.amqp_peer.proofs.Layers.{layer_exchanging, layer_ended, layer_same}
 use Rattle.amqp_peer.proofs.Moved.{Passed, made_after, link_after, given_after, sent_after, replied_after}
 use Rattle.amqp_peer.proofs.Refusals.{ending_not, negotiation_not}
 use Rattle.amqp_peer.proofs.Unsaid.{unsaid_at}
+use Rattle.amqp_peer.proofs.Gathers.{gathers_early}
 use Rattle.amqp_peer.proofs.Written.{intro_read, intro_wrote, written_guarded, written_exchanging, queued_guarded, queued_exchanging}
 
 -- ---- what passed at the link alone
@@ -193,7 +194,7 @@ early_rests {L} link at old o o' p left e r n =
         went = went_early link old.held (Early o' p) o o' p p n.events e refl n.moves.went;
         answers = sym (append-nil old.replies) ∙ ap (λ (u : List NamedReply). old.replies ++ u) (sym (replied_in-at n.events));
         few = few_in n.events left (2 ^ 62) n.moves.counted;
-        unsaid = unsaid_at n.events;
+        gathers = gathers_early old.held (Early o' p) o p (at_link n.events) e refl (given_in-at n.events) (unsaid_at n.events);
         kind = refl;
         grows = λ h t x.
             let w = waiting_early old.progress old o p h e r x in
@@ -262,7 +263,7 @@ early_fails {L} link at old o o' p left e l r n =
         went = went_early link old.held (Early o' p) o o' p p n.events l refl n.moves.went;
         answers = ap (λ (u : List NamedReply). old.replies ++ (u ++ answer ∷ [])) (sym (replied_in-at n.events));
         few = few_in n.events left (2 ^ 62) n.moves.counted;
-        unsaid = unsaid_at n.events;
+        gathers = gathers_early old.held (Early o' p) o p (Replied answer ∷ at_link n.events) l refl (given_in-at n.events) (unsaid_at n.events);
         kind = refl;
         grows = λ h t x. let w = waiting_early old.progress old o p h l r x in inl (fails_open link old o o' p left e h l r n w.1);
       };
@@ -281,7 +282,7 @@ early_exchanged {L} link at old o o' p left e r n =
       went = went_early link old.held (Early o' p) o o' p p n.events e refl n.moves.went;
       answers = sym (append-nil old.replies) ∙ ap (λ (u : List NamedReply). old.replies ++ u) (sym (replied_in-at n.events));
       few = few_in n.events left (2 ^ 62) n.moves.counted;
-      unsaid = unsaid_at n.events;
+      gathers = gathers_early old.held (Early o' p) o p (at_link n.events) e refl (given_in-at n.events) (unsaid_at n.events);
       kind = refl;
       grows = λ h t x.
           let w = waiting_early old.progress old o p h e r x in
@@ -382,7 +383,7 @@ connected {L} link at old o p s e r c =
       went = λ d. ap (λ (z : State L). z.wire.codec.link) c.1 ∙ sym (ap (link_at d) e);
       answers = sym (append-nil old.replies);
       few = omega arith;
-      unsaid = refl;
+      gathers = gathers_early old.held (Late s) o (Some p) (Put (open_frame p.end) ∷ Exchanged ∷ []) e (ap (λ (z : State L). z.channels) c.1) refl refl;
       kind = refl;
       grows = λ h t x.
           let w = waiting_exchanged old.progress old o p h e r x in
@@ -415,7 +416,7 @@ connect_fails {L} link at old o p (connection.TransportError transport.FramingEr
         went = λ d. ap (λ (z : Wire L). z.codec.link) c.1 ∙ sym (ap (link_at d) l);
         answers = refl;
         few = omega arith;
-        unsaid = refl;
+        gathers = gathers_early old.held (Unopened back.codec) o (Some p) (Replied answer ∷ Exchanged ∷ []) l refl refl refl;
         kind = refl;
         grows = λ h t x.
             let w = waiting_exchanged old.progress old o p h l r x in

@@ -26,7 +26,8 @@ use Rattle.amqp_words.specs.declared.call.Call.{Call}
 use Rattle.amqp_peer.specs.declared.held.Held.{Held}
 use Rattle.amqp_peer.specs.declared.held.Held.TheVariants.{Early, Late, Unopened, Moving}
 use Rattle.amqp_peer.specs.Causes.{TransportCause, in_session}
-use Rattle.amqp_peer.specs.Handed.{hears_in, IsOpenIn, channels_in, Sent}
+use Rattle.amqp_peer.specs.Handed.{Sent}
+use Rattle.amqp_peer.specs.Hearing.{hears_in, IsOpenIn, channels_in}
 use Rattle.amqp_peer.specs.Held.{IsSound, IsLeaving, link_at}
 use Rattle.amqp_peer.specs.History.{Local, link_in, moment_in, made_in}
 use Rattle.amqp_peer.specs.Passing.{IsPassed, IsUnpassable, PassesIf, PassesLate, Passes}

@@ -14,9 +14,9 @@ use Rattle.amqp_engine.specs.declared.phase.Phase.{Phase}
 use Rattle.amqp_engine.specs.declared.phase.Phase.TheVariants as p
 use Rattle.amqp_engine.specs.Faults.{AllOwed}
 use Rattle.amqp_engine.specs.Heard.{IsHeard}
-use Rattle.amqp_engine.specs.Outcomes.{IsWritten, IsOnward, IsRefusal, IsClosedBy, Stepped as EngineStepped, HasClosed as EngineClosed}
+use Rattle.amqp_engine.specs.Outcomes.{IsHanded, IsWritten, IsOnward, IsRefusal, IsClosedBy, Stepped as EngineStepped, HasClosed as EngineClosed}
 use Rattle.amqp_transport.specs.declared.frames.Frame.{Frame}
-use Rattle.amqp_engine.specs.Phases.{has_failed, is_stopped}
+use Rattle.amqp_engine.specs.Phases.{has_failed, is_stopped, hears}
 use Rattle.amqp_engine.specs.Sentence.{Ran}
 use Rattle.amqp_engine.specs.State.{State, failing, closing, close_frame, close_phase}
 use Rattle.sasl_exchange.specs.declared.error.NegotiationError.{NegotiationError}
@@ -41,6 +41,7 @@ use Rattle.amqp_peer.specs.declared.peer.Progress.TheVariants as progress
 use Rattle.amqp_peer.specs.declared.prepared.Prepared.{Prepared}
 use Rattle.amqp_peer.specs.Causes.{closing as own_closing, TransportCause, MadeIn, AreAllowedTexts, is_layer, has_layer, IsOpenCause, not_allowed, OpenCauseIn, BeginsWithOpen, prepared_in}
 use Rattle.amqp_peer.specs.Frames.{sessions_of}
+use Rattle.amqp_peer.specs.Hearing.{hears_in, channels_in, Gathers}
 use Rattle.amqp_peer.specs.Gated.{IsTalk, IsGatedIn}
 use Rattle.amqp_peer.specs.Held.{IsReadyWith, IsMidway, IsBusyWith, IsExchangedWith, IsActive, IsStopped, link_at, EndedEarly}
 use Rattle.amqp_peer.specs.History.{Local, Made, Polled, Replied, made_in, link_in, given_in, replied_in, moment_in, read_in, wrote_in}
@@ -58,7 +59,8 @@ use Rattle.amqp_peer.proofs.Quiet.{quiet_replied, quiet_made, called_quiet, made
 use Rattle.amqp_peer.proofs.Histories.{inside-append, link_in-append, replied_in-append}
 use Rattle.amqp_peer.proofs.Said.{IsDue}
 use Rattle.amqp_peer.proofs.Moved.{moved, passed, made_after, replied_after}
-use Rattle.amqp_peer.proofs.Unsaid.{owed_unsaid, closed_unsaid, unsaid_join}
+use Rattle.amqp_peer.proofs.Gathers.{gathers_late, gathers_none, gathers_early, gathers_after, gathers_same, gathers_from}
+use Rattle.amqp_peer.proofs.Unsaid.{closed_unsaid, closed_channels, closed_listens}
 use Rattle.amqp_peer.proofs.Written.{queued_nothing}
 use Rattle.amqp_peer.proofs.Layers.{layer_refused}
 use Rattle.amqp_peer.proofs.Refusals.{first_texts, closing_texts}
@@ -92,7 +94,7 @@ begins_with {L} link at n call old new o p0 p c x e prep sasl made held r =
         went = λ d. subst (λ (z : L). Went link z (link_in r.run.events) (link_of d new)) (sym (ap (link_at d) e)) (r.run.went d);
         answers = r.run.answers;
         few = r.run.few;
-        unsaid = r.run.unsaid;
+        gathers = gathers_from old.held (Early (begun o x) (Some p)) new.held r.run.events (sym (ap hears_in e)) (sym (ap channels_in e)) r.run.gathers;
         kind = r.run.kind;
         grows = λ h t a.
             let u = untouched_of call old o p0 h e a in
@@ -115,7 +117,7 @@ begins_plain {L} link at n call old new o p0 p e prep sasl r =
         went = λ d. subst (λ (z : L). Went link z (link_in r.run.events) (link_of d new)) (sym (ap (link_at d) e)) (r.run.went d);
         answers = r.run.answers;
         few = r.run.few;
-        unsaid = r.run.unsaid;
+        gathers = gathers_from old.held (Early (begun_plain o) (Some p)) new.held r.run.events (sym (ap hears_in e)) (sym (ap channels_in e)) r.run.gathers;
         kind = r.run.kind;
         grows = λ h t a.
             let u = untouched_of call old o p0 h e a in
@@ -182,7 +184,7 @@ begins_refused {L} link at n call old new o p0 c e l sasl r m f =
         went = λ d. sym (ap (link_at d) l);
         answers = refl;
         few = omega arith;
-        unsaid = refl;
+        gathers = gathers_early old.held (Early (record o { stage = stage.Ended }) p0) o p0 (Replied answer ∷ []) l refl refl refl;
         kind = refl;
         grows = λ h t a. inl (record {
           call = call;
@@ -235,7 +237,7 @@ asked_opens {L} link at n call old new texts r =
         went = λ d. subst (λ (u : List LinkEvent). Went link (link_of d old) u (link_of d new)) (sym links) (r.run.went d);
         answers = r.run.answers ∙ append_assoc old.replies (pending old.name ∷ []) (replied_in es) ∙ ap (λ (u : List NamedReply). old.replies ++ u) (sym (replied_in-append es one));
         few = let z = ap reads_in links in omega (arith, z, r.run.few);
-        unsaid = unsaid_join es one r.run.unsaid refl;
+        gathers = gathers_after old.held new.held es one refl refl r.run.gathers;
         kind = r.run.kind;
         grows = λ h t a. subst (λ (u : List Local). Has new u) (sym (append_assoc es one h)) (r.run.grows (Replied (pending old.name) ∷ h) t (waits_to_open call old h texts a));
       };
@@ -273,7 +275,7 @@ started link at name call old new e r =
       went = r.run.went;
       answers = r.run.answers;
       few = r.run.few;
-      unsaid = r.run.unsaid;
+      gathers = r.run.gathers;
       kind = r.run.kind;
       settled = r.settled;
       concluded = r.concluded;
@@ -304,6 +306,13 @@ close_due condition s s' calls name earlier queued (Err (connection.RemoteClosed
 begins_not_first : {L : Type 0} (call : Call) (s : State L) (h : List Local) → IsRunning call s h → BeginsWithOpen (given_in h) → s.phase ≡ p.OpenSent → ⊥
 begins_not_first call s h k o e = let n = (subst (λ (q : Phase). IsHeard q s.reason (given_in h)) e k.runs.heard).0 in absurd (cc (sym n ∙ o.is))
 
+-- nothing comes to wait
+close_gathers : {L : Type 0} (link : Ghosts L) (old : Peering L) (s s' : State L) (condition : Option (List ℕ)) (result : Result Unit ConnectionFault) → old.held ≡ Late s → (c : EngineClosed link s (error_for condition) result s') → Gathers old.held (Late s') (moved c.run)
+close_gathers {L} link old s s' condition result e c =
+    let r = c.run in
+    gathers_none old.held (Late s') (moved r) (closed_channels s s' (error_for condition) r.queued result c.told ∙ sym (ap channels_in e))
+    (λ z. ap hears_in e ∙ closed_listens s s' (error_for condition) r.queued result c.told z) ((passed r).heard ∙ c.none) (ap sessions_of (passed r).said ∙ closed_unsaid s s' (error_for condition) r.queued result c.told)
+
 -- a Close was queued, or not, while a close is to be answered
 close_moves : {L : Type 0} (link : Ghosts L) (at : ℕ) (old : Peering L) (s s' : State L) (fault : Option ConnectionFault) (condition : Option (List ℕ)) (result : Result Unit ConnectionFault) → old.progress ≡ progress.Closing → old.held ≡ Late s → (c : EngineClosed link s (error_for condition) result s') → ((x : _) → result ≡ Err (connection.Memory x) → ⊥)
     → ((h : List Local) (call : Call) → IsToClose condition old h → IsRunning call s h → IsFaultIn old.fault s h → IsFaultIn fault s' (moved c.run ++ h)) → AdvancedFrom link at 0 (IsToClose condition old) old (record old { held = Late s'; fault = fault })
@@ -315,7 +324,7 @@ close_moves {L} link at old s s' fault condition result p e c n g =
       went = went_late link old.held (Late s') s s' r e refl;
       answers = sym (append-nil old.replies) ∙ ap (λ (u : List NamedReply). old.replies ++ u) (sym (passed r).silent);
       few = let z = ap reads_in ((passed r).link ∙ c.silent) in omega (arith, z);
-      unsaid = ap sessions_of (passed r).said ∙ closed_unsaid s s' (error_for condition) r.queued result c.told;
+      gathers = close_gathers link old s s' condition result e c;
       kind = refl;
       grows = λ h t x.
           let k = is_running x.call old.held s h e x.called in
@@ -407,7 +416,7 @@ asked_waits {L} link at n condition old new r =
         went = λ d. subst (λ (u : List LinkEvent). Went link (link_of d old) u (link_of d new)) (sym links) (r.run.went d);
         answers = r.run.answers ∙ append_assoc old.replies (pending old.name ∷ []) (replied_in es) ∙ ap (λ (u : List NamedReply). old.replies ++ u) (sym (replied_in-append es one));
         few = let z = ap reads_in links in omega (arith, z, r.run.few);
-        unsaid = unsaid_join es one r.run.unsaid refl;
+        gathers = gathers_after old.held new.held es one refl refl r.run.gathers;
         kind = r.run.kind;
         grows = λ h t a. subst (λ (u : List Local). Has new u) (sym (append_assoc es one h)) (r.run.grows (Replied (pending old.name) ∷ h) t (waits_to_close condition old h a));
       };
@@ -428,11 +437,11 @@ asked_ends {L} link at condition old s s' fault h r m d t e z f g w =
     finish_close mid s' (moved r ++ h) w.call w.name condition refl z f (made_after h (passed r) ∙ w.made) (called_moves link at w.call old.held s s' h r m (inl d) t e w.called)
     (heard_open_more h r i.0, g w.call (is_running w.call old.held s h e w.called) (ap prepared_in w.made) i.0 i.1) (λ x. inr (ap (λ (u : List NamedReply). u ++ x ∷ []) answers))
 
-stopped_close : {L : Type 0} (link : Ghosts L) (at : ℕ) (condition : Option (List ℕ)) (old : Peering L) (s s' : State L) (fault : Option ConnectionFault) (r : Ran link s s') → reads_in r.events ≤ 1 → IsTimed at s r.given r.queued s' → AllOwed s.phase r.queued → old.held ≡ Late s → is_stopped s'.phase ≡ true
+stopped_close : {L : Type 0} (link : Ghosts L) (at : ℕ) (condition : Option (List ℕ)) (old : Peering L) (s s' : State L) (fault : Option ConnectionFault) (r : Ran link s s') → reads_in r.events ≤ 1 → IsTimed at s r.given r.queued s' → AllOwed s.phase r.queued → IsHanded s r.given s' → (hears s'.phase ≡ true → hears s.phase ≡ true) → old.held ≡ Late s → is_stopped s'.phase ≡ true
     → IsWritten s'.phase r.events s'.wire.codec.output
     → ((h : List Local) → moment_in h ≡ at → (call : Call) → IsRunning call s h → prepared_in (made_in h) ≡ prepared_of call → BeginsWithOpen (given_in h) → IsFaultIn old.fault s h → IsFaultIn fault s' (moved r ++ h))
     → RestedFrom link at 1 (IsAskedToClose condition old) old (finished (record old { held = Late s'; fault = fault }) (close_reply (error_in (record old { held = Late s'; fault = fault }))))
-stopped_close {L} link at condition old s s' fault r few m d e z f g =
+stopped_close {L} link at condition old s s' fault r few m d i l e z f g =
     let mid = record old { held = Late s'; fault = fault } in
     let answer = answered old.name (close_reply (error_in mid)) in
     record {
@@ -442,7 +451,7 @@ stopped_close {L} link at condition old s s' fault r few m d e z f g =
         went = went_late link old.held (Late s') s s' r e refl;
         answers = ap (λ (u : List NamedReply). old.replies ++ (u ++ answer ∷ [])) (sym (passed r).silent);
         few = subst (λ (es : List LinkEvent). reads_in es ≤ 1) (sym (passed r).link) few;
-        unsaid = ap sessions_of (passed r).said ∙ owed_unsaid s.phase r.queued d;
+        gathers = gathers_same old.held (Late s') (moved r) (Replied answer ∷ moved r) refl refl (gathers_late link old.held (Late s') s s' r d i l e refl);
         kind = refl;
         grows = λ h t a. inr (asked_ends link at condition old s s' fault h r m d t e z (written_after h r f) (g h t) a);
       };
@@ -454,7 +463,7 @@ stopped_close {L} link at condition old s s' fault r few m d e z f g =
 pub close_rests : {L : Type 0} (link : Ghosts L) (at : ℕ) (condition : Option (List ℕ)) (old : Peering L) (s s' : State L) → old.held ≡ Late s → (st : EngineStepped link at s (Ok step.Stopped) s') → (has_failed s.phase ≡ true → st.run.given ≡ [])
     → RestedFrom link at 1 (IsAskedToClose condition old) old (finished (record old { held = Late s' }) (close_reply (error_in (record old { held = Late s' }))))
 close_rests link at condition old s s' e st n =
-    stopped_close link at condition old s s' old.fault st.run st.few (timed link at s _ s' st) st.owed e st.told.stopped st.told.written (λ h t call k prep o f. fault_same old.fault s s' h st.run n st.told.phase f)
+    stopped_close link at condition old s s' old.fault st.run st.few (timed link at s _ s' st) st.owed st.handed st.listens e st.told.stopped st.told.written (λ h t call k prep o f. fault_same old.fault s s' h st.run n st.told.phase f)
 
 -- a connection that has stopped neither works nor waits
 stopped_not_onward : (q r : Phase) → is_stopped q ≡ true → IsOnward q r → ⊥
@@ -499,7 +508,7 @@ pub close_fails_at_once : {L : Type 0} (link : Ghosts L) (at : ℕ) (condition :
     → RestedFrom link at 1 (IsAskedToClose condition old) old (finished (record old { held = Late s'; fault = first_fault old.fault e }) (close_reply (error_in (record old { held = Late s'; fault = first_fault old.fault e }))))
 close_fails_at_once link at condition old s s' e l z st n =
     let f = stopped_fails link at s s' e z st n in
-    stopped_close link at condition old s s' (first_fault old.fault e) st.run st.few (timed link at s _ s' st) st.owed l (failed_stops s'.phase f) (inl f) (λ h t call k prep o x. fault_failed link at call old.fault e s s' h st k o prep t n x)
+    stopped_close link at condition old s s' (first_fault old.fault e) st.run st.few (timed link at s _ s' st) st.owed st.handed st.listens l (failed_stops s'.phase f) (inl f) (λ h t call k prep o x. fault_failed link at call old.fault e s s' h st k o prep t n x)
 
 -- a close was called
 abbrev pub called_to_close : {L : Type 0} → Peering L → ℕ → Peering L
@@ -525,7 +534,7 @@ closed {L} link at n name condition old new l e r =
       went = r.run.went;
       answers = r.run.answers;
       few = omega (arith, r.run.few, l);
-      unsaid = r.run.unsaid;
+      gathers = r.run.gathers;
       kind = r.run.kind;
       settled = r.settled;
       concluded = r.concluded;
@@ -543,7 +552,7 @@ polled link at n old new l r =
       went = r.run.went;
       answers = r.run.answers;
       few = omega (arith, r.run.few, l);
-      unsaid = r.run.unsaid;
+      gathers = r.run.gathers;
       kind = r.run.kind;
       settled = r.settled;
       concluded = r.concluded;
@@ -559,7 +568,7 @@ polled_idle link at old n m =
       went = λ d. refl;
       answers = sym (append-nil old.replies);
       few = omega arith;
-      unsaid = refl;
+      gathers = gathers_none old.held old.held [] refl (λ z. z) refl refl;
       kind = refl;
       settled = λ a. absurd (n a);
       concluded = λ a. absurd (m a);

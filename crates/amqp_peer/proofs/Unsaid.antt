@@ -1,5 +1,5 @@
 -- Frames of sessions among those that an end queues.
-use Rattle.std.proofs.Common.{◌≡◌, List, [], ◌∷◌, ◌++◌, Option, Result, Ok, Err, refl, ap, ◌∙◌}
+use Rattle.std.proofs.Common.{◌≡◌, List, [], ◌∷◌, ◌++◌, true, Option, Result, Ok, Err, refl, sym, ap, ◌∙◌}
 use Rattle.std.proofs.Math.Path.{ap₂}
 use Rattle.std.proofs.lemmas.List.Elements.{filter-append}
 use Rattle.amqp_composites.specs.declared.error.Error.{Error as AmqpError}
@@ -13,6 +13,7 @@ use Rattle.amqp_engine.specs.declared.phase.Phase.{Phase}
 use Rattle.amqp_engine.specs.declared.phase.Phase.TheVariants as p
 use Rattle.amqp_engine.specs.Faults.{IsOwed, AllOwed}
 use Rattle.amqp_engine.specs.Outcomes.{IsClosedBy}
+use Rattle.amqp_engine.specs.Phases.{hears}
 use Rattle.amqp_engine.specs.State.{State}
 use Rattle.amqp_peer.specs.Frames.{sessions_of}
 use Rattle.amqp_peer.specs.History.{Local, sent_in, at_link}
@@ -56,6 +57,38 @@ closed_unsaid s s' y queued (Err connection.NotImplemented) c = absurd c
 closed_unsaid s s' y queued (Err connection.NotFound) c = absurd c
 closed_unsaid s s' y queued (Err connection.RemoteClosed) c = absurd c
 closed_unsaid s s' y queued (Err (connection.RemoteClosedWithError e)) c = absurd c
+
+-- a close leaves the channels as they were
+pub closed_channels : {L : Type 0} (s s' : State L) (y : Option AmqpError) (queued : List Frame) (result : Result Unit ConnectionFault) → IsClosedBy s y queued result s' → s'.channels ≡ s.channels
+closed_channels {L} s s' y queued (Ok u) c = ap (λ (x : State L). x.channels) c.1
+closed_channels {L} s s' y queued (Err (connection.Memory a)) c = ap (λ (x : State L). x.channels) c.1
+closed_channels {L} s s' y queued (Err connection.IllegalState) c = ap (λ (x : State L). x.channels) c.2
+closed_channels {L} s s' y queued (Err (connection.TransportError transport.FramingError)) c = ap (λ (x : State L). x.channels) c.2
+closed_channels s s' y queued (Err (connection.TransportError (transport.Memory a))) c = absurd c
+closed_channels s s' y queued (Err (connection.TransportError (transport.Io k))) c = absurd c
+closed_channels s s' y queued (Err (connection.TransportError transport.IdleTimeoutElapsed)) c = absurd c
+closed_channels s s' y queued (Err (connection.TransportError transport.DecodeError)) c = absurd c
+closed_channels s s' y queued (Err (connection.TransportError transport.NotImplemented)) c = absurd c
+closed_channels s s' y queued (Err connection.NotImplemented) c = absurd c
+closed_channels s s' y queued (Err connection.NotFound) c = absurd c
+closed_channels s s' y queued (Err connection.RemoteClosed) c = absurd c
+closed_channels s s' y queued (Err (connection.RemoteClosedWithError e)) c = absurd c
+
+-- and a connection that hears behind it heard before
+pub closed_listens : {L : Type 0} (s s' : State L) (y : Option AmqpError) (queued : List Frame) (result : Result Unit ConnectionFault) → IsClosedBy s y queued result s' → hears s'.phase ≡ true → hears s.phase ≡ true
+closed_listens s s' y queued (Ok u) c z = ap hears c.2
+closed_listens {L} s s' y queued (Err (connection.Memory a)) c z = sym (ap (λ (x : State L). hears x.phase) c.1) ∙ z
+closed_listens {L} s s' y queued (Err connection.IllegalState) c z = sym (ap (λ (x : State L). hears x.phase) c.2) ∙ z
+closed_listens {L} s s' y queued (Err (connection.TransportError transport.FramingError)) c z = absurd (cc (z, ap (λ (x : State L). hears x.phase) c.2))
+closed_listens s s' y queued (Err (connection.TransportError (transport.Memory a))) c z = absurd c
+closed_listens s s' y queued (Err (connection.TransportError (transport.Io k))) c z = absurd c
+closed_listens s s' y queued (Err (connection.TransportError transport.IdleTimeoutElapsed)) c z = absurd c
+closed_listens s s' y queued (Err (connection.TransportError transport.DecodeError)) c z = absurd c
+closed_listens s s' y queued (Err (connection.TransportError transport.NotImplemented)) c z = absurd c
+closed_listens s s' y queued (Err connection.NotImplemented) c z = absurd c
+closed_listens s s' y queued (Err connection.NotFound) c z = absurd c
+closed_listens s s' y queued (Err connection.RemoteClosed) c z = absurd c
+closed_listens s s' y queued (Err (connection.RemoteClosedWithError e)) c z = absurd c
 
 -- of histories
 

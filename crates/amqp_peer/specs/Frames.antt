@@ -1,5 +1,5 @@
 -- Frames of sessions among those of a connection (OASIS AMQP 1.0, part 2, sections 2.4 and 2.5).
-use Rattle.std.specs.Prelude.{◌≡◌, ℕ, List, [], ◌∷◌, ◌++◌, Bool, true, false, filter, Option, Some, None}
+use Rattle.std.specs.Prelude.{◌≡◌, ℕ, List, [], ◌∷◌, ◌++◌, Bool, true, false, not, filter, Option, Some, None}
 use Rattle.amqp_frames.specs.declared.body.FrameBody.{FrameBody}
 use Rattle.amqp_frames.specs.declared.body.FrameBody.TheVariants as b
 use Rattle.amqp_frames.specs.declared.shared.IncomingSession.{IncomingSession}
@@ -27,6 +27,14 @@ asks_by (Some channel) = false
 abbrev pub asks : FrameBody → Bool
 asks (b.Begin x) = asks_by x.remote_channel
 asks body = false
+
+-- the frames that ask for a session, among these
+abbrev pub asking_of : List Frame → List Frame
+asking_of xs = filter (λ (x : Frame). asks x.body) xs
+
+-- and the others
+abbrev pub others_of : List Frame → List Frame
+others_of xs = filter (λ (x : Frame). not (asks x.body)) xs
 
 -- the session that it asks for waits behind those that were asked for, or the frame behind those that waited for the sessions
 abbrev pub WaitsBy : Bool → Channels → Frame → Channels → Type 0

@@ -1,54 +1,15 @@
 -- What an end hands to the sessions above its connection, and what it says for them, in words of its history.
-use Rattle.std.specs.Prelude.{◌≡◌, ◌⊎◌, ℕ, List, [], ◌∷◌, ◌++◌, Bool, true, false, Option, Some}
+use Rattle.std.specs.Prelude.{◌≡◌, ◌⊎◌, ℕ, List, [], ◌∷◌, ◌++◌, true}
 use Rattle.amqp_wire.specs.declared.link.Link.{Ghosts}
 use Rattle.amqp_frames.specs.Session.{of_session}
 use Rattle.amqp_transport.specs.declared.frames.Frame.{Frame}
-use Rattle.amqp_engine.specs.declared.phase.Phase.TheVariants as p
-use Rattle.amqp_engine.specs.Channels.{Channels, no_channels}
-use Rattle.amqp_engine.specs.Phases.{hears}
-use Rattle.amqp_peer.specs.declared.held.Held.{Held}
-use Rattle.amqp_peer.specs.declared.held.Held.TheVariants.{Early, Late, Unopened, Moving}
-use Rattle.amqp_peer.specs.Frames.{sessions_of, list_of, Comes}
+use Rattle.amqp_peer.specs.Hearing.{hears_in, IsOpenIn, channels_in, Handed}
 use Rattle.amqp_peer.specs.Held.{IsSound}
 use Rattle.amqp_peer.specs.History.{Local, given_in, sent_in, replied_in, link_in, IsInside}
 use Rattle.amqp_peer.specs.Peering.{Peering, Has, link_of}
 use Rattle.amqp_peer.specs.Runs.{Worked, Rested}
 
--- ---- what holds the link
-
--- frames of the peer are heard: no Close was queued or read, and no frame was rejected
-abbrev pub hears_in : {L : Type 0} → Held L → Bool
-hears_in (Early o p) = true
-hears_in (Late s) = hears s.phase
-hears_in (Unopened c) = false
-hears_in Moving = false
-
--- the connection is open
-abbrev pub IsOpenIn : {L : Type 0} → Held L → Type 0
-IsOpenIn (Early o p) = ⊥
-IsOpenIn (Late s) = s.phase ≡ p.Opened
-IsOpenIn (Unopened c) = ⊥
-IsOpenIn Moving = ⊥
-
--- the channels of its sessions, and what waits for them
-abbrev pub channels_in : {L : Type 0} → Held L → Channels
-channels_in (Early o p) = no_channels
-channels_in (Late s) = s.channels
-channels_in (Unopened c) = no_channels
-channels_in Moving = no_channels
-
 -- ---- one step
-
--- What a step hands to the sessions: where the connection hears behind it, what it was given of sessions is the frame that came to wait for
--- them. It queues no frame of a session, and the channels of this end that sessions have stay.
-pub record Handed {L : Type 0} (old new : Held L) (events : List Local) : Type 0 where
-  pub frame : Option Frame
-  pub comes : Comes (channels_in old) frame (channels_in new)
-  pub heard : hears_in new ≡ true → sessions_of (given_in events) ≡ list_of frame
-  pub opens : (x : Frame) → frame ≡ Some x → IsOpenIn new
-  pub unsaid : sessions_of (sent_in events) ≡ []
-  pub listens : hears_in new ≡ true → hears_in old ≡ true
-  pub seats : (channels_in new).seats ≡ (channels_in old).seats
 
 -- a step after which another may follow
 abbrev pub HandsOn : {L : Type 0} → Ghosts L → ℕ → Peering L → Peering L → Type 0

@@ -9,6 +9,7 @@ pub mod Gated
 pub mod Causes
 pub mod Said
 pub mod Held
+pub mod Hearing
 pub mod Layers
 pub mod Peering
 pub mod Runs

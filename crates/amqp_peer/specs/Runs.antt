@@ -25,7 +25,7 @@ use Rattle.amqp_peer.specs.declared.held.Held.{Held}
 use Rattle.amqp_peer.specs.declared.held.Held.TheVariants.{Early, Late, Unopened, Moving}
 use Rattle.amqp_peer.specs.declared.peer.Progress.{Progress}
 use Rattle.amqp_peer.specs.declared.peer.Progress.TheVariants as progress
-use Rattle.amqp_peer.specs.Frames.{sessions_of}
+use Rattle.amqp_peer.specs.Hearing.{Gathers}
 use Rattle.amqp_peer.specs.Held.{IsActive, IsStopped, IsSound, IsAtRestIn, IsExchanged, EndedEarly, reason_of, is_made}
 use Rattle.amqp_peer.specs.History.{Local, made_in, link_in, given_in, sent_in, replied_in, moment_in, IsInside}
 use Rattle.amqp_peer.specs.Causes.{AllCaused}
@@ -74,14 +74,14 @@ abbrev pub IsConcluded : {L : Type 0} → Peering L → List Local → Type 0
 IsConcluded p events = ((CallWaits p.progress → ⊥) × IsFlushed p.held events) ⊎ (2 ^ 62 ≤ 1 + (length (given_in events) + length (sent_in events)))
 
 -- An end went on by itself, with at most so many reads that gave bytes, from what was before: what passed at its link, its frames and its
--- replies are added to its history. It queues no frame of a session.
+-- replies are added to its history, and what it was given of sessions waits for them.
 pub record AdvancedFrom {L : Type 0} (link : Ghosts L) (at n : ℕ) (Before : List Local → Type 0) (old new : Peering L) : Type 0 where
   pub events : List Local
   pub inside : IsInside events
   pub went : (d : L) → Went link (link_of d old) (link_in events) (link_of d new)
   pub answers : new.replies ≡ old.replies ++ replied_in events
   pub few : reads_in (link_in events) ≤ n
-  pub unsaid : sessions_of (sent_in events) ≡ []
+  pub gathers : Gathers old.held new.held events
   pub kind : new.kind ≡ old.kind
   pub grows : (h : List Local) → moment_in h ≡ at → Before h → Has new (events ++ h)
 
@@ -155,7 +155,7 @@ pub record IsToClose {L : Type 0} (condition : Option (List ℕ)) (p : Peering L
   pub is_made : IsMadeIn p.fault p.held h
 
 -- An end made a step, which began with a call or a poll: what passed at its link, its frames and its replies are added to its
--- history, and no frame of a session is queued. It stops where it can do no more now, or where the connection has not begun or has ended,
+-- history, and what it was given of sessions waits for them. It stops where it can do no more now, or where the connection has not begun or has ended,
 -- and then no call waits for it; where the headers are exchanged, the connection begins.
 pub record Stepped {L : Type 0} (link : Ghosts L) (old : Peering L) (first : Local) (new : Peering L) : Type 0 where
   pub events : List Local
@@ -163,7 +163,7 @@ pub record Stepped {L : Type 0} (link : Ghosts L) (old : Peering L) (first : Loc
   pub went : (d : L) → Went link (link_of d old) (link_in events) (link_of d new)
   pub answers : new.replies ≡ old.replies ++ replied_in events
   pub few : reads_in (link_in events) ≤ 2 ^ 63
-  pub unsaid : sessions_of (sent_in events) ≡ []
+  pub gathers : Gathers old.held new.held events
   pub kind : new.kind ≡ old.kind
   pub settled : IsActive new.held → IsSettled (moment_in (first ∷ [])) new.held events
   pub concluded : IsStopped new.held → IsConcluded new events

@@ -1,7 +1,10 @@
-use Rattle.std.proofs.Common.{◌≤◌, ◌+◌, ◌^◌, Ok, ap, ◌∙◌, arith}
+use Rattle.std.proofs.Common.{◌≤◌, ◌+◌, ◌^◌, Ok, refl, ap, ◌∙◌, arith}
 use Rattle.amqp_peer.specs.Peering.{Has}
-use Rattle.amqp_peer.proofs.Advances.{rested_then, rested_more, rested_spent, worked_then}
+use Rattle.amqp_peer.proofs.Advances.{rested_then, rested_more, rested_spent, worked_none, worked_then}
 use Rattle.amqp_peer.proofs.peer.Peer.go_on.Goals as goal
+
+pub steps-init : goal.steps-init
+steps-init g c = (0, omega arith, worked_none g.L.Link c.args.at c.args.self.now, c.requires, refl)
 
 pub returns-then-not-branch-clause-ok : goal.returns-then-not-branch-clause-ok
 returns-then-not-branch-clause-ok g c =
