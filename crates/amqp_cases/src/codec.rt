@@ -2,6 +2,7 @@
 use crate::came::{Came, Refusal};
 use crate::kind::Kind;
 use amqp_frames::{decode_body, encode_body};
+use amqp_message_faults::{Fault, fault_in_message};
 use amqp_messages::{decode_message, encode_message};
 use amqp_sasl_bodies::{decode_sasl, encode_sasl};
 use amqp_text::Binary;
@@ -81,6 +82,15 @@ fn message_again(alloc: Global, bytes: &[u8]) -> Result<Binary, Refusal> {
     Ok(again)
 }
 
+/// Where and why the bytes are no message.
+fn message_fault(alloc: Global, bytes: &[u8]) -> Result<String, Refusal> {
+    let text = match fault_in_message(alloc, bytes)? {
+        Some(Fault { offset, reason }) => format!(in alloc; "{offset} {reason}")?,
+        None => format!(in alloc; "none")?,
+    };
+    Ok(text)
+}
+
 /// What comes of bytes, with that many levels where the kind counts them.
 fn try_codec(alloc: Global, kind: Kind, bytes: &[u8], levels: u8) -> Result<Came, Refusal> {
     match kind {
@@ -92,6 +102,7 @@ fn try_codec(alloc: Global, kind: Kind, bytes: &[u8], levels: u8) -> Result<Came
         Kind::Bodies => Ok(Came::Bytes(body_again(alloc, bytes)?)),
         Kind::Sasl => Ok(Came::Bytes(sasl_again(alloc, bytes)?)),
         Kind::Messages => Ok(Came::Bytes(message_again(alloc, bytes)?)),
+        Kind::Faults => Ok(Came::Text(message_fault(alloc, bytes)?)),
     }
 }
 

@@ -2,7 +2,8 @@
 //!
 //! A case is a line, `GIVEN => WANTED`; blank lines and lines that begin with `#` say nothing. GIVEN are bytes
 //! (`case_files::notation`), and before them may stand `levels=N`, the most levels that a value may be nested, else 32. WANTED is
-//! what is to come: bytes, or `same` where they are those that were given; a number; a text; or the name of an error, as `Decode`.
+//! what is to come: bytes, or `same` where they are those that were given; a number; a text; the name of an error, as `Decode`; or an
+//! offset and a reason, or `none`.
 
 /// What a file's cases are about, as the end of its name tells.
 #[derive(Clone, Copy, Debug, PartialEq, Eq)]
@@ -23,6 +24,8 @@ pub enum Kind {
     Sasl,
     /// `.messages`: a message, and how it is written again.
     Messages,
+    /// `.faults`: bytes, and where and why they are no message.
+    Faults,
 }
 
 impl Kind {
@@ -38,6 +41,7 @@ impl Kind {
             "bodies" => Some(Kind::Bodies),
             "sasl" => Some(Kind::Sasl),
             "messages" => Some(Kind::Messages),
+            "faults" => Some(Kind::Faults),
             _ => None,
         }
     }
