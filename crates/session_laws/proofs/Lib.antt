@@ -1,0 +1,9 @@
+pub mod Links
+pub mod Sends
+pub mod Settles
+pub mod Cuts
+pub mod Holds
+pub mod Hands
+pub mod Takes
+pub mod Receives
+pub mod Paths

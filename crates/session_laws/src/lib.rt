@@ -1,0 +1,7 @@
+//! Laws over the whole life of a session and of its links (OASIS AMQP 1.0, part 2, sections 2.5 and 2.6).
+//!
+//! Each function is empty: its contract is the law.
+#![tactic(auto)]
+
+pub mod messages;
+pub mod outcomes;
