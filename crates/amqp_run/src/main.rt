@@ -21,6 +21,7 @@ use crate::show::{form_of, run_show};
 use amqp_decoder::ending::Ending;
 use amqp_decoder::run::run_decode;
 use amqp_disposers::{Ending as DisposersEnding, OpenGate, run_disposers};
+use amqp_gen::{asked, run_command};
 use amqp_script::script::number::number;
 use amqp_streams::standard::{StandardInput, StandardOutput};
 use amqp_text::Text;
@@ -49,6 +50,10 @@ amqp_run disposers N M
     how many deliveries were settled
 amqp_run disposers N M ticket
     the same, where the threads take their turns by tickets
+amqp_run gen START COUNT
+    sends COUNT messages (at most 10000) one at a time, of lengths that are made
+    from START, and writes how many were sent and accepted, how many bytes their
+    bodies have, and how many both ends wrote
 amqp_run kdf HASH ROUNDS LENGTH PASSWORD SALT
     writes a key of PBKDF2 in hexadecimal; HASH is sha1, sha256 or sha512,
     ROUNDS below 2^32, LENGTH at most 4096 bytes
@@ -170,6 +175,9 @@ fn run(rt: &(impl Runtime + AllocGlobal + Threads + Wait + Sync), words: &[Text]
             &mut sink,
             ticket,
         ));
+    }
+    if let Some((start, count)) = asked(words) {
+        return End::Program(run_command(rt.alloc(), start, count, &mut sink));
     }
     if let Some(form) = form_of(words) {
         return End::Program(run_show(rt.alloc(), form, &mut source, &mut sink));
