@@ -1,2 +1,5 @@
 pub mod Goes
+pub mod Opened
+pub mod Passing
+pub mod Telling
 pub mod Waits

@@ -1,4 +1,5 @@
 pub mod Asks
 pub mod Moves
+pub mod Answers
 pub mod Deeds
 pub mod Goes

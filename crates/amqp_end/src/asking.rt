@@ -1,5 +1,5 @@
 //! The calls of an end.
-ghost use Rattle.std.specs.Prelude.{◌≡◌, OnOk};
+ghost use Rattle.std.specs.Prelude.{◌≡◌, ℕ, [], ◌∷◌, OnOk};
 ghost use Rattle.amqp_end.specs.Goes.{Goes, GoesOn};
 ghost use Rattle.amqp_peer.specs.Peering.{MayCall};
 
@@ -43,7 +43,7 @@ impl<L: Link> End<L> {
         call: ConnectionCall,
     ) -> Result<(), AllocError>
         requires { MayCall self.old.connection name call }
-        ensures { OnOk result (Goes L.Link self.old self.new) }
+        ensures { OnOk result (Goes L.Link at ((name, call) ∷ []) self.old self.new) }
     {
         self.stop_sessions(&call)?;
         match self.connection.call(at, name, call) {
@@ -56,7 +56,7 @@ impl<L: Link> End<L> {
 
     /// A `close` stops the sessions, of which their links hear.
     fn stop_sessions(&mut self, call: &ConnectionCall) -> Result<(), AllocError>
-        ensures ok { OnOk result (GoesOn L.Link self.old self.new) }
+        ensures ok { OnOk result ((at : ℕ) → GoesOn L.Link at self.old self.new) }
         ensures connection { self.new.connection ≡ self.old.connection }
     {
         match own_reason(self.alloc, call)? {
@@ -75,7 +75,7 @@ impl<L: Link> End<L> {
         name: u64,
         call: SessionCall,
     ) -> Result<(), AllocError>
-        ensures { OnOk result (Goes L.Link self.old self.new) }
+        ensures { OnOk result (Goes L.Link at [] self.old self.new) }
     {
         let session = self.ask(name, call)?;
         self.collect()?;
@@ -86,7 +86,7 @@ impl<L: Link> End<L> {
 
     /// The frames of a session go out, and its links hear what it has for them.
     fn let_out(&mut self, session: u64) -> Result<(), AllocError>
-        ensures { OnOk result (GoesOn L.Link self.old self.new) }
+        ensures { OnOk result ((at : ℕ) → GoesOn L.Link at self.old self.new) }
     {
         self.sessions.hand_out(session)?;
         self.hand_on_all()?;
@@ -95,7 +95,7 @@ impl<L: Link> End<L> {
 
     /// Makes the call. The answer is the name of the session whose frames it writes.
     fn ask(&mut self, name: u64, call: SessionCall) -> Result<u64, AllocError>
-        ensures { OnOk result (GoesOn L.Link self.old self.new) }
+        ensures { OnOk result ((at : ℕ) → GoesOn L.Link at self.old self.new) }
     {
         match call {
             SessionCall::Begin(numbers) => {
@@ -119,14 +119,14 @@ impl<L: Link> End<L> {
         session: u64,
         error: Option<Symbol>,
     ) -> Result<(), AllocError>
-        ensures { OnOk result (GoesOn L.Link self.old self.new) }
+        ensures { OnOk result ((at : ℕ) → GoesOn L.Link at self.old self.new) }
     {
         self.sessions.end(name, session, error)
     }
 
     /// A channel for a session: none where the call of that name is refused, and answered so.
     fn seat(&mut self, name: u64) -> Result<Option<u16>, AllocError>
-        ensures ok { OnOk result (GoesOn L.Link self.old self.new) }
+        ensures ok { OnOk result ((at : ℕ) → GoesOn L.Link at self.old self.new) }
     {
         if !self.connection.is_running() || !self.connection.is_open() {
             self.sessions.refuse(name, BeginError::IllegalState)?;
@@ -149,7 +149,7 @@ impl<L: Link> End<L> {
     }
 
     fn begin(&mut self, name: u64, numbers: SessionNumbers) -> Result<(), AllocError>
-        ensures { OnOk result (GoesOn L.Link self.old self.new) }
+        ensures { OnOk result ((at : ℕ) → GoesOn L.Link at self.old self.new) }
     {
         let limit = self.frame_limit();
         match self.seat(name)? {
@@ -159,7 +159,7 @@ impl<L: Link> End<L> {
     }
 
     fn accept(&mut self, name: u64, numbers: SessionNumbers) -> Result<(), AllocError>
-        ensures { OnOk result (GoesOn L.Link self.old self.new) }
+        ensures { OnOk result ((at : ℕ) → GoesOn L.Link at self.old self.new) }
     {
         if self.connection.incoming_session().is_none() {
             return self.sessions.await_begin(name, numbers);
@@ -173,7 +173,7 @@ impl<L: Link> End<L> {
         name: u64,
         numbers: SessionNumbers,
     ) -> Result<(), AllocError>
-        ensures { OnOk result (GoesOn L.Link self.old self.new) }
+        ensures { OnOk result ((at : ℕ) → GoesOn L.Link at self.old self.new) }
     {
         let limit = self.frame_limit();
         let Some(channel) = self.seat(name)? else {

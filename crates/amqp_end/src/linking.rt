@@ -1,5 +1,5 @@
 //! The links of an end: their calls, what they hear of their sessions, and what they write on them.
-ghost use Rattle.std.specs.Prelude.{◌≡◌, OnOk};
+ghost use Rattle.std.specs.Prelude.{◌≡◌, ℕ, [], OnOk};
 ghost use Rattle.amqp_end.specs.Asks.{limit_for};
 ghost use Rattle.amqp_end.specs.Goes.{Goes, GoesOn};
 ghost use Rattle.amqp_sessions.specs.State.{seen};
@@ -16,7 +16,7 @@ const HANDED_IN_A_ROW: u64 = 1 << 62;
 impl<L: Link> End<L> {
     /// Makes a call for a link: what it answers at once comes first, then what was read, then what the call writes.
     pub(crate) fn call_link(&mut self, at: u64, name: u64, call: LinkCall) -> Result<(), AllocError>
-        ensures { OnOk result (Goes L.Link self.old self.new) }
+        ensures { OnOk result (Goes L.Link at [] self.old self.new) }
     {
         self.ask_links(name, call)?;
         self.collect()?;
@@ -47,7 +47,7 @@ impl<L: Link> End<L> {
     }
 
     fn ask_links(&mut self, name: u64, call: LinkCall) -> Result<(), AllocError>
-        ensures { OnOk result (GoesOn L.Link self.old self.new) }
+        ensures { OnOk result ((at : ℕ) → GoesOn L.Link at self.old self.new) }
     {
         let limit = self.limit_for(&call);
         self.links.call(name, call, limit)
@@ -55,7 +55,7 @@ impl<L: Link> End<L> {
 
     /// What the links write goes out.
     fn let_links_out(&mut self) -> Result<(), AllocError>
-        ensures { OnOk result (GoesOn L.Link self.old self.new) }
+        ensures { OnOk result ((at : ℕ) → GoesOn L.Link at self.old self.new) }
     {
         self.hand_on_all()?;
         self.hand_over()
@@ -63,7 +63,7 @@ impl<L: Link> End<L> {
 
     /// The links hear what the sessions have for them, and the sessions get what the links write, until neither has more.
     pub(crate) fn hand_on_all(&mut self) -> Result<(), AllocError>
-        ensures goes { OnOk result (GoesOn L.Link self.old self.new) }
+        ensures goes { OnOk result ((at : ℕ) → GoesOn L.Link at self.old self.new) }
         ensures connection { self.new.connection ≡ self.old.connection }
     {
         let mut left = HANDED_IN_A_ROW;
@@ -78,7 +78,7 @@ impl<L: Link> End<L> {
 
     /// One thing is handed from the sessions to the links or back; whether there was one.
     fn hand_on(&mut self) -> Result<bool, AllocError>
-        ensures goes { OnOk result (GoesOn L.Link self.old self.new) }
+        ensures goes { OnOk result ((at : ℕ) → GoesOn L.Link at self.old self.new) }
         ensures connection { self.new.connection ≡ self.old.connection }
     {
         if self.hear_session()? {
@@ -89,7 +89,7 @@ impl<L: Link> End<L> {
 
     /// The links hear the first of what the sessions have for them, if there is one.
     fn hear_session(&mut self) -> Result<bool, AllocError>
-        ensures goes { OnOk result (GoesOn L.Link self.old self.new) }
+        ensures goes { OnOk result ((at : ℕ) → GoesOn L.Link at self.old self.new) }
         ensures connection { self.new.connection ≡ self.old.connection }
     {
         match self.sessions.take_for_link() {
@@ -104,7 +104,7 @@ impl<L: Link> End<L> {
     /// The first of what the links write goes to its session, if there is one. For an Attach of a link that this end does not have
     /// the session is ended.
     fn write_on_session(&mut self) -> Result<bool, AllocError>
-        ensures goes { OnOk result (GoesOn L.Link self.old self.new) }
+        ensures goes { OnOk result ((at : ℕ) → GoesOn L.Link at self.old self.new) }
         ensures connection { self.new.connection ≡ self.old.connection }
     {
         match self.links.take_output() {

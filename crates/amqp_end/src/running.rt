@@ -1,6 +1,8 @@
 //! How an end goes on: step by step of its connection, with what comes of each.
-ghost use Rattle.std.specs.Prelude.{◌≡◌, OnOk};
+ghost use Rattle.std.specs.Prelude.{◌≡◌, ℕ, [], ◌++◌, map, true, OnOk};
+ghost use Rattle.amqp_end.specs.Answers.{of_connection, of_link, AreOrdered};
 ghost use Rattle.amqp_end.specs.Goes.{Goes, GoesOn};
+ghost use Rattle.amqp_peer.specs.Hearing.{hears_in, IsOpenIn};
 ghost use Rattle.amqp_peer.specs.Held.{IsLate};
 
 use crate::end::{End, memory_of};
@@ -14,7 +16,9 @@ use std::alloc::{AllocError, Global};
 const STEPS_OF_CALL: u64 = 1 << 62;
 
 /// Answers of a connection among those of an end.
-fn add_replies(replies: &mut Vec<NamedReply>, connection: ReplyList) -> Result<(), AllocError> {
+fn add_replies(replies: &mut Vec<NamedReply>, connection: ReplyList) -> Result<(), AllocError>
+    ensures { OnOk result (replies.new.items ≡ replies.old.items ++ map of_connection connection) }
+{
     for answer in connection.into_vec() {
         replies.push(NamedReply {
             name: answer.name,
@@ -28,7 +32,9 @@ fn add_replies(replies: &mut Vec<NamedReply>, connection: ReplyList) -> Result<(
 fn add_link_replies(
     replies: &mut Vec<NamedReply>,
     links: Vec<NamedLinkReply>,
-) -> Result<(), AllocError> {
+) -> Result<(), AllocError>
+    ensures { OnOk result (replies.new.items ≡ replies.old.items ++ map of_link links.items) }
+{
     for answer in links {
         let (name, reply) = answer.into_parts();
         replies.push(NamedReply {
@@ -39,8 +45,18 @@ fn add_link_replies(
     Ok(())
 }
 
+/// Answers in the order of their names; those to one call stay as they stand.
+fn sort_by_name(replies: &mut Vec<NamedReply>) -> Result<(), AllocError>
+    ensures { OnOk result (AreOrdered replies.old.items replies.new.items) }
+{
+    replies.sort_by_key(|answer| answer.name)?;
+    Ok(())
+}
+
 /// Adds answers behind others.
-fn append(replies: &mut Vec<NamedReply>, fresh: Vec<NamedReply>) -> Result<(), AllocError> {
+fn append(replies: &mut Vec<NamedReply>, fresh: Vec<NamedReply>) -> Result<(), AllocError>
+    ensures { OnOk result (replies.new.items ≡ replies.old.items ++ fresh.items) }
+{
     for answer in fresh {
         replies.push(answer)?;
     }
@@ -50,7 +66,7 @@ fn append(replies: &mut Vec<NamedReply>, fresh: Vec<NamedReply>) -> Result<(), A
 impl<L: Link> End<L> {
     /// Goes on until nothing more can be done.
     pub(crate) fn run(&mut self, at: u64) -> Result<(), AllocError>
-        ensures { OnOk result (Goes L.Link self.old self.new) }
+        ensures { OnOk result (Goes L.Link at [] self.old self.new) }
     {
         self.exchange(at)?;
         self.steps(at)
@@ -58,7 +74,7 @@ impl<L: Link> End<L> {
 
     /// Goes on with the exchange of headers, where the connection has not begun.
     fn exchange(&mut self, at: u64) -> Result<(), AllocError>
-        ensures { OnOk result (Goes L.Link self.old self.new) }
+        ensures { OnOk result (Goes L.Link at [] self.old self.new) }
     {
         if self.connection.is_running() {
             return Ok(());
@@ -71,7 +87,7 @@ impl<L: Link> End<L> {
 
     /// The connection goes on, step by step, until nothing more can be done.
     pub(crate) fn steps(&mut self, at: u64) -> Result<(), AllocError>
-        ensures { OnOk result (Goes L.Link self.old self.new) }
+        ensures { OnOk result (Goes L.Link at [] self.old self.new) }
     {
         if !self.connection.is_running() {
             return Ok(());
@@ -89,7 +105,7 @@ impl<L: Link> End<L> {
     /// One step of the connection, and what comes of it; whether another may follow.
     fn advance(&mut self, at: u64) -> Result<bool, AllocError>
         requires { IsLate self.old.connection.held }
-        ensures { OnOk result (GoesOn L.Link self.old self.new) }
+        ensures { OnOk result (GoesOn L.Link at self.old self.new) }
     {
         match self.connection.step(at) {
             Ok(more) => {
@@ -102,7 +118,7 @@ impl<L: Link> End<L> {
 
     /// Takes up what the connection has read for the sessions, and writes what they say to it.
     pub(crate) fn take_up(&mut self) -> Result<(), AllocError>
-        ensures { OnOk result (GoesOn L.Link self.old self.new) }
+        ensures { OnOk result ((at : ℕ) → GoesOn L.Link at self.old self.new) }
     {
         self.hear()?;
         self.accept_waiting()?;
@@ -113,7 +129,7 @@ impl<L: Link> End<L> {
 
     /// The sessions and their links hear the frames that the connection has read for them.
     fn hear(&mut self) -> Result<(), AllocError>
-        ensures { OnOk result (GoesOn L.Link self.old self.new) }
+        ensures { OnOk result ((at : ℕ) → GoesOn L.Link at self.old self.new) }
     {
         'frames: while let Some(frame) = self.connection.take_incoming() {
             self.sessions.on_frame(frame)?;
@@ -124,7 +140,7 @@ impl<L: Link> End<L> {
 
     /// An `accept_session` that waits takes the first session that the peer has begun and that waits.
     fn accept_waiting(&mut self) -> Result<(), AllocError>
-        ensures { OnOk result (GoesOn L.Link self.old self.new) }
+        ensures { OnOk result ((at : ℕ) → GoesOn L.Link at self.old self.new) }
     {
         let Some(Waiting::Accept(name, numbers)) = self.sessions.waiting() else {
             return Ok(());
@@ -137,11 +153,11 @@ impl<L: Link> End<L> {
         self.hand_on_all()
     }
 
-    /// Gives the frames of the sessions to the connection, and their channels back.
+    /// Gives the frames of the sessions to the connection, and their channels back, while it is open.
     pub(crate) fn hand_over(&mut self) -> Result<(), AllocError>
-        ensures { OnOk result (GoesOn L.Link self.old self.new) }
+        ensures { OnOk result ((at : ℕ) → GoesOn L.Link at self.old self.new) }
     {
-        if !self.connection.is_running() {
+        if !self.connection.is_open() {
             return Ok(());
         }
         self.write()?;
@@ -149,10 +165,11 @@ impl<L: Link> End<L> {
         Ok(())
     }
 
-    /// Gives the frames of the sessions to the connection.
+    /// Gives the frames of the sessions to the connection, which is open, or hears no more.
     fn write(&mut self) -> Result<(), AllocError>
-        requires { IsLate self.old.connection.held }
-        ensures { OnOk result (GoesOn L.Link self.old self.new) }
+        requires late { IsLate self.old.connection.held }
+        requires opened { hears_in self.old.connection.held ≡ true → IsOpenIn self.old.connection.held }
+        ensures { OnOk result ((at : ℕ) → GoesOn L.Link at self.old self.new) }
     {
         'frames: while let Some(frame) = self.sessions.take_output() {
             match self.connection.send(frame) {
@@ -165,7 +182,7 @@ impl<L: Link> End<L> {
 
     /// Gives the channels of sessions that are ended back to the connection.
     fn give_back(&mut self)
-        ensures { GoesOn L.Link self.old self.new }
+        ensures { (at : ℕ) → GoesOn L.Link at self.old self.new }
     {
         'channels: while let Some(channel) = self.sessions.take_freed() {
             self.connection.deallocate_session(channel);
@@ -174,7 +191,7 @@ impl<L: Link> End<L> {
 
     /// Tells the sessions and their links once that the connection has stopped.
     fn conclude(&mut self) -> Result<(), AllocError>
-        ensures { OnOk result (GoesOn L.Link self.old self.new) }
+        ensures { OnOk result ((at : ℕ) → GoesOn L.Link at self.old self.new) }
     {
         if self.has_concluded {
             return Ok(());
@@ -189,12 +206,12 @@ impl<L: Link> End<L> {
 
     /// Takes in the answers that are new, in the order of their names.
     pub(crate) fn collect(&mut self) -> Result<(), AllocError>
-        ensures { OnOk result (GoesOn L.Link self.old self.new) }
+        ensures { OnOk result ((at : ℕ) → GoesOn L.Link at self.old self.new) }
     {
         let mut fresh = self.sessions.take_replies();
         add_replies(&mut fresh, self.connection.replies())?;
         add_link_replies(&mut fresh, self.links.take_replies())?;
-        fresh.sort_by_key(|answer| answer.name)?;
+        sort_by_name(&mut fresh)?;
         append(&mut self.replies, fresh)
     }
 }

@@ -1,1 +1,4 @@
 pub mod Moving
+pub mod Serving
+pub mod Living
+pub mod Carrying

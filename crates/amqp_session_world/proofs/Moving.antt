@@ -3,8 +3,9 @@ use Rattle.std.specs.Prelude.{OnOk, slice_get, Some}
 use Rattle.std.proofs.Common.{◌≡◌, ◌+◌, ◌≤◌, ◌<◌, List, ℕ, zero, suc, [], ◌∷◌, ◌++◌, length, take, drop, get_or, Result, Ok, Err, refl, sym, ap, ◌∙◌, subst, arith, length-append}
 use Rattle.std.proofs.Math.Seq.{drop-append_seam}
 use Rattle.amqp_wire.specs.Piped.{Piped}
-use Rattle.amqp_wire.specs.Events.{wrote_of}
-use Rattle.amqp_peer.specs.Peering.{Peering, link_of}
+use Rattle.amqp_words.specs.declared.call.Call.{Call as ConnectionCall}
+use Rattle.amqp_peer.specs.History.{wrote_in, link_in}
+use Rattle.amqp_peer.specs.Peering.{Peering}
 use Rattle.amqp_peer.proofs.Laws.{link_of-with_link}
 use Rattle.amqp_words.specs.declared.step.End.{End as Side}
 use Rattle.amqp_words.specs.declared.step.End.TheVariants.{Client, Listener}
@@ -15,13 +16,20 @@ use Rattle.amqp_calls.specs.declared.trace.Entry.{Entry}
 use Rattle.amqp_world.specs.Turn.{piping, empty_pipe, pipe_of, fed}
 use Rattle.amqp_world.proofs.Pipes.{pipe_output}
 use Rattle.amqp_end.specs.declared.end.End.{End}
+use Rattle.amqp_end.specs.Deeds.{behind}
 use Rattle.amqp_end.specs.Goes.{Goes}
-use Rattle.amqp_session_world.specs.Turn.{count_of, CanAct, CanStep, IsValid, given, marked, named, Told, Turned, View, IsTurnAt, IsTurn, Turns, IsStart, IsFirstInvalid}
+use Rattle.amqp_end.proofs.Passing.{goes_passes}
+use Rattle.amqp_session_world.specs.Turn.{count_of, calls_of, CanAct, CanStep, IsValid, given, marked, named, Told, Turned, View, IsTurnAt, IsTurn, Turns, IsStart, IsFirstInvalid}
 
-named_connection : (name : ℕ) (act : Act) (e : End Piped) → (named name act e).connection ≡ e.connection
+pub named_connection : (name : ℕ) (act : Act) (e : End Piped) → (named name act e).connection ≡ e.connection
 named_connection name (Take n) e = refl
 named_connection name TakeAll e = refl
 named_connection name (Call call) e = refl
+
+pub named_replies : (name : ℕ) (act : Act) (e : End Piped) → (named name act e).replies.items ≡ e.replies.items
+named_replies name (Take n) e = refl
+named_replies name TakeAll e = refl
+named_replies name (Call call) e = refl
 
 begun_output : (near far : End Piped) (name count : ℕ) (act : Act) → (pipe_of (named name act (given near far count)).connection).output ≡ (pipe_of near.connection).output
 begun_output near far name count act =
@@ -29,36 +37,37 @@ begun_output near far name count act =
     ∙ ap (λ (k : Piped). k.output) (link_of-with_link empty_pipe near.connection (fed (pipe_of near.connection) (pipe_of far.connection) count))
 
 -- what the end wrote stands behind its output
-ran_output : (near far ran : End Piped) (name count : ℕ) (act : Act) (g : Goes piping (named name act (given near far count)) ran) → (pipe_of ran.connection).output ≡ (pipe_of near.connection).output ++ wrote_of g.passed.events
-ran_output near far ran name count act g =
-    pipe_output (pipe_of (named name act (given near far count)).connection) (pipe_of ran.connection) g.passed.events (g.passed.went empty_pipe)
-    ∙ ap (λ (u : List ℕ). u ++ wrote_of g.passed.events) (begun_output near far name count act)
+ran_output : (near far ran : End Piped) (name count at : ℕ) (calls : List (ℕ × ConnectionCall)) (act : Act) (g : Goes piping at calls (named name act (given near far count)) ran) → (pipe_of ran.connection).output ≡ (pipe_of near.connection).output ++ wrote_in (behind at g.deeds [])
+ran_output near far ran name count at calls act g =
+    pipe_output (pipe_of (named name act (given near far count)).connection) (pipe_of ran.connection) (link_in (behind at g.deeds [])) ((goes_passes piping at calls (named name act (given near far count)) ran g).went empty_pipe)
+    ∙ ap (λ (u : List ℕ). u ++ wrote_in (behind at g.deeds [])) (begun_output near far name count act)
 
 -- an end only adds to its output
-pub output_grows : (near far ran : End Piped) (name count : ℕ) (act : Act) → Goes piping (named name act (given near far count)) ran → length (pipe_of near.connection).output ≤ length (pipe_of ran.connection).output
-output_grows near far ran name count act g =
-    let size : length (pipe_of ran.connection).output ≡ length (pipe_of near.connection).output + length (wrote_of g.passed.events) =
-    ap length (ran_output near far ran name count act g) ∙ length-append (pipe_of near.connection).output (wrote_of g.passed.events) in
+pub output_grows : (near far ran : End Piped) (name count at : ℕ) (calls : List (ℕ × ConnectionCall)) (act : Act) → Goes piping at calls (named name act (given near far count)) ran → length (pipe_of near.connection).output ≤ length (pipe_of ran.connection).output
+output_grows near far ran name count at calls act g =
+    let size : length (pipe_of ran.connection).output ≡ length (pipe_of near.connection).output + length (wrote_in (behind at g.deeds [])) =
+    ap length (ran_output near far ran name count at calls act g) ∙ length-append (pipe_of near.connection).output (wrote_in (behind at g.deeds [])) in
     omega (arith, size)
 
-pub turned_by : (near far ran near' : End Piped) (name count : ℕ) (act : Act) (entry : Entry) → CanAct near far name act → count ≡ count_of act far → Goes piping (named name act (given near far count)) ran → Told ran near' entry
-    → entry.wrote.items ≡ drop (length (pipe_of near.connection).output) (pipe_of near'.connection).output → Turned near far name act near' (marked far count) entry
-turned_by near far ran near' name count act entry can counted g told wrote =
-    let same : (pipe_of near'.connection).output ≡ (pipe_of near.connection).output ++ wrote_of g.passed.events = ap (λ (p : Peering Piped). (pipe_of p).output) told.connection ∙ ran_output near far ran name count act g in
-    let whole : entry.wrote.items ≡ wrote_of g.passed.events =
-    wrote ∙ ap (λ (u : List ℕ). drop (length (pipe_of near.connection).output) u) same ∙ drop-append_seam (pipe_of near.connection).output (wrote_of g.passed.events) in
+pub turned_by : (near far ran near' : End Piped) (name count at : ℕ) (act : Act) (entry : Entry) → CanAct near far name act → count ≡ count_of act far → Goes piping at (calls_of name act) (named name act (given near far count)) ran → Told ran near' entry
+    → entry.wrote.items ≡ drop (length (pipe_of near.connection).output) (pipe_of near'.connection).output → Turned near far name at act near' (marked far count) entry
+turned_by near far ran near' name count at act entry can counted g told wrote =
+    let calls = calls_of name act in
+    let same : (pipe_of near'.connection).output ≡ (pipe_of near.connection).output ++ wrote_in (behind at g.deeds []) = ap (λ (p : Peering Piped). (pipe_of p).output) told.connection ∙ ran_output near far ran name count at calls act g in
+    let whole : entry.wrote.items ≡ wrote_in (behind at g.deeds []) =
+    wrote ∙ ap (λ (u : List ℕ). drop (length (pipe_of near.connection).output) u) same ∙ drop-append_seam (pipe_of near.connection).output (wrote_in (behind at g.deeds [])) in
     record {
       can = can;
       far_end = ap (λ (n : ℕ). marked far n) counted;
       ran = ran;
-      goes = subst (λ (n : ℕ). Goes piping (named name act (given near far n)) ran) counted g;
+      goes = subst (λ (n : ℕ). Goes piping at calls (named name act (given near far n)) ran) counted g;
       told = told;
       output = same ∙ ap (λ (u : List ℕ). (pipe_of near.connection).output ++ u) (sym whole);
     }
 
 -- ---- steps
 
-pub client_turned : (old mid new : View) (step : Step) (name : ℕ) (entry : Entry) → step.end ≡ Client → IsValid old step → name ≡ length old.entries → Turned old.client old.listener name step.act mid.client mid.listener entry
+pub client_turned : (old mid new : View) (step : Step) (name : ℕ) (entry : Entry) → step.end ≡ Client → IsValid old step → name ≡ length old.entries → Turned old.client old.listener name step.at step.act mid.client mid.listener entry
     → new ≡ record mid { entries = old.entries ++ entry ∷ []; moment = step.at } → IsTurn old step new
 client_turned old mid new step name entry end valid named turned is =
     subst (λ (w : View). IsTurn old step w) (sym is)
@@ -68,10 +77,10 @@ client_turned old mid new step name entry end valid named turned is =
       entries = refl;
       moment = refl;
       turned = subst (λ (s : Side). IsTurnAt s (length old.entries) old step (record mid { entries = old.entries ++ entry ∷ []; moment = step.at }) entry) (sym end)
-          (subst (λ (n : ℕ). Turned old.client old.listener n step.act mid.client mid.listener entry) named turned);
+          (subst (λ (n : ℕ). Turned old.client old.listener n step.at step.act mid.client mid.listener entry) named turned);
     })
 
-pub listener_turned : (old mid new : View) (step : Step) (name : ℕ) (entry : Entry) → step.end ≡ Listener → IsValid old step → name ≡ length old.entries → Turned old.listener old.client name step.act mid.listener mid.client entry
+pub listener_turned : (old mid new : View) (step : Step) (name : ℕ) (entry : Entry) → step.end ≡ Listener → IsValid old step → name ≡ length old.entries → Turned old.listener old.client name step.at step.act mid.listener mid.client entry
     → new ≡ record mid { entries = old.entries ++ entry ∷ []; moment = step.at } → IsTurn old step new
 listener_turned old mid new step name entry end valid named turned is =
     subst (λ (w : View). IsTurn old step w) (sym is)
@@ -81,7 +90,7 @@ listener_turned old mid new step name entry end valid named turned is =
       entries = refl;
       moment = refl;
       turned = subst (λ (s : Side). IsTurnAt s (length old.entries) old step (record mid { entries = old.entries ++ entry ∷ []; moment = step.at }) entry) (sym end)
-          (subst (λ (n : ℕ). Turned old.listener old.client n step.act mid.listener mid.client entry) named turned);
+          (subst (λ (n : ℕ). Turned old.listener old.client n step.at step.act mid.listener mid.client entry) named turned);
     })
 
 -- one more step

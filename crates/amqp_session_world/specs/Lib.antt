@@ -1,2 +1,4 @@
 pub mod Turn
+pub mod Lives
+pub mod Carried
 pub mod Worlds

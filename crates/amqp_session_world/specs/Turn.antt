@@ -2,6 +2,7 @@
 use Rattle.std.specs.Prelude.{◌≡◌, ◌≤◌, ℕ, Bool, true, false, List, [], ◌∷◌, ◌++◌, length, take, drop, slice_get, Some, None, ⊤}
 use Rattle.amqp_wire.specs.Piped.{Piped}
 use Rattle.amqp_peer.specs.Peering.{fresh, with_link_of}
+use Rattle.amqp_words.specs.declared.call.Call.{Call as ConnectionCall}
 use Rattle.amqp_words.specs.declared.step.End.{End as Side}
 use Rattle.amqp_words.specs.declared.step.End.TheVariants.{Client, Listener}
 use Rattle.amqp_calls.specs.declared.step.Act.{Act}
@@ -14,7 +15,7 @@ use Rattle.amqp_links.specs.State.{seen as linked, no_links}
 use Rattle.amqp_sessions.specs.State.{seen, none_begun}
 use Rattle.amqp_end.specs.declared.end.End.{End}
 use Rattle.amqp_end.specs.Asks.{MayAsk}
-use Rattle.amqp_end.specs.Goes.{Goes}
+use Rattle.amqp_end.specs.Goes.{Goes, on_connection}
 
 -- the bytes that an end wrote and that were not moved yet
 abbrev pub untaken : End Piped → List ℕ
@@ -56,22 +57,29 @@ named name (Take n) e = e
 named name TakeAll e = e
 named name (Call call) e = record e { last = Some name }
 
+-- the call that an act makes on the connection, if it makes one
+abbrev pub calls_of : ℕ → Act → List (ℕ × ConnectionCall)
+calls_of name (Take n) = []
+calls_of name TakeAll = []
+calls_of name (Call call) = on_connection name call
+
 -- the answers of an end are taken out of it
 pub record Told (ran near : End Piped) (entry : Entry) : Type 0 where
   pub replies : entry.replies.items ≡ ran.replies.items
+  pub left : near.replies.items ≡ []
   pub connection : near.connection ≡ ran.connection
   pub sessions : near.sessions ≡ ran.sessions
   pub links : near.links ≡ ran.links
   pub last : near.last ≡ ran.last
   pub failed : near.failed ≡ ran.failed
 
--- One step of the end `near`, whose other is `far`: bytes of the far end came to its input, it went on by itself, and its answers were
--- taken out. The entry has these and what it wrote. The far end is as before but for its mark.
-pub record Turned (near far : End Piped) (name : ℕ) (act : Act) (near' far' : End Piped) (entry : Entry) : Type 0 where
+-- One step of the end `near` at a moment, whose other is `far`: bytes of the far end came to its input, it went on, and its answers were taken
+-- out. The entry has these and what it wrote. The far end is as before but for its mark.
+pub record Turned (near far : End Piped) (name at : ℕ) (act : Act) (near' far' : End Piped) (entry : Entry) : Type 0 where
   pub can : CanAct near far name act
   pub far_end : far' ≡ marked far (count_of act far)
   pub ran : End Piped
-  pub goes : Goes piping (named name act (given near far (count_of act far))) ran
+  pub goes : Goes piping at (calls_of name act) (named name act (given near far (count_of act far))) ran
   pub told : Told ran near' entry
   pub output : (pipe_of near'.connection).output ≡ (pipe_of near.connection).output ++ entry.wrote.items
 
@@ -91,8 +99,8 @@ abbrev pub IsValid : View → Step → Type 0
 IsValid w step = (w.moment ≤ step.at) × CanStep step.end w step
 
 abbrev pub IsTurnAt : Side → ℕ → View → Step → View → Entry → Type 0
-IsTurnAt Client name old step new entry = Turned old.client old.listener name step.act new.client new.listener entry
-IsTurnAt Listener name old step new entry = Turned old.listener old.client name step.act new.listener new.client entry
+IsTurnAt Client name old step new entry = Turned old.client old.listener name step.at step.act new.client new.listener entry
+IsTurnAt Listener name old step new entry = Turned old.listener old.client name step.at step.act new.listener new.client entry
 
 -- the step was valid, its end made it, and one entry follows those before
 pub record IsTurn (old : View) (step : Step) (new : View) : Type 0 where
@@ -117,6 +125,7 @@ pub record IsFresh (side : Side) (e : End Piped) : Type 0 where
   pub connection : e.connection ≡ fresh empty_pipe (kind_of side)
   pub sessions : seen e.sessions ≡ none_begun
   pub links : linked e.links ≡ no_links (accepts side)
+  pub replies : e.replies.items ≡ []
   pub last : e.last ≡ None
 
 -- nothing happened at either

@@ -1,7 +1,7 @@
 //! One step of two ends with sessions and links.
 ghost use Rattle.std.specs.Prelude.{◌≡◌, ◌↔◌, ◌≤◌, length, OnOk, IfOk, IsTrue};
 ghost use Rattle.amqp_end.specs.Goes.{Goes};
-ghost use Rattle.amqp_session_world.specs.Turn.{untaken, count_of, IsWithin, MayAct, CanAct, given, marked, named, Turned};
+ghost use Rattle.amqp_session_world.specs.Turn.{untaken, count_of, IsWithin, MayAct, CanAct, calls_of, given, marked, named, Turned};
 ghost use Rattle.amqp_world.specs.Turn.{piping};
 
 use amqp_calls::{Act, Entry};
@@ -53,7 +53,7 @@ fn act_at(
     act: &Act,
 ) -> Result<(), AllocError>
     requires { MayAct near.old name act.now }
-    ensures { OnOk result (Goes piping (named name act.now near.old) near.new) }
+    ensures { OnOk result (Goes piping at (calls_of name act.now) (named name act.now near.old) near.new) }
 {
     let done = match act {
         Act::Call(call) => {
@@ -79,7 +79,7 @@ pub(crate) fn turn(
     act: &Act,
 ) -> Result<Entry, AllocError>
     requires { CanAct near.old far.old name act.now }
-    ensures { IfOk result (λ entry. Turned near.old far.old name act.now near.new far.new entry) }
+    ensures { IfOk result (λ entry. Turned near.old far.old name at act.now near.new far.new entry) }
 {
     let before = near.link_ref().output().len();
     let count = count_of(far, act);

@@ -1,6 +1,7 @@
 //! Two ends with sessions and links in memory.
 ghost use Rattle.std.specs.Prelude.{◌≡◌, ◌↔◌, ◌++◌, ◌∷◌, [], ℕ, length, OnOk, IfOk, IsTrue, IsErrOf};
 ghost use Rattle.amqp_words.specs.declared.step.End.TheVariants.{Client, Listener};
+ghost use Rattle.amqp_session_world.specs.Carried.{AreCarried};
 ghost use Rattle.amqp_session_world.specs.Turn.{IsFresh, IsStart, IsValid, IsTurn, Turns, AreMade, IsFirstInvalid};
 ghost use Rattle.amqp_session_world.specs.Worlds.{view_of};
 
@@ -176,6 +177,7 @@ impl SessionWorld {
     pub fn run(alloc: Global, steps: &[Step]) -> Result<Trace, WorldError>
         ensures form { IfOk result (λ trace. length trace.entries.items ≡ length steps.now) }
         ensures made { IfOk result (λ trace. AreMade steps.now trace.entries.items) }
+        ensures carried { IfOk result (λ trace. AreCarried steps.now trace.entries.items) }
         ensures bad { (i : ℕ) → IsErrOf result (WorldError.BadStep i) → IsFirstInvalid steps.now i }
         ensures failed { IsErrOf result WorldError.Failed → ⊥ }
     {

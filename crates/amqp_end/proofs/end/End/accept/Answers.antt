@@ -4,4 +4,5 @@ use Rattle.amqp_end.proofs.Goes.{on_ok, on_move}
 use Rattle.amqp_end.proofs.end.End.accept.Goals as goal
 
 pub returns-then-is_none : goal.returns-then-is_none
-returns-then-is_none g c = on_ok c.await_begin.result (λ h. on_move g.L.Link (Awaiting c.args.name c.args.numbers) c.args.self.now _ refl h refl refl refl) c.await_begin.ensures
+returns-then-is_none g c =
+    on_ok c.await_begin.result (λ h at. on_move g.L.Link at (Awaiting c.args.name c.args.numbers) c.args.self.now _ refl h refl refl refl refl) c.await_begin.ensures

@@ -6,5 +6,8 @@ use Rattle.amqp_end.proofs.end.End.accept_waiting.Goals as goal
 pub returns : goal.returns
 returns g c =
     let mid = record c.accept_first.new.self { sessions = c.hand_out.new.self } in
-    let out = on_then g.L.Link c.args.self.now c.accept_first.new.self mid c.in_ok-accept_first.ensures (on_move g.L.Link (HandedOut c.in-Some-Accept.name) c.accept_first.new.self mid refl c.in_ok-hand_out.ensures refl refl refl) in
-    on_ok c.hand_on_all.result (λ h. on_then g.L.Link c.args.self.now mid c.hand_on_all.new.self out h) c.hand_on_all.ensures.goes
+    on_ok c.hand_on_all.result
+    (λ h at. on_then g.L.Link at c.args.self.now mid c.hand_on_all.new.self
+    (on_then g.L.Link at c.args.self.now c.accept_first.new.self mid (c.in_ok-accept_first.ensures at)
+    (on_move g.L.Link at (HandedOut c.in-Some-Accept.name) c.accept_first.new.self mid refl c.in_ok-hand_out.ensures refl refl refl refl)) (h at))
+    c.hand_on_all.ensures.goes

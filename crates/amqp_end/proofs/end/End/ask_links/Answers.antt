@@ -7,5 +7,5 @@ use Rattle.amqp_end.proofs.end.End.ask_links.Goals as goal
 pub returns : goal.returns
 returns g c =
     on_ok c.call.result
-    (λ h. on_asked g.L.Link c.args.name c.args.call c.args.self.now _ refl refl (subst (λ (limit : Option ℕ). Calls c.args.name c.args.call limit (linked c.args.self.now.links) (linked c.call.new.self)) c.limit_for-limit.ensures h) refl refl)
+    (λ h at. on_asked g.L.Link at c.args.name c.args.call c.args.self.now _ refl refl (subst (λ (limit : Option ℕ). Calls c.args.name c.args.call limit (linked c.args.self.now.links) (linked c.call.new.self)) c.limit_for-limit.ensures h) refl refl refl)
     c.call.ensures

@@ -1,10 +1,14 @@
-use Rattle.std.proofs.Common.{refl}
-use Rattle.amqp_end.proofs.Goes.{on_ok, goes_then, goes_stepped}
+use Rattle.std.proofs.Common.{ℕ, List, refl, [], ◌∷◌}
+use Rattle.amqp_words.specs.declared.call.Call.{Call as ConnectionCall}
+use Rattle.amqp_end.proofs.Goes.{on_ok, goes_then, goes_called}
 use Rattle.amqp_end.proofs.end.End.call_connection.Goals as goal
 
 pub returns : goal.returns
 returns g c =
+    let at = c.args.at in
+    let one : List (ℕ × ConnectionCall) = (c.args.name, c.args.call) ∷ [] in
     let mid = record c.stop_sessions.new.self { connection = c.call.new.self } in
-    let called = goes_then g.L.Link c.args.self.now c.stop_sessions.new.self mid c.in_ok-stop_sessions.ensures.ok.goes (goes_stepped g.L.Link _ c.stop_sessions.new.self mid c.in-Ok.ensures.ok refl refl refl refl) in
-    let taken = goes_then g.L.Link c.args.self.now mid c.take_up.new.self called c.in_ok-take_up.ensures.goes in
-    on_ok c.steps.result (λ h. goes_then g.L.Link c.args.self.now c.take_up.new.self c.steps.new.self taken h) c.steps.ensures
+    let called = goes_then g.L.Link at [] one c.args.self.now c.stop_sessions.new.self mid (c.in_ok-stop_sessions.ensures.ok at).goes
+    (goes_called g.L.Link at c.args.name c.args.call c.stop_sessions.new.self mid c.in-Ok.ensures.ok refl refl refl refl refl) in
+    let taken = goes_then g.L.Link at one [] c.args.self.now mid c.take_up.new.self called (c.in_ok-take_up.ensures at).goes in
+    on_ok c.steps.result (λ h. goes_then g.L.Link at one [] c.args.self.now c.take_up.new.self c.steps.new.self taken h) c.steps.ensures

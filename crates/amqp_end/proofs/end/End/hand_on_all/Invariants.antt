@@ -1,10 +1,10 @@
-use Rattle.std.proofs.Common.{◌≡◌}
+use Rattle.std.proofs.Common.{◌≡◌, ℕ}
 use Rattle.amqp_end.specs.Goes.{GoesOn}
 use Rattle.amqp_end.proofs.end.End.hand_on_all.Given as goal
 
 abbrev pub invariant-handed : goal.invariant-handed
 invariant-handed g l = record {
-  goes : GoesOn g.L.Link l.fn.self l.self;
+  goes : (at : ℕ) → GoesOn g.L.Link at l.fn.self l.self;
   connection : l.self.connection ≡ l.fn.self.connection;
 }
 

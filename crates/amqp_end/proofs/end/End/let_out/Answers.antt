@@ -6,6 +6,8 @@ use Rattle.amqp_end.proofs.end.End.let_out.Goals as goal
 pub returns : goal.returns
 returns g c =
     let mid = record c.args.self.now { sessions = c.hand_out.new.self } in
-    let out = on_move g.L.Link (HandedOut c.args.session) c.args.self.now mid refl c.in_ok-hand_out.ensures refl refl refl in
-    let settled = on_then g.L.Link c.args.self.now mid c.hand_on_all.new.self out c.in_ok-hand_on_all.ensures.goes in
-    on_ok c.hand_over.result (λ h. on_then g.L.Link c.args.self.now c.hand_on_all.new.self c.hand_over.new.self settled h) c.hand_over.ensures
+    on_ok c.hand_over.result
+    (λ h at. on_then g.L.Link at c.args.self.now c.hand_on_all.new.self c.hand_over.new.self
+    (on_then g.L.Link at c.args.self.now mid c.hand_on_all.new.self
+    (on_move g.L.Link at (HandedOut c.args.session) c.args.self.now mid refl c.in_ok-hand_out.ensures refl refl refl refl) (c.in_ok-hand_on_all.ensures.goes at)) (h at))
+    c.hand_over.ensures

@@ -1,7 +1,14 @@
 use Rattle.std.proofs.Common.{refl}
-use Rattle.amqp_end.proofs.Goes.{on_then, on_wrote}
+use Rattle.amqp_end.proofs.Goes.{on_then, on_still, on_wrote, none_written}
 use Rattle.amqp_end.proofs.end.End.write.Goals as goal
 
 pub frames-preserved : goal.frames-preserved
-frames-preserved g c =
-    (on_then g.L.Link _ c.frames.self _ c.frames.invariant.0 (on_wrote g.L.Link _ c.frames.self _ c.in-Some.ensures c.in-Ok.ensures.passes c.send.ensures.late refl refl refl), c.send.ensures.late)
+frames-preserved g c = record {
+  goes = λ at. on_then g.L.Link at _ c.frames.self _ (c.frames.invariant.goes at)
+      (on_wrote g.L.Link at _ c.frames.self _ c.in-Some.ensures c.in-Ok.ensures.passes c.in-Ok.ensures.sent c.frames.invariant.opened c.send.ensures.late refl refl refl refl);
+  late = c.send.ensures.late;
+  opened = c.in-Ok.ensures.sent.opens c.frames.invariant.opened;
+}
+
+pub returns : goal.returns
+returns g c = λ at. on_then g.L.Link at _ c.frames.self _ (c.frames.invariant.goes at) (on_still g.L.Link at c.frames.self _ refl (none_written _ _ c.in_default.ensures) refl refl refl refl)
