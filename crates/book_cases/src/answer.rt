@@ -7,6 +7,8 @@
 //! | `accept FIRST LAST`, `release FIRST LAST` | each is disposed of by the view | `done FOUND`, `done FOUND refilled` or `stale` for each |
 //! | `accept_all FIRST LAST`, `reject_all FIRST LAST` | all are disposed of at once | the same, once |
 //! | `forget NUMBER` | the delivery is taken out | `yes` or `no` |
+//! | `record NUMBER STATE` | a state is kept, `accepted` or `released` | `yes` or `no` |
+//! | `states` | - | the number and the state of each delivery, in the order of their numbers |
 //! | `view` | the view is taken anew | - |
 //! | `attach COUNT`, `drained AMOUNT`, `set_credit CREDIT`, `set_mode CREDIT_MODE`, `restart` | that call | - |
 //! | `complete` | a delivery came | `yes` or `no` |
@@ -19,6 +21,7 @@
 use crate::error::CaseError;
 use crate::find::find;
 use crate::line::{credit_mode, info_of, infos_of, number, read_book, tag_of, two_numbers};
+use crate::states::{push_states, state_of};
 use amqp_delivery::{BookReply, BookState, DeliveryInfo, DisposerView, Order};
 use amqp_termini::{Accepted, DeliveryState, Rejected, Released};
 use std::alloc::{AllocError, Global};
@@ -157,6 +160,16 @@ impl Answering {
         Ok(())
     }
 
+    fn record(&mut self, words: &str) -> Result<(), CaseError> {
+        let Some((delivery, state)) = words.split_once(' ') else {
+            return Err(CaseError::Malformed);
+        };
+        let tag = tag_of(self.alloc, number(delivery)?)?;
+        let answer = yes_or_no(self.book.record(&tag, state_of(state)?));
+        self.write(answer)?;
+        Ok(())
+    }
+
     /// A call without words.
     fn plain(&mut self, word: &str) -> Result<(), CaseError> {
         match word {
@@ -167,6 +180,7 @@ impl Answering {
                 self.write(answer)?;
             }
             "orders" => self.orders()?,
+            "states" => push_states(self.alloc, &mut self.text, &self.book)?,
             "numbers" => self.numbers()?,
             "ranges" => {
                 let ranges = self.book.ranges();
@@ -197,6 +211,7 @@ impl Answering {
                 let answer = yes_or_no(self.book.forget(&tag));
                 self.write(answer)?;
             }
+            "record" => self.record(words)?,
             "attach" => self.book.attach(number(words)?),
             "drained" => self.book.drained(number(words)?),
             "set_credit" => self.book.set_credit(number(words)?),

@@ -10,6 +10,7 @@ pub mod error;
 pub mod find;
 pub mod line;
 pub mod run;
+pub mod states;
 
 use crate::run::run_folder;
 use std::io;

@@ -22,7 +22,7 @@ use Rattle.amqp_delivery.specs.declared.info.DisposerView.{DisposerView}
 use Rattle.amqp_delivery.specs.declared.calls.BookCall.{BookCall}
 use Rattle.amqp_delivery.specs.declared.calls.BookCall.TheVariants.{Register, Accept, Release, TakeOrders}
 use Rattle.book_history.specs.History.{Event}
-use Rattle.book_history.specs.Weights.{weigh, is_tag, IsApart}
+use Rattle.book_history.specs.Weights.{weigh, is_tag}
 use Rattle.book_history.specs.Once.{made_by, made_orders, settles_number, count_number, IsApartFrom, IsElse, Disposes, AllDispose, RegistersOnce, IsSettledOnce}
 use Rattle.book_history.proofs.Weights.{same_tag, own_tag, removed_weight, missing_weight, found_one}
 
@@ -100,16 +100,6 @@ insert_other : (t u : List ℕ) (es : List (List ℕ × Kept)) (k : Kept) → u 
 insert_other t u [] k apart = sum_by-cons (λ (p : List ℕ × Kept). is_tag t p.0) (u, k) [] ∙ (let z = is_other t u apart in omega (arith, z))
 insert_other t u (e ∷ es) k apart = insert_at t u e es k apart (insert_other t u es k apart) (bytes_eq u e.0) ∙ sym (sum_by-cons (λ (p : List ℕ × Kept). is_tag t p.0) e es)
 
-insert_own_at : (t : List ℕ) (e : List ℕ × Kept) (es : List (List ℕ × Kept)) (k : Kept) → weigh (is_tag t) (insert_entry bytes_eq es t k) ≤ 1 → (b : Bool) → bytes_eq t e.0 ≡ b → cond b 1 0 + weigh (is_tag t) es ≤ 1 → weigh (is_tag t) (cond b ((e.0, k) ∷ es) (e ∷ insert_entry bytes_eq es t k)) ≤ 1
-insert_own_at t e es k rest true is le = (let c = sum_by-cons (λ (p : List ℕ × Kept). is_tag t p.0) (e.0, k) es in let o : is_tag t e.0 ≡ 1 = ap (λ (b : Bool). cond b 1 0) is in omega (arith, c, o, le))
-insert_own_at t e es k rest false is le = (let c = sum_by-cons (λ (p : List ℕ × Kept). is_tag t p.0) e (insert_entry bytes_eq es t k) in let o : is_tag t e.0 ≡ 0 = ap (λ (b : Bool). cond b 1 0) is in omega (arith, c, o, rest))
-
-insert_own : (t : List ℕ) (es : List (List ℕ × Kept)) (k : Kept) → weigh (is_tag t) es ≤ 1 → weigh (is_tag t) (insert_entry bytes_eq es t k) ≤ 1
-insert_own t [] k le = (let c = sum_by-cons (λ (p : List ℕ × Kept). is_tag t p.0) (t, k) [] in let o = is_own t in omega (arith, c, o))
-insert_own t (e ∷ es) k le =
-    let c = sum_by-cons (λ (p : List ℕ × Kept). is_tag t p.0) e es in
-    insert_own_at t e es k (insert_own t es k (omega (arith, c, le))) (bytes_eq t e.0) refl (omega (arith, c, le))
-
 insert_new_at : (t : List ℕ) (e : List ℕ × Kept) (es : List (List ℕ × Kept)) (k : Kept) → weigh (is_tag t) (insert_entry bytes_eq es t k) ≡ 1 → (b : Bool) → bytes_eq t e.0 ≡ b → ◌≡◌ {A = ℕ} (cond b 1 0) 0 → weigh (is_tag t) (cond b ((e.0, k) ∷ es) (e ∷ insert_entry bytes_eq es t k)) ≡ 1
 insert_new_at t e es k rest true is none = absurd (omega (arith, none))
 insert_new_at t e es k rest false is none = (let c = sum_by-cons (λ (p : List ℕ × Kept). is_tag t p.0) e (insert_entry bytes_eq es t k) in let o : is_tag t e.0 ≡ 0 = ap (λ (b : Bool). cond b 1 0) is in omega (arith, c, o, rest))
@@ -120,35 +110,12 @@ insert_new t (e ∷ es) k none =
     let c = sum_by-cons (λ (p : List ℕ × Kept). is_tag t p.0) e es in
     insert_new_at t e es k (insert_new t es k (omega (arith, c, none))) (bytes_eq t e.0) refl (omega (arith, c, none))
 
-apart_at : (q t : List ℕ) (es : List (List ℕ × Kept)) (k : Kept) → IsApart es → (b : Bool) → bytes_eq q t ≡ b → weigh (is_tag q) (insert_entry bytes_eq es t k) ≤ 1
-apart_at q t es k apart true is =
-    let e : t ≡ q = same_tag q t is in
-    subst (λ (u : List ℕ). weigh (is_tag q) (insert_entry bytes_eq es u k) ≤ 1) (sym e) (insert_own q es k (apart q))
-apart_at q t es k apart false is =
-    let differ : t ≢ q = λ e. false_true (sym is ∙ ap (bytes_eq q) e ∙ own_tag q) in
-    let same = insert_other q t es k differ in
-    let le = apart q in
-    omega (arith, same, le)
-  where
-    false_true : false ≡ true → ⊥
-    false_true e = absurd cc
-
-insert_apart : (t : List ℕ) (es : List (List ℕ × Kept)) (k : Kept) → IsApart es → IsApart (insert_entry bytes_eq es t k)
-insert_apart t es k apart q = apart_at q t es k apart (bytes_eq q t) refl
-
 -- ---- disposals
 
--- after a call: tags apart, and this tag's weight, and how many orders settle this number
+-- after a call: this tag's weight, and how many orders settle this number
 record After (n : ℕ) (t : List ℕ) (b c : Book) (left made : ℕ) : Type 0 where
-  apart : IsApart c.entries
   weight : weigh (is_tag t) c.entries ≡ left
   orders : Adds n b.orders c.orders made
-
-lessened : (a c n : ℕ) → a + c ≡ n → n ≤ 1 → a ≤ 1
-lessened a c n e le = omega (arith, e, le)
-
-removed_apart : (t : List ℕ) (es : List (List ℕ × Kept)) (k : Kept) → lookup (bytes_eq t) es ≡ Some k → IsApart es → IsApart (swap_remove_entry (bytes_eq t) es)
-removed_apart t es k found apart q = lessened (weigh (is_tag q) (swap_remove_entry (bytes_eq t) es)) (is_tag q t) (weigh (is_tag q) es) (removed_weight (is_tag q) t es k found) (apart q)
 
 other_number : (n m : ℕ) → m ≢ n → ◌≡◌ {A = ℕ} (cond (nat_le m n && nat_le n m) 1 0) 0
 other_number n m apart = grind (arith, nat_tests, apart)
@@ -161,58 +128,54 @@ settles_else n m state true apart = other_number n m apart
 settles_else n m state false apart = refl
 
 -- a disposal of another delivery
-settled_else : (f : Option Kept) (mode : ReceiverSettleMode) (b : Book) (info other : DeliveryInfo) (state : DeliveryState) → found_in b other.delivery_tag ≡ f → IsApartFrom info other → IsApart b.entries → After info.delivery_id info.delivery_tag b (settled_at f mode b other state) (weigh (is_tag info.delivery_tag) b.entries) 0
-settled_else None mode b info other state is differ apart = record { apart = apart; weight = refl; orders = adds_none info.delivery_id b.orders }
-settled_else (Some k) First b info other state is differ apart =
+settled_else : (f : Option Kept) (mode : ReceiverSettleMode) (b : Book) (info other : DeliveryInfo) (state : DeliveryState) → found_in b other.delivery_tag ≡ f → IsApartFrom info other → After info.delivery_id info.delivery_tag b (settled_at f mode b other state) (weigh (is_tag info.delivery_tag) b.entries) 0
+settled_else None mode b info other state is differ = record { weight = refl; orders = adds_none info.delivery_id b.orders }
+settled_else (Some k) First b info other state is differ =
     let r = removed_weight (is_tag info.delivery_tag) other.delivery_tag b.entries k is in
     let z = is_other info.delivery_tag other.delivery_tag differ.0 in
     record {
-      apart = removed_apart other.delivery_tag b.entries k is apart;
       weight = omega (arith, r, z);
       orders = adds_one info.delivery_id b.orders (Disposition other.delivery_id other.delivery_id true state) 0 (settles_else info.delivery_id other.delivery_id state true differ.1);
     }
-settled_else (Some k) Second b info other state is differ apart =
+settled_else (Some k) Second b info other state is differ =
     record {
-      apart = λ q. subst (λ (x : ℕ). x ≤ 1) (sym (set_weight (is_tag q) (bytes_eq other.delivery_tag) b.entries _)) (apart q);
       weight = set_weight (is_tag info.delivery_tag) (bytes_eq other.delivery_tag) b.entries _;
       orders = adds_one info.delivery_id b.orders (Disposition other.delivery_id other.delivery_id false state) 0 refl;
     }
 
 -- a disposal of this delivery in mode First
-settled_own : (f : Option Kept) (mode : ReceiverSettleMode) (b : Book) (info : DeliveryInfo) (state : DeliveryState) → found_in b info.delivery_tag ≡ f → mode ≡ First → IsApart b.entries → After info.delivery_id info.delivery_tag b (settled_at f mode b info state) 0 (weigh (is_tag info.delivery_tag) b.entries)
-settled_own None mode b info state is first apart =
+settled_own : (f : Option Kept) (mode : ReceiverSettleMode) (b : Book) (info : DeliveryInfo) (state : DeliveryState) → found_in b info.delivery_tag ≡ f → mode ≡ First → weigh (is_tag info.delivery_tag) b.entries ≤ 1 → After info.delivery_id info.delivery_tag b (settled_at f mode b info state) 0 (weigh (is_tag info.delivery_tag) b.entries)
+settled_own None mode b info state is first few =
     let z = missing_weight info.delivery_tag b.entries is in
-    record { apart = apart; weight = z; orders = subst (Adds info.delivery_id b.orders b.orders) (sym z) (adds_none info.delivery_id b.orders) }
-settled_own (Some k) First b info state is first apart =
+    record { weight = z; orders = subst (Adds info.delivery_id b.orders b.orders) (sym z) (adds_none info.delivery_id b.orders) }
+settled_own (Some k) First b info state is first few =
     let r = removed_weight (is_tag info.delivery_tag) info.delivery_tag b.entries k is in
-    let one = found_one (is_tag info.delivery_tag) info.delivery_tag b.entries k is apart in
+    let one = found_one (is_tag info.delivery_tag) info.delivery_tag b.entries k is few in
     let own = is_own info.delivery_tag in
     record {
-      apart = removed_apart info.delivery_tag b.entries k is apart;
       weight = omega (arith, r, one, own);
       orders = subst (Adds info.delivery_id b.orders (b.orders ++ Disposition info.delivery_id info.delivery_id true state ∷ [])) (sym one) (adds_one info.delivery_id b.orders (Disposition info.delivery_id info.delivery_id true state) 1 (own_number info.delivery_id));
     }
-settled_own (Some k) Second b info state is first apart = absurd cc
+settled_own (Some k) Second b info state is first few = absurd cc
 
 refilled_after : (n : ℕ) (t : List ℕ) (b c d : Book) (left made : ℕ) → After n t b c left made → Refilled n c d → After n t b d left made
 refilled_after n t b c d left made a r = record {
-  apart = subst IsApart (sym r.entries) a.apart;
   weight = ap (weigh (is_tag t)) r.entries ∙ a.weight;
   orders = (let k : made + 0 ≡ made = omega arith in subst (Adds n b.orders d.orders) k (adds_both n b.orders c.orders d.orders made 0 a.orders r.orders));
 }
 
-disposed_else : (b : Book) (view : DisposerView) (info other : DeliveryInfo) (state : DeliveryState) (found : ℕ) → IsApartFrom info other → IsApart b.entries → After info.delivery_id info.delivery_tag b (refill view.credit_mode (processed_one (settled b view other state)) view.attachment found).book (weigh (is_tag info.delivery_tag) b.entries) 0
-disposed_else b view info other state found differ apart =
-    let s = settled_else (found_in b other.delivery_tag) (mode_for view other) b info other state refl differ apart in
-    let p : After info.delivery_id info.delivery_tag b (processed_one (settled b view other state)) (weigh (is_tag info.delivery_tag) b.entries) 0 = record { apart = s.apart; weight = s.weight; orders = s.orders } in
+disposed_else : (b : Book) (view : DisposerView) (info other : DeliveryInfo) (state : DeliveryState) (found : ℕ) → IsApartFrom info other → After info.delivery_id info.delivery_tag b (refill view.credit_mode (processed_one (settled b view other state)) view.attachment found).book (weigh (is_tag info.delivery_tag) b.entries) 0
+disposed_else b view info other state found differ =
+    let s = settled_else (found_in b other.delivery_tag) (mode_for view other) b info other state refl differ in
+    let p : After info.delivery_id info.delivery_tag b (processed_one (settled b view other state)) (weigh (is_tag info.delivery_tag) b.entries) 0 = record { weight = s.weight; orders = s.orders } in
     refilled_after info.delivery_id info.delivery_tag b (processed_one (settled b view other state)) _ (weigh (is_tag info.delivery_tag) b.entries) 0 p
     (refill_adds info.delivery_id view.credit_mode (processed_one (settled b view other state)) view.attachment found)
 
-disposed_own : (b : Book) (view : DisposerView) (info other : DeliveryInfo) (state : DeliveryState) (found : ℕ) → other ≡ info → mode_for view info ≡ First → IsApart b.entries → After info.delivery_id info.delivery_tag b (refill view.credit_mode (processed_one (settled b view other state)) view.attachment found).book 0 (weigh (is_tag info.delivery_tag) b.entries)
-disposed_own b view info other state found same first apart =
+disposed_own : (b : Book) (view : DisposerView) (info other : DeliveryInfo) (state : DeliveryState) (found : ℕ) → other ≡ info → mode_for view info ≡ First → weigh (is_tag info.delivery_tag) b.entries ≤ 1 → After info.delivery_id info.delivery_tag b (refill view.credit_mode (processed_one (settled b view other state)) view.attachment found).book 0 (weigh (is_tag info.delivery_tag) b.entries)
+disposed_own b view info other state found same first few =
     subst (λ (o : DeliveryInfo). After info.delivery_id info.delivery_tag b (refill view.credit_mode (processed_one (settled b view o state)) view.attachment found).book 0 (weigh (is_tag info.delivery_tag) b.entries)) (sym same)
-    (let s = settled_own (found_in b info.delivery_tag) (mode_for view info) b info state refl first apart in
-    let p : After info.delivery_id info.delivery_tag b (processed_one (settled b view info state)) 0 (weigh (is_tag info.delivery_tag) b.entries) = record { apart = s.apart; weight = s.weight; orders = s.orders } in
+    (let s = settled_own (found_in b info.delivery_tag) (mode_for view info) b info state refl first few in
+    let p : After info.delivery_id info.delivery_tag b (processed_one (settled b view info state)) 0 (weigh (is_tag info.delivery_tag) b.entries) = record { weight = s.weight; orders = s.orders } in
     refilled_after info.delivery_id info.delivery_tag b (processed_one (settled b view info state)) _ 0 (weigh (is_tag info.delivery_tag) b.entries) p
     (refill_adds info.delivery_id view.credit_mode (processed_one (settled b view info state)) view.attachment found))
 
@@ -220,7 +183,6 @@ disposed_own b view info other state found same first apart =
 
 -- what a step leaves and orders
 record Stepped (n : ℕ) (t : List ℕ) (b : Book) (call : BookCall) (left made : ℕ) : Type 0 where
-  apart : IsApart (step b call).book.entries
   weight : weigh (is_tag t) (step b call).book.entries ≡ left
   orders : count_number n (made_by b call) ≡ made
 
@@ -233,96 +195,98 @@ drop_none zero [] none = refl
 drop_none (suc n) [] none = refl
 drop_none n (o ∷ os) none = absurd cc
 
-step_else : (b : Book) (info : DeliveryInfo) (call : BookCall) → IsElse info call → IsApart b.entries → Stepped info.delivery_id info.delivery_tag b call (weigh (is_tag info.delivery_tag) b.entries) 0
-step_else b info (Register other) differ apart = record {
-  apart = insert_apart other.delivery_tag b.entries (entry_for b other) apart;
+step_else : (b : Book) (info : DeliveryInfo) (call : BookCall) → IsElse info call → Stepped info.delivery_id info.delivery_tag b call (weigh (is_tag info.delivery_tag) b.entries) 0
+step_else b info (Register other) differ = record {
   weight = insert_other info.delivery_tag other.delivery_tag b.entries (entry_for b other) differ.0;
   orders = ap (count_number info.delivery_id) (drop_all b.orders);
 }
-step_else b info (Accept view other) differ apart =
-    let a = disposed_else b view info other accepted _ differ apart in
-    record { apart = a.apart; weight = a.weight; orders = adds_made info.delivery_id b.orders _ 0 a.orders }
-step_else b info (Release view other) differ apart =
-    let a = disposed_else b view info other released _ differ apart in
-    record { apart = a.apart; weight = a.weight; orders = adds_made info.delivery_id b.orders _ 0 a.orders }
-step_else b info TakeOrders differ apart = record { apart = apart; weight = refl; orders = ap (count_number info.delivery_id) (drop_none (length b.orders) [] refl) }
+step_else b info (Accept view other) differ =
+    let a = disposed_else b view info other accepted _ differ in
+    record { weight = a.weight; orders = adds_made info.delivery_id b.orders _ 0 a.orders }
+step_else b info (Release view other) differ =
+    let a = disposed_else b view info other released _ differ in
+    record { weight = a.weight; orders = adds_made info.delivery_id b.orders _ 0 a.orders }
+step_else b info TakeOrders differ = record { weight = refl; orders = ap (count_number info.delivery_id) (drop_none (length b.orders) [] refl) }
 
-step_own : (b : Book) (info : DeliveryInfo) (call : BookCall) → Disposes info call → IsApart b.entries → Stepped info.delivery_id info.delivery_tag b call 0 (weigh (is_tag info.delivery_tag) b.entries)
-step_own b info (Register other) disposes apart = absurd disposes
-step_own b info (Accept view other) disposes apart =
-    let a = disposed_own b view info other accepted _ disposes.0 disposes.1 apart in
-    record { apart = a.apart; weight = a.weight; orders = adds_made info.delivery_id b.orders _ _ a.orders }
-step_own b info (Release view other) disposes apart =
-    let a = disposed_own b view info other released _ disposes.0 disposes.1 apart in
-    record { apart = a.apart; weight = a.weight; orders = adds_made info.delivery_id b.orders _ _ a.orders }
-step_own b info TakeOrders disposes apart = absurd disposes
+step_own : (b : Book) (info : DeliveryInfo) (call : BookCall) → Disposes info call → weigh (is_tag info.delivery_tag) b.entries ≤ 1 → Stepped info.delivery_id info.delivery_tag b call 0 (weigh (is_tag info.delivery_tag) b.entries)
+step_own b info (Register other) disposes few = absurd disposes
+step_own b info (Accept view other) disposes few =
+    let a = disposed_own b view info other accepted _ disposes.0 disposes.1 few in
+    record { weight = a.weight; orders = adds_made info.delivery_id b.orders _ _ a.orders }
+step_own b info (Release view other) disposes few =
+    let a = disposed_own b view info other released _ disposes.0 disposes.1 few in
+    record { weight = a.weight; orders = adds_made info.delivery_id b.orders _ _ a.orders }
+step_own b info TakeOrders disposes few = absurd disposes
 
 -- ---- histories
 
 none_step : (n : ℕ) (b : Book) (call : BookCall) (os : List Order) → count_number n (made_by b call) ≡ 0 → count_number n os ≡ 0 → count_number n (made_by b call ++ os) ≡ 0
 none_step n b call os one rest = let h = count-append n (made_by b call) os in omega (arith, h, one, rest)
 
+at_most : {n : ℕ} → n ≡ 0 → n ≤ 1
+at_most none = omega (arith, none)
+
 -- where the tag is not there, none is settled
-run_none : (b : Book) (info : DeliveryInfo) (h : List Event) → AllDispose info h → IsApart b.entries → weigh (is_tag info.delivery_tag) b.entries ≡ 0 → count_number info.delivery_id (made_orders b h) ≡ 0
-run_none b info [] all apart none = refl
-run_none b info (e ∷ es) all apart none =
+run_none : (b : Book) (info : DeliveryInfo) (h : List Event) → AllDispose info h → weigh (is_tag info.delivery_tag) b.entries ≡ 0 → count_number info.delivery_id (made_orders b h) ≡ 0
+run_none b info [] all none = refl
+run_none b info (e ∷ es) all none =
     elim all.0 [
       | inl differ ↦
-          (let s = step_else b info e.call differ apart in
-          none_step info.delivery_id b e.call (made_orders (step b e.call).book es) s.orders (run_none (step b e.call).book info es all.1 s.apart (s.weight ∙ none)))
+          (let s = step_else b info e.call differ in
+          none_step info.delivery_id b e.call (made_orders (step b e.call).book es) s.orders (run_none (step b e.call).book info es all.1 (s.weight ∙ none)))
       | inr disposes ↦
-          (let s = step_own b info e.call disposes apart in
-          none_step info.delivery_id b e.call (made_orders (step b e.call).book es) (s.orders ∙ none) (run_none (step b e.call).book info es all.1 s.apart s.weight))
+          (let s = step_own b info e.call disposes (at_most none) in
+          none_step info.delivery_id b e.call (made_orders (step b e.call).book es) (s.orders ∙ none) (run_none (step b e.call).book info es all.1 s.weight))
     ]
 
 -- where a disposal comes, as many are settled as there are
-run_some : (b : Book) (info : DeliveryInfo) (h : List Event) (i : ℕ) (f : Event) → slice_get h i ≡ Some f → Disposes info f.call → AllDispose info h → IsApart b.entries → count_number info.delivery_id (made_orders b h) ≡ weigh (is_tag info.delivery_tag) b.entries
-run_some b info [] i f at disposes all apart = absurd cc
-run_some b info (e ∷ es) zero f at disposes all apart =
+run_some : (b : Book) (info : DeliveryInfo) (h : List Event) (i : ℕ) (f : Event) → slice_get h i ≡ Some f → Disposes info f.call → AllDispose info h → weigh (is_tag info.delivery_tag) b.entries ≤ 1 → count_number info.delivery_id (made_orders b h) ≡ weigh (is_tag info.delivery_tag) b.entries
+run_some b info [] i f at disposes all few = absurd cc
+run_some b info (e ∷ es) zero f at disposes all few =
     let same : e ≡ f = cc in
-    let s = step_own b info e.call (subst (λ (x : Event). Disposes info x.call) (sym same) disposes) apart in
+    let s = step_own b info e.call (subst (λ (x : Event). Disposes info x.call) (sym same) disposes) few in
     let h = count-append info.delivery_id (made_by b e.call) (made_orders (step b e.call).book es) in
-    let z = run_none (step b e.call).book info es all.1 s.apart s.weight in
+    let z = run_none (step b e.call).book info es all.1 s.weight in
     omega (arith, h, z, s.orders)
-run_some b info (e ∷ es) (suc j) f at disposes all apart =
+run_some b info (e ∷ es) (suc j) f at disposes all few =
     elim all.0 [
       | inl differ ↦
-          (let s = step_else b info e.call differ apart in
+          (let s = step_else b info e.call differ in
           let h = count-append info.delivery_id (made_by b e.call) (made_orders (step b e.call).book es) in
-          let r = run_some (step b e.call).book info es j f at disposes all.1 s.apart in
+          let r = run_some (step b e.call).book info es j f at disposes all.1 (let w = s.weight in omega (arith, w, few)) in
           omega (arith, h, r, s.orders, s.weight))
       | inr own ↦
-          (let s = step_own b info e.call own apart in
+          (let s = step_own b info e.call own few in
           let h = count-append info.delivery_id (made_by b e.call) (made_orders (step b e.call).book es) in
-          let z = run_none (step b e.call).book info es all.1 s.apart s.weight in
+          let z = run_none (step b e.call).book info es all.1 s.weight in
           omega (arith, h, z, s.orders))
     ]
 
-registered_one : (b : Book) (info : DeliveryInfo) (entry : Event) (later : List Event) (i : ℕ) (f : Event) → entry.call ≡ Register info → slice_get later i ≡ Some f → Disposes info f.call → AllDispose info later → IsApart b.entries → weigh (is_tag info.delivery_tag) b.entries ≡ 0 → count_number info.delivery_id (made_orders b (entry ∷ later)) ≡ 1
-registered_one b info entry later i f is at disposes all apart none =
+registered_one : (b : Book) (info : DeliveryInfo) (entry : Event) (later : List Event) (i : ℕ) (f : Event) → entry.call ≡ Register info → slice_get later i ≡ Some f → Disposes info f.call → AllDispose info later → weigh (is_tag info.delivery_tag) b.entries ≡ 0 → count_number info.delivery_id (made_orders b (entry ∷ later)) ≡ 1
+registered_one b info entry later i f is at disposes all none =
     subst (λ (c : BookCall). count_number info.delivery_id (made_by b c ++ made_orders (step b c).book later) ≡ 1) (sym is)
     (let z : count_number info.delivery_id (made_by b (Register info)) ≡ 0 = ap (count_number info.delivery_id) (drop_all b.orders) in
     let h = count-append info.delivery_id (made_by b (Register info)) (made_orders (step b (Register info)).book later) in
     let w = insert_new info.delivery_tag b.entries (entry_for b info) none in
-    let r = run_some (step b (Register info)).book info later i f at disposes all (insert_apart info.delivery_tag b.entries (entry_for b info) apart) in
+    let r = run_some (step b (Register info)).book info later i f at disposes all (omega (arith, w)) in
     omega (arith, h, z, w, r))
 
-once_from : (b : Book) (info : DeliveryInfo) (before : List Event) (entry : Event) (later : List Event) (i : ℕ) (f : Event) → AllDispose info before → entry.call ≡ Register info → slice_get later i ≡ Some f → Disposes info f.call → AllDispose info later → IsApart b.entries → weigh (is_tag info.delivery_tag) b.entries ≡ 0 → count_number info.delivery_id (made_orders b (before ++ entry ∷ later)) ≡ 1
-once_from b info [] entry later i f first is at disposes all apart none = registered_one b info entry later i f is at disposes all apart none
-once_from b info (e ∷ es) entry later i f first is at disposes all apart none =
+once_from : (b : Book) (info : DeliveryInfo) (before : List Event) (entry : Event) (later : List Event) (i : ℕ) (f : Event) → AllDispose info before → entry.call ≡ Register info → slice_get later i ≡ Some f → Disposes info f.call → AllDispose info later → weigh (is_tag info.delivery_tag) b.entries ≡ 0 → count_number info.delivery_id (made_orders b (before ++ entry ∷ later)) ≡ 1
+once_from b info [] entry later i f first is at disposes all none = registered_one b info entry later i f is at disposes all none
+once_from b info (e ∷ es) entry later i f first is at disposes all none =
     elim first.0 [
       | inl differ ↦
-          (let s = step_else b info e.call differ apart in
+          (let s = step_else b info e.call differ in
           let h = count-append info.delivery_id (made_by b e.call) (made_orders (step b e.call).book (es ++ entry ∷ later)) in
-          let r = once_from (step b e.call).book info es entry later i f first.1 is at disposes all s.apart (s.weight ∙ none) in
+          let r = once_from (step b e.call).book info es entry later i f first.1 is at disposes all (s.weight ∙ none) in
           omega (arith, h, r, s.orders))
       | inr own ↦
-          (let s = step_own b info e.call own apart in
+          (let s = step_own b info e.call own (at_most none) in
           let h = count-append info.delivery_id (made_by b e.call) (made_orders (step b e.call).book (es ++ entry ∷ later)) in
-          let r = once_from (step b e.call).book info es entry later i f first.1 is at disposes all s.apart s.weight in
+          let r = once_from (step b e.call).book info es entry later i f first.1 is at disposes all s.weight in
           omega (arith, h, r, s.orders, none))
     ]
 
 pub settled_once : IsSettledOnce
-settled_once b info before entry later apart none registers =
-    once_from b info before entry later registers.place registers.disposal registers.before_dispose registers.registers registers.at registers.disposes registers.later_dispose apart (missing_weight info.delivery_tag b.entries none)
+settled_once b info before entry later none registers =
+    once_from b info before entry later registers.place registers.disposal registers.before_dispose registers.registers registers.at registers.disposes registers.later_dispose (missing_weight info.delivery_tag b.entries none)

@@ -11,7 +11,7 @@ use Rattle.indexmap.proofs.MapLemmas.{Found-position, Missing-position, swap_rem
 use Rattle.amqp_delivery.specs.declared.entry.Kept.{Kept}
 use Rattle.amqp_delivery.specs.declared.orders.Order.{Order}
 use Rattle.book_history.specs.Counts.{settles, settled_count}
-use Rattle.book_history.specs.Weights.{weigh, is_tag, IsApart}
+use Rattle.book_history.specs.Weights.{weigh, is_tag}
 
 pub settled_count-append : (os ps : List Order) → settled_count (os ++ ps) ≡ settled_count os + settled_count ps
 settled_count-append [] ps = omega arith
@@ -78,9 +78,8 @@ ones_length [] = refl
 ones_length (e ∷ es) = sum_by-cons (λ (p : List ℕ × Kept). 1) e es ∙ (let h = ones_length es in omega arith)
 
 -- a found tag weighs one
-pub found_one : (w : List ℕ → ℕ) (t : List ℕ) (es : List (List ℕ × Kept)) (k : Kept) → lookup (bytes_eq t) es ≡ Some k → IsApart es → weigh (is_tag t) es ≡ 1
-found_one w t es k found apart =
+pub found_one : (w : List ℕ → ℕ) (t : List ℕ) (es : List (List ℕ × Kept)) (k : Kept) → lookup (bytes_eq t) es ≡ Some k → weigh (is_tag t) es ≤ 1 → weigh (is_tag t) es ≡ 1
+found_one w t es k found few =
     let a = removed_weight (is_tag t) t es k found in
     let own : is_tag t t ≡ 1 = ap (λ (c : Bool). cond c 1 0) (own_tag t) in
-    let le = apart t in
-    omega (arith, a, own, le)
+    omega (arith, a, own, few)

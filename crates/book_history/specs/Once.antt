@@ -9,7 +9,6 @@ use Rattle.amqp_delivery.specs.declared.calls.BookCall.{BookCall}
 use Rattle.amqp_delivery.specs.declared.calls.BookCall.TheVariants.{Register, Accept, Release, TakeOrders}
 use Rattle.amqp_delivery.specs.declared.info.DeliveryInfo.{DeliveryInfo}
 use Rattle.book_history.specs.History.{Event}
-use Rattle.book_history.specs.Weights.{IsApart}
 
 -- the orders that a call makes
 abbrev pub made_by : Book → BookCall → List Order
@@ -65,4 +64,4 @@ pub record RegistersOnce (info : DeliveryInfo) (before : List Event) (entry : Ev
 
 -- from a book without that delivery, such a history makes exactly one settled Disposition of it
 abbrev pub IsSettledOnce : Type 0
-IsSettledOnce = (b : Book) (info : DeliveryInfo) (before : List Event) (entry : Event) (later : List Event) → IsApart b.entries → found_in b info.delivery_tag ≡ None → RegistersOnce info before entry later → count_number info.delivery_id (made_orders b (before ++ entry ∷ later)) ≡ 1
+IsSettledOnce = (b : Book) (info : DeliveryInfo) (before : List Event) (entry : Event) (later : List Event) → found_in b info.delivery_tag ≡ None → RegistersOnce info before entry later → count_number info.delivery_id (made_orders b (before ++ entry ∷ later)) ≡ 1

@@ -3,9 +3,9 @@ use Rattle.std.specs.Prelude.{◌≡◌, ℕ, ◌⊎◌, List, [], ◌∷◌, �
 use Rattle.std.proofs.Common.{arith, sym, ap, subst, inl, inr}
 use Rattle.atomic_table.specs.Seated.{TableId}
 use Rattle.book_history.specs.History.{Event}
-use Rattle.book_lock.specs.Begins.{IsAmong, Follows}
-use Rattle.book_lock.specs.Seats.{Seat, AllAt, AllOwn, HasOwn, numbers_of}
-use Rattle.book_lock.proofs.Beginning.{among_left, among_right, among_either, follows_more}
+use Rattle.book_lock.specs.Begins.{Begins, IsAmong, Follows}
+use Rattle.book_lock.specs.Seats.{Seat, AllAt, AllOwn, AllSeen, HasOwn, numbers_of}
+use Rattle.book_lock.proofs.Beginning.{among_left, among_right, among_either, begins_more, follows_more}
 use Rattle.book_lock.proofs.Seating.{own_follows}
 
 pub at_last : (table : TableId) (ss : List Seat) (s : Seat) → AllAt table (ss ++ s ∷ []) → AllAt table ss × (s.table ≡ table)
@@ -54,3 +54,21 @@ pub all_follow : (f h : List Event) (ns : List ℕ) (ss : List Seat) → ((n : �
 all_follow f h ns [] within follows all = tt
 all_follow f h ns (s ∷ ss) within follows all =
     (own_follows s.number s.receipts f h ns (within s.number (inl refl)) follows all.0, all_follow f h ns ss (λ n a. within n (inr a)) follows all.1)
+
+-- ---- what the seats have seen
+
+pub seen_last : (h : List Event) (ss : List Seat) (s : Seat) → AllSeen h ss → Begins s.front h → AllSeen h (ss ++ s ∷ [])
+seen_last h [] s all one = (one, tt)
+seen_last h (x ∷ ss) s all one = (all.0, seen_last h ss s all.1 one)
+
+pub none_seen : (h : List Event) (ss : List Seat) → length ss ≡ 0 → AllSeen h ss
+none_seen h [] none = tt
+none_seen h (s ∷ ss) none = absurd (omega arith)
+
+pub all_begin : (f h : List Event) (ss : List Seat) → Begins f h → AllSeen f ss → AllSeen h ss
+all_begin f h [] begins all = tt
+all_begin f h (s ∷ ss) begins all = (begins_more s.front f h all.0 begins, all_begin f h ss begins all.1)
+
+-- what is left to show after one seat more was met
+pub seen_step : (f g : List Event) (all ss : List Seat) (s : Seat) → ((h : List Event) → Begins f h → AllSeen h (ss ++ s ∷ []) → AllSeen h all) → Begins f g → Begins s.front g → (h : List Event) → Begins g h → AllSeen h ss → AllSeen h all
+seen_step f g all ss s left more one h begins rest = left h (begins_more f g h more begins) (seen_last h ss s rest (begins_more s.front g h one begins))

@@ -103,6 +103,10 @@ pub met_own : (n : ℕ) (me other me' : Me (Option Held) TicketView) (rs : List 
 met_own n me other me' rs f j is front own =
     own_follows n rs other.0.front me'.0.front other.0.numbers (is_own n other.0.numbers is) j.told (subst (λ (g : List Event). HasOwn n rs g) (sym front) own)
 
+-- what another seat had seen
+pub met_seen : (me other me' : Me (Option Held) TicketView) (f : List Event) → Joined me other me' → other.0.front ≡ f → Begins f me'.0.front
+met_seen me other me' f j front = subst (λ (g : List Event). Begins g me'.0.front) front j.told.0
+
 -- a seat that is as it was
 pub keeps_same : (old new : Seat) → new ≡ old → Keeps old new
 keeps_same old new is = record {

@@ -80,3 +80,8 @@ AllHere count ss = (n : ℕ) → n < count → IsAmong n (numbers_of ss)
 abbrev pub AllOwn : List Event → List Seat → Type 0
 AllOwn history [] = Unit {0}
 AllOwn history (s ∷ ss) = HasOwn s.number s.receipts history × AllOwn history ss
+
+-- what each seat has seen begins this history
+abbrev pub AllSeen : List Event → List Seat → Type 0
+AllSeen history [] = Unit {0}
+AllSeen history (s ∷ ss) = Begins s.front history × AllSeen history ss

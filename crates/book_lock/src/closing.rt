@@ -1,9 +1,9 @@
 //! How a desk is closed.
 ghost use Rattle.std.specs.Prelude.{◌≡◌, ℕ, ◌<◌, ◌≤◌, ◌⊎◌, ◌∷◌, ◌++◌, [], vec_len};
 ghost use Rattle.book_history.specs.History.{Replays};
-ghost use Rattle.book_lock.specs.Begins.{Follows, IsAmong, of_seat};
+ghost use Rattle.book_lock.specs.Begins.{Begins, Follows, IsAmong, of_seat};
 ghost use Rattle.book_lock.specs.Calls.{Idle};
-ghost use Rattle.book_lock.specs.Seats.{AllAt, AllHere, AllOwn, HasOwn, numbers_of};
+ghost use Rattle.book_lock.specs.Seats.{AllAt, AllHere, AllOwn, AllSeen, HasOwn, numbers_of};
 
 use crate::desk::TicketDesk;
 use crate::rule::{InTurns, TicketView};
@@ -26,6 +26,7 @@ fn meet<L: TicketName>(lock: &Lock<L>, place: &mut Place<L>, seat: TicketSeat<L>
     ensures numbers { place.new.me.0.numbers ≡ place.old.me.0.numbers ++ seat.number ∷ [] }
     ensures follows { Follows place.old.me.0.front place.old.me.0.numbers place.new.me.0.front }
     ensures own { HasOwn seat.number seat.receipts place.new.me.0.front }
+    ensures seen { Begins seat.front place.new.me.0.front }
 {
     join(lock, place, seat.into_place());
     see(lock, place);
@@ -42,6 +43,7 @@ fn meet_all<L: TicketName>(lock: &Lock<L>, place: &mut Place<L>, mut seats: Vec<
     ensures numbers { (n : ℕ) → IsAmong n place.old.me.0.numbers ⊎ IsAmong n (numbers_of seats.items) → IsAmong n place.new.me.0.numbers }
     ensures follows { Follows place.old.me.0.front place.old.me.0.numbers place.new.me.0.front }
     ensures own { AllOwn place.new.me.0.front seats.items }
+    ensures seen { AllSeen place.new.me.0.front seats.items }
 {
     while let Some(seat) = seats.pop() {
         meet(lock, place, seat);
@@ -70,8 +72,8 @@ fn book_of<L: TicketName>(
 }
 
 impl<L: TicketName> TicketDesk<L> {
-    /// Gives back the book with its history. All seats are handed in, in any order; the calls of each stand in that history, each
-    /// once, and no others do.
+    /// Gives back the book with its history. All seats are handed in, in any order; what each has seen begins that history, the calls of
+    /// each stand in it, each once, and no others do.
     ///
     /// It takes no turn and no memory.
     pub fn close(self, mut seats: Vec<TicketSeat<L>>) -> (BookState, History)
@@ -80,6 +82,7 @@ impl<L: TicketName> TicketDesk<L> {
         requires all { AllHere self.table.shared.key seats.items }
         ensures replay { Replays L.book result.1.events result.0.book }
         ensures own { AllOwn result.1.events seats.items }
+        ensures seen { AllSeen result.1.events seats.items }
         ensures others { (n : ℕ) → self.table.shared.key ≤ n → of_seat n result.1.events ≡ [] }
     {
         let table = self.into_table();

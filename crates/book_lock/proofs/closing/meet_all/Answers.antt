@@ -1,8 +1,8 @@
 use Rattle.std.proofs.Common.{rules, ◌≡◌, ℕ, ◌⊎◌, List, [], ◌∷◌, ◌++◌, length, refl, sym, ◌∙◌, subst, inl, ⊎_elim}
 use Rattle.book_lock.specs.Begins.{IsAmong}
-use Rattle.book_lock.specs.Seats.{Seat, AllAt, AllOwn, numbers_of}
-use Rattle.book_lock.proofs.Beginning.{among_left, follows_more, follows_same}
-use Rattle.book_lock.proofs.Handing.{at_last, left_step, here_step, none_own, none_here}
+use Rattle.book_lock.specs.Seats.{Seat, AllAt, AllOwn, AllSeen, numbers_of}
+use Rattle.book_lock.proofs.Beginning.{among_left, begins_same, follows_more, follows_same}
+use Rattle.book_lock.proofs.Handing.{at_last, left_step, here_step, none_own, none_here, none_seen, seen_step}
 use Rattle.book_lock.proofs.closing.meet_all.Goals as goal
 
 pub loop-seat-init : goal.loop-seat-init
@@ -14,6 +14,7 @@ loop-seat-init g c = record {
   here = λ n a. inl a;
   follows = follows_same c.args.place.now.me.0.front c.args.place.now.me.0.front c.args.place.now.me.0.numbers refl;
   left = λ h f a. a;
+  seen = λ h f a. a;
 }
 
 pub meet-requires-clause-other : goal.meet-requires-clause-other
@@ -39,6 +40,8 @@ loop-seat-preserved g c =
       follows = follows_more c.args.place.now.me.0.front c.loop-seat.place.me.0.front c.meet.new.place.me.0.front c.args.place.now.me.0.numbers ns i.within i.follows c.meet.ensures.follows;
       left = left_step c.loop-seat.place.me.0.front c.meet.new.place.me.0.front ns ms c.args.seats.items xs s
           (λ h b r. i.left h b (subst (λ (ss : List Seat). AllOwn h ss) (sym e) r)) c.meet.ensures.numbers c.meet.ensures.follows c.meet.ensures.own;
+      seen = seen_step c.loop-seat.place.me.0.front c.meet.new.place.me.0.front c.args.seats.items xs s
+          (λ h b r. i.seen h b (subst (λ (ss : List Seat). AllSeen h ss) (sym e) r)) c.meet.ensures.follows.0 c.meet.ensures.seen;
     }
 
 pub returns-clause-numbers : goal.returns-clause-numbers
@@ -52,3 +55,9 @@ returns-clause-own g c =
     let none : length c.loop-seat.seats.items ≡ 0 = search rules in
     let f = c.loop-seat.place.me.0.front in
     c.loop-seat.invariant.left f (follows_same f f c.loop-seat.place.me.0.numbers refl) (none_own f c.loop-seat.seats.items none)
+
+pub returns-clause-seen : goal.returns-clause-seen
+returns-clause-seen g c =
+    let none : length c.loop-seat.seats.items ≡ 0 = search rules in
+    let f = c.loop-seat.place.me.0.front in
+    c.loop-seat.invariant.seen f (begins_same f f refl) (none_seen f c.loop-seat.seats.items none)
