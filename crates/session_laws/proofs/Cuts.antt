@@ -44,6 +44,19 @@ pub is_cut : (frame : ℕ) (x : Transfer) (payload : List ℕ) → IsCut x paylo
 unfolding cut_of
 is_cut frame x payload = cut_by (cut_length frame x (length payload)) x payload
 
+-- the first part has the number and the tag of the delivery
+pub record IsFirst (x : Transfer) (p : Part) : Type 0 where
+  pub number : p.transfer.delivery_id ≡ x.delivery_id
+  pub tag : p.transfer.delivery_tag ≡ x.delivery_tag
+
+first_by : (o : Option ℕ) (x : Transfer) (payload : List ℕ) → IsFirst x (cut_at o x payload).first
+first_by None x payload = record { number = refl; tag = refl }
+first_by (Some n) x payload = record { number = refl; tag = refl }
+
+pub is_first : (frame : ℕ) (x : Transfer) (payload : List ℕ) → IsFirst x (cut_of frame x payload).first
+unfolding cut_of
+is_first frame x payload = first_by (cut_length frame x (length payload)) x payload
+
 -- ---- the Transfers of a link
 
 by_own : (x : Part) (xs : List Part) (c : Bool) → c ≡ true → cond c (x ∷ xs) xs ≡ x ∷ xs

@@ -6,4 +6,13 @@ pub mod Holds
 pub mod Hands
 pub mod Takes
 pub mod Receives
+pub mod Sizes
 pub mod Paths
+pub mod Lists
+pub mod Gives
+pub mod Speaks
+pub mod Numbers
+pub mod Returns
+pub mod Credits
+pub mod Examples
+pub mod Tags

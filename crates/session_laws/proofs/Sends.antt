@@ -188,17 +188,17 @@ short_or : (o : Option ℕ) → IsShort o → unwrap_or o 0 < 4294967296
 short_or None h = omega arith
 short_or (Some n) h = h
 
-record Kept (g : Grant) (s : State) : Type 0 where
-  short : g.credit < 4294967296
-  is : Keeps g s
+pub record Kept (g : Grant) (s : State) : Type 0 where
+  pub short : g.credit < 4294967296
+  pub is : Keeps g s
 
 flow_keeps : (p : LinkPhase) (g : Grant) (s : State) (x : Flow) → IsShort x.link_credit → Kept g s → Kept (granted_in p x s g) (flow_in p x s)
 flow_keeps phase.Attached g s x h k = record { short = short_or x.link_credit h; is = credited_keeps x.drain s.delivery_count (grant_in x s).count (grant_in x s).credit (short_or x.link_credit h) (record s { credit = credit_by x s }) refl refl }
 flow_keeps p g s x h k = record { short = k.short; is = k.is }
 
-record Same (s t : State) : Type 0 where
-  credit : t.credit ≡ s.credit
-  count : t.delivery_count ≡ s.delivery_count
+pub record Same (s t : State) : Type 0 where
+  pub credit : t.credit ≡ s.credit
+  pub count : t.delivery_count ≡ s.delivery_count
 
 same_keeps : (g : Grant) (s t : State) → Same s t → Kept g s → Kept g t
 same_keeps g s t h k = record { short = k.short; is = h.credit ∙ k.is ∙ ap (λ x. g.credit - minus x g.count) (sym h.count) }
@@ -215,14 +215,14 @@ outcome_same : (c : Bool) (covered : CoveredDelivery) (x : Option DeliveryState)
 outcome_same false covered x s = record { credit = refl; count = refl }
 outcome_same true covered x s = echoed_same (is_some s.link.stop_reason) covered.delivery_id x s (settled covered.delivery_tag (settlement_of x) s) (settled_same (place_of covered.delivery_tag s) covered.delivery_tag (settlement_of x) s)
 
-disposition_same : (covered : CoveredDelivery) (settled : Bool) (x : Option DeliveryState) (s : State) → Same s (disposition_read covered settled x s)
+pub disposition_same : (covered : CoveredDelivery) (settled : Bool) (x : Option DeliveryState) (s : State) → Same s (disposition_read covered settled x s)
 disposition_same covered true x s = settled_same (place_of covered.delivery_tag s) covered.delivery_tag (settlement_of x) s
 disposition_same covered false x s = outcome_same (settles_first covered x s) covered x s
 
-nothing_given : (n : ℕ) → 0 ≡ 0 - n
+pub nothing_given : (n : ℕ) → 0 ≡ 0 - n
 nothing_given n = omega arith
 
-keeps : (g : Grant) (s : State) (m : Move) → ComesShort m → Kept g s → Kept (granted s m g) (after s m)
+pub keeps : (g : Grant) (s : State) (m : Move) → ComesShort m → Kept g s → Kept (granted s m g) (after s m)
 keeps g s (sends payload format settled batchable) h k = record { short = k.short; is = sending_keeps g s payload format settled batchable k.short k.is }
 keeps g s polls h k = record { short = k.short; is = k.is }
 keeps g s (parts closes error) h k = record { short = k.short; is = k.is }

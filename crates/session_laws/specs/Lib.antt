@@ -5,3 +5,9 @@ pub mod Holding
 pub mod Handing
 pub mod Receiving
 pub mod Laws
+pub mod Speaking
+pub mod Giving
+pub mod Numbering
+pub mod Outcomes
+pub mod Crediting
+pub mod Example
