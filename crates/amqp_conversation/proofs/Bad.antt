@@ -15,7 +15,7 @@ use Rattle.amqp_conversation.specs.Said.{Says, header', amqp', sasl', HasBadBody
 
 faulty : (bytes : List ℕ) (f : Fault) (size : ℕ) (said : List ℕ) → BeginsNone bytes f → Says bytes size said → ⊥
 faulty bytes f size said bad (header' _ p major minor revision begins) = fault_no_piece bytes (Header p major minor revision) f begins bad
-faulty bytes f size said bad (amqp' _ channel start _ body begins spells) = fault_no_piece bytes (Frame Amqp channel start size) f begins bad
+faulty bytes f size said bad (amqp' _ _ channel start _ body begins spells text) = fault_no_piece bytes (Frame Amqp channel start size) f begins bad
 faulty bytes f size said bad (sasl' _ channel start _ body begins spells) = fault_no_piece bytes (Frame Sasl channel start size) f begins bad
 
 -- where a piece's body lies
@@ -42,13 +42,13 @@ same_body bytes one other e = ap (λ (p : Piece). take (size_of_frame p - start_
 bad_body : (bytes : List ℕ) (size : ℕ) (said : List ℕ) → HasBadBody bytes → Says bytes size said → ⊥
 bad_body bytes size said (no_body _ channel start count begins nothing) (header' _ p major minor revision other) =
     subst is_header (one_piece bytes (Header p major minor revision) (Frame Amqp channel start count) other begins) tt
-bad_body bytes size said (no_body _ channel start count begins nothing) (amqp' _ c from _ body other spells) =
+bad_body bytes size said (no_body _ channel start count begins nothing) (amqp' _ _ c from _ body other spells text) =
     nothing body (subst (λ (z : List ℕ). SpellsBody z body) (same_body bytes (Frame Amqp c from size) (Frame Amqp channel start count) (one_piece bytes _ _ other begins)) spells)
 bad_body bytes size said (no_body _ channel start count begins nothing) (sasl' _ c from _ body other spells) =
     subst is_amqp (one_piece bytes (Frame Amqp channel start count) (Frame Sasl c from size) begins other) tt
 bad_body bytes size said (no_sasl_body _ channel start count begins nothing) (header' _ p major minor revision other) =
     subst is_header (one_piece bytes (Header p major minor revision) (Frame Sasl channel start count) other begins) tt
-bad_body bytes size said (no_sasl_body _ channel start count begins nothing) (amqp' _ c from _ body other spells) =
+bad_body bytes size said (no_sasl_body _ channel start count begins nothing) (amqp' _ _ c from _ body other spells text) =
     subst is_amqp (one_piece bytes (Frame Amqp c from size) (Frame Sasl channel start count) other begins) tt
 bad_body bytes size said (no_sasl_body _ channel start count begins nothing) (sasl' _ c from _ body other spells) =
     nothing body (subst (λ (z : List ℕ). SpellsSasl z body) (same_body bytes (Frame Sasl c from size) (Frame Sasl channel start count) (one_piece bytes _ _ other begins)) spells)

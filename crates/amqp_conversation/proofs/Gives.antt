@@ -22,7 +22,7 @@ pub gives_amqp : {X : Type 0} (view : X → List ℕ) (r : Result X SaidError) (
 gives_amqp view r bytes piece channel start size e begins h =
     let here = subst (λ (p : Piece). Begins bytes p) e begins in
     subst (λ (p : Piece). GivesText view r (Says bytes (size_of_piece p)) (HasBadBody bytes)) (sym e)
-    (gives view r _ _ _ _ (λ t s. subst (λ (z : List ℕ). Says bytes size z) (sym s.said) (amqp' bytes channel start size s.body here s.spells)) (λ n. no_body bytes channel start size here n) h)
+    (gives view r _ _ _ _ (λ t s. amqp' bytes t channel start size s.body here s.spells s.said) (λ n. no_body bytes channel start size here n) h)
 
 pub gives_sasl : {X : Type 0} (view : X → List ℕ) (r : Result X SaidError) (bytes : List ℕ) (piece : Piece) (channel start size : ℕ) → piece ≡ Frame Sasl channel start size → Begins bytes piece → GivesText view r (SaysSasl (take (size - start) (drop start bytes))) (SpellsNoSasl (take (size - start) (drop start bytes))) → GivesText view r (Says bytes (size_of_piece piece)) (HasBadBody bytes)
 gives_sasl view r bytes piece channel start size e begins h =

@@ -13,13 +13,13 @@ use Rattle.amqp_conversation.specs.declared.said.Reason.{Reason}
 use Rattle.amqp_conversation.specs.declared.said.Reason.TheVariants as reason
 use Rattle.amqp_conversation.specs.declared.said.SaidError.{SaidError}
 use Rattle.amqp_conversation.specs.declared.said.SaidError.TheVariants.{Memory, Bad}
-use Rattle.amqp_conversation.specs.Said.{frame_text}
+use Rattle.amqp_conversation.specs.Said.{IsFrameText}
 
 -- the bytes are a body of AMQP, and this is what its frame says
 pub record SaysAmqp (channel : ℕ) (bytes text : List ℕ) : Type 0 where
   pub body : FrameBody
   pub spells : SpellsBody bytes body
-  pub said : text ≡ frame_text channel body
+  pub said : IsFrameText channel body text
 
 -- the bytes are a SASL body, and this is what it says
 pub record SaysSasl (bytes text : List ℕ) : Type 0 where

@@ -1,5 +1,5 @@
 -- What the headers and frames at the front of bytes say.
-use Rattle.std.specs.Prelude.{◌-◌, List, ℕ, ◌∷◌, ◌++◌, ◌==◌, if◌then◌else◌, codes, decimal, drop, take}
+use Rattle.std.specs.Prelude.{◌≡◌, ◌-◌, List, ℕ, ◌∷◌, ◌++◌, ◌==◌, if◌then◌else◌, codes, decimal, drop, take}
 use Rattle.amqp_pieces.specs.declared.FrameKind.TheVariants.{Amqp, Sasl}
 use Rattle.amqp_pieces.specs.declared.Piece.TheVariants.{Header, Frame}
 use Rattle.amqp_pieces.specs.declared.Fault.TheVariants as fault
@@ -8,7 +8,8 @@ use Rattle.amqp_frames.specs.declared.body.FrameBody.{FrameBody}
 use Rattle.amqp_frames.specs.Body.{SpellsBody}
 use Rattle.amqp_sasl_bodies.specs.declared.sasl_body.SaslBody.{SaslBody}
 use Rattle.amqp_sasl_bodies.specs.SaslBytes.{SpellsSasl}
-use Rattle.amqp_lines.specs.Bodies.{body_text, sasl_text}
+use Rattle.amqp_lines.specs.Bodies.{sasl_text}
+use Rattle.amqp_lines.specs.Payload.{IsBodyText}
 use Rattle.amqp_conversation.specs.declared.said.Reason.{Reason}
 use Rattle.amqp_conversation.specs.declared.said.Reason.TheVariants as reason
 
@@ -20,14 +21,22 @@ protocol_text p = if p == 0 then codes "AMQP" else if p == 2 then codes "TLS" el
 abbrev pub header_text : ℕ → ℕ → ℕ → ℕ → List ℕ
 header_text p major minor revision = codes "header " ++ protocol_text p ++ 32 ∷ decimal major ++ 46 ∷ decimal minor ++ 46 ∷ decimal revision
 
--- a frame of AMQP: its channel and its body
-abbrev pub frame_text : ℕ → FrameBody → List ℕ
-frame_text channel body = 91 ∷ decimal channel ++ codes "] " ++ body_text body
+-- `[CHANNEL] `
+abbrev pub channel_text : ℕ → List ℕ
+channel_text channel = 91 ∷ decimal channel ++ codes "] "
+
+-- the text is that of a frame of AMQP: its channel, and what its body says
+pub record IsFrameText (channel : ℕ) (body : FrameBody) (text : List ℕ) : Type 0 where
+  pub said : List ℕ
+  pub is_said : IsBodyText body said
+  pub framed : text ≡ channel_text channel ++ said
 
 -- the bytes begin with a header or a frame of so many bytes, and this is what it says
 pub data Says : List ℕ → ℕ → List ℕ → Type 0 where
   header' : (bytes : List ℕ) (p major minor revision : ℕ) → Begins bytes (Header p major minor revision) → Says bytes 8 (header_text p major minor revision)
-  amqp' : (bytes : List ℕ) (channel start size : ℕ) (body : FrameBody) → Begins bytes (Frame Amqp channel start size) → SpellsBody (take (size - start) (drop start bytes)) body → Says bytes size (frame_text channel body)
+  amqp' : (bytes text : List ℕ) (channel start size : ℕ) (body : FrameBody)
+      → Begins bytes (Frame Amqp channel start size) → SpellsBody (take (size - start) (drop start bytes)) body
+      → IsFrameText channel body text → Says bytes size text
   sasl' : (bytes : List ℕ) (channel start size : ℕ) (body : SaslBody) → Begins bytes (Frame Sasl channel start size) → SpellsSasl (take (size - start) (drop start bytes)) body → Says bytes size (sasl_text body)
 
 -- the bytes begin with a frame whose body is none

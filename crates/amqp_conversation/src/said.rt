@@ -4,7 +4,7 @@ ghost use Rattle.amqp_pieces.specs.declared.Piece.TheVariants.{Frame};
 ghost use Rattle.amqp_pieces.specs.Pieces.{Begins, size_of_piece};
 ghost use Rattle.amqp_lines.specs.Bodies.{sasl_text};
 ghost use Rattle.amqp_conversation.specs.declared.said.Reason.{Reason};
-ghost use Rattle.amqp_conversation.specs.Said.{protocol_text, header_text, frame_text, Says, HasBadBody, IsBad};
+ghost use Rattle.amqp_conversation.specs.Said.{protocol_text, header_text, channel_text, IsFrameText, Says, HasBadBody, IsBad};
 ghost use Rattle.amqp_conversation.specs.Reading.{SaysAmqp, SaysSasl, SpellsNoBody, SpellsNoSasl, GivesText, refusal_of, reason_for};
 ghost use Rattle.amqp_conversation.specs.declared.said.SaidError.TheVariants.{Memory};
 
@@ -100,14 +100,22 @@ fn push_header(
     push_number(alloc, out, u64::from(revision))
 }
 
-/// The text of a frame of AMQP.
-fn amqp_line(alloc: Global, channel: u16, body: &FrameBody) -> Result<Vec<u8>, AllocError>
-    ensures { IfOk result (λ text. text.items ≡ frame_text channel body.now) }
+/// A channel in brackets.
+fn channel_line(alloc: Global, channel: u16) -> Result<Vec<u8>, AllocError>
+    ensures { IfOk result (λ text. text.items ≡ channel_text channel) }
 {
     let mut text = Vec::new(alloc);
     push_word(&mut text, "[")?;
     push_number(alloc, &mut text, u64::from(channel))?;
     push_word(&mut text, "] ")?;
+    Ok(text)
+}
+
+/// The text of a frame of AMQP.
+fn amqp_line(alloc: Global, channel: u16, body: &FrameBody) -> Result<Vec<u8>, AllocError>
+    ensures { IfOk result (λ text. IsFrameText channel body.now text.items) }
+{
+    let mut text = channel_line(alloc, channel)?;
     push_body(alloc, &mut text, body)?;
     Ok(text)
 }

@@ -22,7 +22,7 @@ use Rattle.amqp_sasl_bodies.specs.declared.sasl_body.SaslBody.TheVariants as s
 use Rattle.amqp_sasl_bodies.specs.declared.sasl_code.SaslCode.{SaslCode}
 use Rattle.amqp_sasl_bodies.specs.declared.sasl_code.SaslCode.TheVariants as code
 use Rattle.amqp_sasl_bodies.specs.Sasl.{sasl_mechanisms_fields}
-use Rattle.amqp_shown.specs.Bytes.{hex_of, escaped, quoted}
+use Rattle.amqp_shown.specs.Bytes.{escaped, quoted}
 use Rattle.amqp_shown.specs.Names.{kind_name, names_of}
 use Rattle.amqp_shown.specs.Values.{fields_text}
 use Rattle.amqp_lines.specs.Hidden.{init_text, response_text}
@@ -43,18 +43,13 @@ AreMade (Err (errors.Memory a)) = Unit {0}
 AreMade (Err errors.Decode) = ⊥
 AreMade (Err errors.Size) = ⊥
 
--- the payload behind a Transfer, where there is one
-abbrev pub payload_text : List ℕ → List ℕ
-payload_text [] = []
-payload_text (x ∷ xs) = codes " payload=0x" ++ hex_of (x ∷ xs)
-
--- what a frame of AMQP says (part 2, section 2.7); an empty one is a heartbeat (section 2.4.5)
+-- what a frame of AMQP says but for its payload (part 2, section 2.7); an empty one is a heartbeat (section 2.4.5)
 abbrev pub body_text : FrameBody → List ℕ
 body_text (b.Open x) = list_line kind.Open (trimmed (open_fields x))
 body_text (b.Begin x) = list_line kind.Begin (trimmed (begin_fields x))
 body_text (b.Attach x) = list_line kind.Attach (trimmed (attach_fields x))
 body_text (b.Flow x) = list_line kind.Flow (trimmed (flow_fields x))
-body_text (b.Transfer x payload) = list_line kind.Transfer (trimmed (transfer_fields x)) ++ payload_text payload
+body_text (b.Transfer x payload) = list_line kind.Transfer (trimmed (transfer_fields x))
 body_text (b.Disposition x) = list_line kind.Disposition (trimmed (disposition_fields x))
 body_text (b.Detach x) = list_line kind.Detach (trimmed (detach_fields x))
 body_text (b.End x) = list_line kind.End (trimmed (end_fields x))

@@ -1,2 +1,4 @@
 pub mod Hidden
 pub mod Bodies
+pub mod Messages
+pub mod Payload

@@ -5,4 +5,6 @@
 
 pub mod bodies;
 pub mod hidden;
+mod messages;
+mod payload;
 pub mod sasl;

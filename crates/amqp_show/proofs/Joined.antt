@@ -86,16 +86,16 @@ part_on a b start size most all =
 
 says_on : (a b : List ℕ) (size : ℕ) (said : List ℕ) → Says a size said → Says (a ++ b) size said
 says_on a b size said (header' _ p major minor revision begins) = header' (a ++ b) p major minor revision (begins_on a b (Header p major minor revision) begins)
-says_on a b size said (amqp' _ channel start _ body begins spells) =
-    amqp' (a ++ b) channel start size body (begins_on a b (Frame Amqp channel start size) begins)
-    (subst (λ (z : List ℕ). SpellsBody z body) (sym (part_on a b start size begins.1.most (omega (arith, begins.1.size_is, begins.1.whole.all)))) spells)
+says_on a b size said (amqp' _ _ channel start _ body begins spells text) =
+    amqp' (a ++ b) said channel start size body (begins_on a b (Frame Amqp channel start size) begins)
+    (subst (λ (z : List ℕ). SpellsBody z body) (sym (part_on a b start size begins.1.most (omega (arith, begins.1.size_is, begins.1.whole.all)))) spells) text
 says_on a b size said (sasl' _ channel start _ body begins spells) =
     sasl' (a ++ b) channel start size body (begins_on a b (Frame Sasl channel start size) begins)
     (subst (λ (z : List ℕ). SpellsSasl z body) (sym (part_on a b start size begins.1.most (omega (arith, begins.1.size_is, begins.1.whole.all)))) spells)
 
 says_within : (a : List ℕ) (size : ℕ) (said : List ℕ) → Says a size said → size ≤ length a
 says_within a size said (header' _ p major minor revision begins) = begins.1
-says_within a size said (amqp' _ channel start _ body begins spells) = omega (arith, begins.1.size_is, begins.1.whole.all)
+says_within a size said (amqp' _ _ channel start _ body begins spells text) = omega (arith, begins.1.size_is, begins.1.whole.all)
 says_within a size said (sasl' _ channel start _ body begins spells) = omega (arith, begins.1.size_is, begins.1.whole.all)
 
 speaks_on : (side : Side) (a b t t' left : List ℕ) (l l' : Option (List ℕ)) → Speaks side a t l → l ≡ Some left → Speaks side (left ++ b) t' l' → Speaks side (a ++ b) (t ++ t') l'

@@ -96,8 +96,9 @@ pub fn push_value(alloc: Global, out: &mut Vec<u8>, value: &Value) -> Result<(),
     }
 }
 
+/// Adds values in brackets.
 #[cycle(show)]
-fn push_items(alloc: Global, out: &mut Vec<u8>, values: &[Value]) -> Result<(), AllocError>
+pub fn push_items(alloc: Global, out: &mut Vec<u8>, values: &[Value]) -> Result<(), AllocError>
     ensures { OnOk result (out.new.items ≡ out.old.items ++ list_text (items_view values.now)) }
 {
     out.push(b'[')?;
@@ -109,8 +110,9 @@ fn push_items(alloc: Global, out: &mut Vec<u8>, values: &[Value]) -> Result<(), 
     Ok(())
 }
 
+/// Adds the entries of a map in braces.
 #[cycle(show)]
-fn push_pairs(alloc: Global, out: &mut Vec<u8>, entries: &[Entry]) -> Result<(), AllocError>
+pub fn push_pairs(alloc: Global, out: &mut Vec<u8>, entries: &[Entry]) -> Result<(), AllocError>
     ensures { OnOk result (out.new.items ≡ out.old.items ++ dict_text (pairs_view entries.now)) }
 {
     out.push(b'{')?;
