@@ -11,6 +11,7 @@ use Rattle.amqp_links.specs.Calling.{Calls}
 use Rattle.amqp_links.specs.Inputs.{input_read}
 use Rattle.amqp_links.specs.Parts.{Told, told}
 use Rattle.amqp_links.specs.State.{State as Links, seen as linked, TakesOutput}
+use Rattle.amqp_links.specs.Timing.{at_moment, looked}
 use Rattle.amqp_session.specs.declared.session.LinkInput.{LinkInput}
 use Rattle.amqp_session.specs.State.{Framed}
 use Rattle.amqp_transport.specs.declared.frames.Frame.{Frame}
@@ -35,8 +36,9 @@ use Rattle.amqp_sessions.specs.Frames.{heard, written, refusing}
 use Rattle.amqp_sessions.specs.State.{State, seen, TakesFrame, TakesInput, TakesChannel}
 use Rattle.amqp_end.specs.declared.end.End.{End}
 use Rattle.amqp_end.specs.Goes.{Goes as Going, GoesOn}
-use Rattle.amqp_end.specs.Deeds.{Deed, Makes, Polls, Goes, Moves, Hears, Writes, Seats, Lacks, Frees, Accepts, Asks, LinksHear, LinksWrite, LinksLack, Tells, IsDeed, Did, called_of, called_by, told_of, told_by, framed_of}
-use Rattle.amqp_end.specs.Answers.{together, AreOrdered}
+use Rattle.amqp_end.specs.Deeds.{Deed, Makes, Polls, Goes, Moves, Hears, Writes, Seats, Lacks, Frees, Accepts, Asks, LinksHear, LinksWrite, LinksLack, LinksKnow, LinksLook, Tells, TellsFirst, IsDeed, Did, called_of, called_by, told_of, told_by, framed_of}
+use Rattle.amqp_end.specs.Answers.{together, AreOrdered, with_first}
+use Rattle.amqp_end.specs.Taken.{TakenOut}
 use Rattle.amqp_end.specs.Asks.{limit_for}
 use Rattle.amqp_end.specs.Moves.{Move, on}
 
@@ -194,15 +196,36 @@ pub on_wrote : {L : Type 0} (link : Ghosts L) (at : ℕ) (x : Frame) (a b : End 
 on_wrote link at x a b t p sent opened late k last failed same_replies =
     record { goes = goes_deed link at (Writes x sent.events) a b (record { takes = t; passes = p; sent = sent; adds = refl; opened = opened }, k) last failed (untold a.replies.items b.replies.items same_replies); late = λ l. late }
 
--- the answers of all three are taken
-pub on_told : {L : Type 0} (link : Ghosts L) (at : ℕ) (answers : List NamedReply) (a b : End L) → b.connection ≡ record a.connection { replies = [] } → seen b.sessions ≡ record (seen a.sessions) { replies = [] } → linked b.links ≡ record (linked a.links) { replies = [] }
-    → AreOrdered (together (seen a.sessions).replies a.connection.replies (linked a.links).replies) answers → b.last ≡ a.last → b.failed ≡ a.failed → b.replies.items ≡ a.replies.items ++ answers → GoesOn link at a b
-on_told {L} link at answers a b h e k o last failed told =
-    record { goes = goes_deed link at (Tells answers) a b (h, e, k, o) last failed told; late = λ l. subst (λ (p : Peering L). IsLate p.held) (sym h) l }
+-- the answers of all three are taken, and told
+taken_late : {L : Type 0} (p q : Peering L) → q ≡ record p { replies = [] } → IsLate p.held → IsLate q.held
+taken_late {L} p q h l = subst (λ (z : Peering L). IsLate z.held) (sym h) l
+
+pub on_told : {L : Type 0} (link : Ghosts L) (at : ℕ) (answers : List NamedReply) (a m b : End L) → TakenOut a m answers → b.connection ≡ m.connection → seen b.sessions ≡ seen m.sessions → linked b.links ≡ linked m.links → b.last ≡ m.last → b.failed ≡ m.failed
+    → b.replies.items ≡ m.replies.items ++ answers → GoesOn link at a b
+on_told link at answers a m b o p s l last failed told = record {
+  goes = goes_deed link at (Tells answers) a b (p ∙ o.connection, s ∙ o.sessions, l ∙ o.links, o.ordered) (last ∙ o.last) (failed ∙ o.failed) (told ∙ ap (λ (u : List NamedReply). u ++ answers) o.replies);
+  late = taken_late a.connection b.connection (p ∙ o.connection);
+}
+
+-- those to the call of that name first
+pub on_told_first : {L : Type 0} (link : Ghosts L) (at name : ℕ) (answers : List NamedReply) (a m b : End L) → TakenOut a m answers → b.connection ≡ m.connection → seen b.sessions ≡ seen m.sessions → linked b.links ≡ linked m.links → b.last ≡ m.last → b.failed ≡ m.failed
+    → b.replies.items ≡ m.replies.items ++ with_first name answers → GoesOn link at a b
+on_told_first link at name answers a m b o p s l last failed told = record {
+  goes = goes_deed link at (TellsFirst name answers) a b (p ∙ o.connection, s ∙ o.sessions, l ∙ o.links, o.ordered) (last ∙ o.last) (failed ∙ o.failed) (told ∙ ap (λ (u : List NamedReply). u ++ with_first name answers) o.replies);
+  late = taken_late a.connection b.connection (p ∙ o.connection);
+}
 
 -- a call is made on the links
 pub on_asked : {L : Type 0} (link : Ghosts L) (at name : ℕ) (call : LinkCall) (a b : End L) → b.connection ≡ a.connection → seen b.sessions ≡ seen a.sessions → Calls name call (limit_for call (seen a.sessions)) (linked a.links) (linked b.links) → b.last ≡ a.last → b.failed ≡ a.failed → b.replies.items ≡ a.replies.items → GoesOn link at a b
 on_asked link at name call a b same h k last failed same_replies = record { goes = goes_deed link at (Asks name call) a b (same, h, k) last failed (untold a.replies.items b.replies.items same_replies); late = same_late a.connection b.connection same }
+
+-- the links are told the moment
+pub on_known : {L : Type 0} (link : Ghosts L) (at : ℕ) (a b : End L) → b.connection ≡ a.connection → seen b.sessions ≡ seen a.sessions → linked b.links ≡ at_moment at (linked a.links) → b.last ≡ a.last → b.failed ≡ a.failed → b.replies.items ≡ a.replies.items → GoesOn link at a b
+on_known link at a b same h k last failed same_replies = record { goes = goes_deed link at LinksKnow a b (same, h, k) last failed (untold a.replies.items b.replies.items same_replies); late = same_late a.connection b.connection same }
+
+-- they look at the clock
+pub on_looked : {L : Type 0} (link : Ghosts L) (at : ℕ) (a b : End L) → b.connection ≡ a.connection → seen b.sessions ≡ seen a.sessions → linked b.links ≡ looked (linked a.links) → b.last ≡ a.last → b.failed ≡ a.failed → b.replies.items ≡ a.replies.items → GoesOn link at a b
+on_looked link at a b same h k last failed same_replies = record { goes = goes_deed link at LinksLook a b (same, h, k) last failed (untold a.replies.items b.replies.items same_replies); late = same_late a.connection b.connection same }
 
 -- the links hear their sessions
 pub on_linked : {L : Type 0} (link : Ghosts L) (at session : ℕ) (x : LinkInput) (a b : End L) → b.connection ≡ a.connection → TakesInput (seen a.sessions) (Some (session, x)) (seen b.sessions) → linked b.links ≡ input_read session x (linked a.links) → b.last ≡ a.last → b.failed ≡ a.failed → b.replies.items ≡ a.replies.items → GoesOn link at a b

@@ -22,7 +22,7 @@ use Rattle.amqp_peer.proofs.Laws.{link_in-append}
 use Rattle.amqp_sessions.specs.State.{State, seen}
 use Rattle.amqp_end.specs.declared.end.End.{End}
 use Rattle.amqp_end.specs.Goes.{Goes as Going}
-use Rattle.amqp_end.specs.Deeds.{Deed, Makes, Polls, Goes, Moves, Hears, Writes, Seats, Lacks, Frees, Accepts, Asks, LinksHear, LinksWrite, LinksLack, Tells, IsDeed, Did, adds, behind}
+use Rattle.amqp_end.specs.Deeds.{Deed, Makes, Polls, Goes, Moves, Hears, Writes, Seats, Lacks, Frees, Accepts, Asks, LinksHear, LinksWrite, LinksLack, LinksKnow, LinksLook, Tells, TellsFirst, IsDeed, Did, adds, behind}
 
 -- ---- one part of the connection
 
@@ -113,7 +113,10 @@ deed_passes link at (Asks name call) p p' s s' l l' h = passes_still link p p' h
 deed_passes link at (LinksHear session x) p p' s s' l l' h = passes_still link p p' h.0
 deed_passes link at (LinksWrite session x) p p' s s' l l' h = passes_still link p p' h.0
 deed_passes link at (LinksLack session) p p' s s' l l' h = passes_still link p p' h.0
+deed_passes link at LinksKnow p p' s s' l l' h = passes_still link p p' h.0
+deed_passes link at LinksLook p p' s s' l l' h = passes_still link p p' h.0
 deed_passes link at (Tells answers) p p' s s' l l' h = passes_told link p p' h.0
+deed_passes link at (TellsFirst name answers) p p' s s' l l' h = passes_told link p p' h.0
 
 -- ---- all of them
 

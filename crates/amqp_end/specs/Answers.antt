@@ -1,5 +1,5 @@
 -- The answers of an end with sessions and links.
-use Rattle.std.specs.Prelude.{ℕ, List, ◌++◌, map, IsPermutation}
+use Rattle.std.specs.Prelude.{ℕ, ◌==◌, not, List, ◌++◌, map, filter, IsPermutation}
 use Rattle.std.specs.List.Sorted.{IsNonDecreasingBy, IsStableByKey}
 use Rattle.std.specs.Ordering.{nat_cmp}
 use Rattle.amqp_words.specs.declared.reply.NamedReply.{NamedReply as ConnectionReply}
@@ -23,3 +23,14 @@ pub record AreOrdered (fresh answers : List NamedReply) : Type 0 where
   pub all : IsPermutation fresh answers
   pub rising : IsNonDecreasingBy (λ (r : NamedReply). r.name) answers
   pub stable : IsStableByKey (λ (r : NamedReply). r.name) nat_cmp fresh answers
+
+-- the answers to the call of that name, and those to other calls
+abbrev pub answers_to : ℕ → List NamedReply → List NamedReply
+answers_to name answers = filter (λ (r : NamedReply). r.name == name) answers
+
+abbrev pub answers_to_others : ℕ → List NamedReply → List NamedReply
+answers_to_others name answers = filter (λ (r : NamedReply). not (r.name == name)) answers
+
+-- those to the call of that name, then the others
+abbrev pub with_first : ℕ → List NamedReply → List NamedReply
+with_first name answers = answers_to name answers ++ answers_to_others name answers

@@ -10,6 +10,7 @@ use Rattle.amqp_links.specs.Calling.{Calls}
 use Rattle.amqp_links.specs.Inputs.{input_read}
 use Rattle.amqp_links.specs.Parts.{told}
 use Rattle.amqp_links.specs.State.{State as Links, TakesOutput}
+use Rattle.amqp_links.specs.Timing.{at_moment, looked}
 use Rattle.amqp_transport.specs.declared.frames.Frame.{Frame}
 use Rattle.amqp_wire.specs.declared.link.Link.{Ghosts}
 use Rattle.amqp_words.specs.declared.call.Call.{Call as ConnectionCall}
@@ -26,7 +27,7 @@ use Rattle.amqp_session.specs.State.{Framed}
 use Rattle.amqp_sessions.specs.State.{State, TakesFrame, TakesInput, TakesChannel}
 use Rattle.amqp_sessions.specs.Calls.{accepted}
 use Rattle.amqp_sessions.specs.Frames.{heard, written, refusing}
-use Rattle.amqp_end.specs.Answers.{together, AreOrdered}
+use Rattle.amqp_end.specs.Answers.{together, AreOrdered, with_first}
 use Rattle.amqp_end.specs.Asks.{limit_for}
 use Rattle.amqp_end.specs.Moves.{Move, on}
 
@@ -38,8 +39,9 @@ framed_of x = record { channel = x.channel; body = x.body }
 -- themselves; the first frame that waits for them at the connection is heard; the first that they have to write is given to it, with what this
 -- adds to its history; a channel is taken, or there is none; a channel of a session that is ended is given back; a session that the peer asks
 -- for is accepted; a call is made on the links; the first of what the sessions have for their links is heard by them; the first frame that the
--- links write goes to its session; for an Attach of a link that this end does not have its session is ended; the answers of all three are
--- taken out, and told in the order of their names
+-- links write goes to its session; for an Attach of a link that this end does not have its session is ended; the links are told the moment,
+-- and they look at the clock; the answers of all three are taken out, and told in the order of their names, or those to the call of that
+-- name before the others
 pub data Deed : Type 0 where
   Makes : ℕ → ConnectionCall → List Local → Deed
   Polls : List Local → Deed
@@ -55,7 +57,10 @@ pub data Deed : Type 0 where
   LinksHear : ℕ → LinkInput → Deed
   LinksWrite : ℕ → LinkFrame → Deed
   LinksLack : ℕ → Deed
+  LinksKnow : Deed
+  LinksLook : Deed
   Tells : List NamedReply → Deed
+  TellsFirst : ℕ → List NamedReply → Deed
 
 -- one step of the connection at that moment, behind which another may follow or nothing more can be done
 abbrev pub IsStep : {L : Type 0} → Ghosts L → ℕ → Peering L → List Local → Peering L → Type 0
@@ -89,7 +94,11 @@ IsDeed link at p s l (Asks name call) p' s' l' = (p' ≡ p) × (s' ≡ s) × Cal
 IsDeed link at p s l (LinksHear session x) p' s' l' = (p' ≡ p) × TakesInput s (Some (session, x)) s' × (l' ≡ input_read session x l)
 IsDeed link at p s l (LinksWrite session x) p' s' l' = (p' ≡ p) × (s' ≡ written session x s) × TakesOutput l (Some (told (out.Frame session x))) l'
 IsDeed link at p s l (LinksLack session) p' s' l' = (p' ≡ p) × (s' ≡ refusing session s) × TakesOutput l (Some (told (out.Astray session))) l'
+IsDeed link at p s l LinksKnow p' s' l' = (p' ≡ p) × (s' ≡ s) × (l' ≡ at_moment at l)
+IsDeed link at p s l LinksLook p' s' l' = (p' ≡ p) × (s' ≡ s) × (l' ≡ looked l)
 IsDeed link at p s l (Tells answers) p' s' l' =
+    (p' ≡ record p { replies = [] }) × (s' ≡ record s { replies = [] }) × (l' ≡ record l { replies = [] }) × AreOrdered (together s.replies p.replies l.replies) answers
+IsDeed link at p s l (TellsFirst name answers) p' s' l' =
     (p' ≡ record p { replies = [] }) × (s' ≡ record s { replies = [] }) × (l' ≡ record l { replies = [] }) × AreOrdered (together s.replies p.replies l.replies) answers
 
 -- the end did these at that moment, the newest first
@@ -152,6 +161,7 @@ given_by (d ∷ ds) = given_by ds ++ given_of d
 -- the answers that were told, in order
 abbrev pub told_of : Deed → List NamedReply
 told_of (Tells answers) = answers
+told_of (TellsFirst name answers) = with_first name answers
 told_of deed = []
 
 abbrev pub told_by : List Deed → List NamedReply

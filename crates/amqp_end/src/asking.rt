@@ -45,13 +45,15 @@ impl<L: Link> End<L> {
         requires { MayCall self.old.connection name call }
         ensures { OnOk result (Goes L.Link at ((name, call) ∷ []) self.old self.new) }
     {
+        self.know(at);
         self.stop_sessions(&call)?;
         match self.connection.call(at, name, call) {
             Ok(()) => {}
             Err(error) => return Err(memory_of(error)),
         }
         self.take_up()?;
-        self.steps(at)
+        self.steps(at)?;
+        self.look()
     }
 
     /// A `close` stops the sessions, of which their links hear.
@@ -61,6 +63,7 @@ impl<L: Link> End<L> {
     {
         match own_reason(self.alloc, call)? {
             Some(reason) => {
+                self.has_closed = true;
                 self.sessions.halt(&reason)?;
                 self.hand_on_all()
             }

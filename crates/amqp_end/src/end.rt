@@ -43,6 +43,8 @@ pub struct End<L: Link> {
     pub(crate) connection: Peer<L>,
     pub(crate) sessions: Sessions,
     pub(crate) links: Links,
+    /// Whether this end was asked to close the connection.
+    pub(crate) has_closed: bool,
     /// Whether the sessions were told that the connection has stopped.
     pub(crate) has_concluded: bool,
     /// The answers that were not taken, in order.
@@ -60,6 +62,7 @@ impl<L: Link> Drop for End<L> {
             connection,
             sessions,
             links,
+            has_closed: _,
             has_concluded: _,
             replies,
             last: _,
@@ -98,6 +101,7 @@ impl<L: Link> End<L> {
             connection,
             sessions: Sessions::new(alloc),
             links,
+            has_closed: false,
             has_concluded: false,
             replies: Vec::new(alloc),
             last: None,
@@ -189,6 +193,7 @@ impl<L: Link> End<L> {
             }
             LinkCall::Accept { session, .. } => self.has_session(PeerKind::Listener, *session),
             LinkCall::Send { .. }
+            | LinkCall::SendTimed { .. }
             | LinkCall::Outcome { .. }
             | LinkCall::Recv { .. }
             | LinkCall::Dispose { .. }

@@ -2,10 +2,13 @@
 ghost use Rattle.std.specs.Prelude.{◌≡◌, ℕ, [], OnOk};
 ghost use Rattle.amqp_end.specs.Asks.{limit_for};
 ghost use Rattle.amqp_end.specs.Goes.{Goes, GoesOn};
+ghost use Rattle.amqp_links.specs.May.{is_spent_on};
+ghost use Rattle.amqp_links.specs.State.{seen as linked};
 ghost use Rattle.amqp_sessions.specs.State.{seen};
 
 use crate::end::End;
 use amqp_calls::LinkCall;
+use amqp_data::Text;
 use amqp_links::LinksOutput;
 use amqp_wire::link::Link;
 use std::alloc::AllocError;
@@ -18,11 +21,19 @@ impl<L: Link> End<L> {
     pub(crate) fn call_link(&mut self, at: u64, name: u64, call: LinkCall) -> Result<(), AllocError>
         ensures { OnOk result (Goes L.Link at [] self.old self.new) }
     {
+        self.know(at);
         self.ask_links(name, call)?;
-        self.collect()?;
+        self.collect_for(name)?;
         self.run(at)?;
         self.let_links_out()?;
         self.steps(at)
+    }
+
+    /// Whether a call of this end has left a link of that name on the session, so that no attach may use the name there again.
+    pub fn is_spent(&self, session: u64, name: &Text) -> bool
+        ensures { result ≡ is_spent_on session name.now (linked self.now.links) }
+    {
+        self.links.is_spent(session, name)
     }
 
     /// The highest handle that a call which attaches a link may take; none where its session has none to give.
@@ -34,6 +45,7 @@ impl<L: Link> End<L> {
             | LinkCall::Receiver { session, .. }
             | LinkCall::Accept { session, .. } => self.sessions.handle_max(*session),
             LinkCall::Send { .. }
+            | LinkCall::SendTimed { .. }
             | LinkCall::Outcome { .. }
             | LinkCall::Recv { .. }
             | LinkCall::Dispose { .. }

@@ -1,12 +1,14 @@
 //! How an end goes on: step by step of its connection, with what comes of each.
-ghost use Rattle.std.specs.Prelude.{◌≡◌, ℕ, [], ◌++◌, map, true, OnOk};
-ghost use Rattle.amqp_end.specs.Answers.{of_connection, of_link, AreOrdered};
+ghost use Rattle.std.specs.Prelude.{◌≡◌, ℕ, [], ◌∷◌, ◌++◌, map, true, OnOk, IfOk};
+ghost use Rattle.amqp_end.specs.Answers.{of_connection, of_link, AreOrdered, answers_to, answers_to_others};
 ghost use Rattle.amqp_end.specs.Goes.{Goes, GoesOn};
+ghost use Rattle.amqp_end.specs.Taken.{TakenOut};
 ghost use Rattle.amqp_peer.specs.Hearing.{hears_in, IsOpenIn};
 ghost use Rattle.amqp_peer.specs.Held.{IsLate};
 
 use crate::end::{End, memory_of};
 use amqp_calls::{NamedLinkReply, NamedReply, Reply};
+use amqp_frames::ConnectionStopReason;
 use amqp_sessions::Waiting;
 use amqp_wire::link::Link;
 use amqp_words::ReplyList;
@@ -53,6 +55,41 @@ fn sort_by_name(replies: &mut Vec<NamedReply>) -> Result<(), AllocError>
     Ok(())
 }
 
+/// Adds an answer behind those to the call of that name, or else behind the others.
+fn add_to_either(
+    replies: &mut Vec<NamedReply>,
+    others: &mut Vec<NamedReply>,
+    answer: NamedReply,
+    name: u64,
+) -> Result<(), AllocError>
+    ensures told { OnOk result (replies.new.items ≡ replies.old.items ++ answers_to name (answer ∷ [])) }
+    ensures others { OnOk result (others.new.items ≡ others.old.items ++ answers_to_others name (answer ∷ [])) }
+{
+    if answer.name == name {
+        replies.push(answer)?;
+        return Ok(());
+    }
+    others.push(answer)?;
+    Ok(())
+}
+
+/// Adds the answers to the call of that name behind others; those to other calls are left, in their order.
+fn add_own(
+    alloc: Global,
+    replies: &mut Vec<NamedReply>,
+    fresh: Vec<NamedReply>,
+    name: u64,
+) -> Result<Vec<NamedReply>, AllocError>
+    ensures told { OnOk result (replies.new.items ≡ replies.old.items ++ answers_to name fresh.items) }
+    ensures others { IfOk result (λ others. others.items ≡ answers_to_others name fresh.items) }
+{
+    let mut others = Vec::new(alloc);
+    for answer in fresh {
+        add_to_either(replies, &mut others, answer, name)?;
+    }
+    Ok(others)
+}
+
 /// Adds answers behind others.
 fn append(replies: &mut Vec<NamedReply>, fresh: Vec<NamedReply>) -> Result<(), AllocError>
     ensures { OnOk result (replies.new.items ≡ replies.old.items ++ fresh.items) }
@@ -68,8 +105,33 @@ impl<L: Link> End<L> {
     pub(crate) fn run(&mut self, at: u64) -> Result<(), AllocError>
         ensures { OnOk result (Goes L.Link at [] self.old self.new) }
     {
+        self.know(at);
         self.exchange(at)?;
-        self.steps(at)
+        self.steps(at)?;
+        self.look()
+    }
+
+    /// The links know the moment.
+    pub(crate) fn know(&mut self, at: u64)
+        ensures goes { GoesOn L.Link at self.old self.new }
+        ensures connection { self.new.connection ≡ self.old.connection }
+    {
+        self.links.set_moment(at);
+    }
+
+    /// Looks at the clock: calls with a time that is over are answered.
+    pub(crate) fn look(&mut self) -> Result<(), AllocError>
+        ensures { OnOk result ((at : ℕ) → GoesOn L.Link at self.old self.new) }
+    {
+        self.look_at_links()?;
+        self.collect()
+    }
+
+    fn look_at_links(&mut self) -> Result<(), AllocError>
+        ensures goes { OnOk result ((at : ℕ) → GoesOn L.Link at self.old self.new) }
+        ensures connection { self.new.connection ≡ self.old.connection }
+    {
+        self.links.look()
     }
 
     /// Goes on with the exchange of headers, where the connection has not begun.
@@ -123,17 +185,40 @@ impl<L: Link> End<L> {
         self.hear()?;
         self.accept_waiting()?;
         self.hand_over()?;
+        self.look_at_fault()?;
         self.conclude()?;
         self.collect()
     }
 
-    /// The sessions and their links hear the frames that the connection has read for them.
+    /// Whether the connection has stopped for a fault, and not since an end has closed it.
+    fn has_fault(&self) -> bool {
+        if self.has_closed {
+            return false;
+        }
+        matches!(
+            self.connection.stop_reason(),
+            Some(ConnectionStopReason::Closed)
+        )
+    }
+
+    /// Where the connection stops for a fault, no frame of the peer has stopped it: the clock is looked at first.
+    fn look_at_fault(&mut self) -> Result<(), AllocError>
+        ensures { OnOk result ((at : ℕ) → GoesOn L.Link at self.old self.new) }
+    {
+        if self.has_concluded || !self.has_fault() {
+            return Ok(());
+        }
+        self.look_at_links()
+    }
+
+    /// The sessions and their links hear the frames that the connection has read for them. After each the clock is looked at.
     fn hear(&mut self) -> Result<(), AllocError>
         ensures { OnOk result ((at : ℕ) → GoesOn L.Link at self.old self.new) }
     {
         'frames: while let Some(frame) = self.connection.take_incoming() {
             self.sessions.on_frame(frame)?;
             self.hand_on_all()?;
+            self.look_at_links()?;
         }
         Ok(())
     }
@@ -204,14 +289,31 @@ impl<L: Link> End<L> {
         Ok(())
     }
 
-    /// Takes in the answers that are new, in the order of their names.
-    pub(crate) fn collect(&mut self) -> Result<(), AllocError>
-        ensures { OnOk result ((at : ℕ) → GoesOn L.Link at self.old self.new) }
+    /// Takes out the answers that are new, in the order of their names.
+    fn take_answers(&mut self) -> Result<Vec<NamedReply>, AllocError>
+        ensures { IfOk result (λ answers. TakenOut self.old self.new answers.items) }
     {
         let mut fresh = self.sessions.take_replies();
         add_replies(&mut fresh, self.connection.replies())?;
         add_link_replies(&mut fresh, self.links.take_replies())?;
         sort_by_name(&mut fresh)?;
+        Ok(fresh)
+    }
+
+    /// Takes in the answers that are new, in the order of their names.
+    pub(crate) fn collect(&mut self) -> Result<(), AllocError>
+        ensures { OnOk result ((at : ℕ) → GoesOn L.Link at self.old self.new) }
+    {
+        let fresh = self.take_answers()?;
         append(&mut self.replies, fresh)
+    }
+
+    /// Takes in the answers that are new behind a call: those to the call itself first.
+    pub(crate) fn collect_for(&mut self, name: u64) -> Result<(), AllocError>
+        ensures { OnOk result ((at : ℕ) → GoesOn L.Link at self.old self.new) }
+    {
+        let fresh = self.take_answers()?;
+        let others = add_own(self.alloc, &mut self.replies, fresh, name)?;
+        append(&mut self.replies, others)
     }
 }

@@ -1,10 +1,16 @@
 -- How calls that have waited at a link are answered (OASIS AMQP 1.0, part 2, sections 2.6.3 and 2.6.12).
-use Rattle.std.specs.Prelude.{ℕ, nat_eq, true, not, ◌||◌, [], ◌++◌, map, Option, Some, None, Result, Ok, Err, if◌then◌else◌}
+use Rattle.std.specs.Prelude.{ℕ, nat_eq, Bool, true, false, not, ◌&&◌, ◌||◌, [], ◌++◌, map, Option, Some, None, Result, Ok, Err, if◌then◌else◌}
 use Rattle.std.specs.Map.{lookup}
 use Rattle.indexmap.specs.IndexMap.{swap_remove_entry}
+use Rattle.amqp_frames.specs.declared.shared.SessionStopReason.{SessionStopReason}
+use Rattle.amqp_frames.specs.declared.shared.SessionStopReason.TheVariants as why
 use Rattle.amqp_link.specs.declared.endpoint.AttachPoll.{AttachPoll}
 use Rattle.amqp_link.specs.declared.endpoint.AttachPoll.TheVariants.{Pending, Done}
 use Rattle.amqp_link.specs.declared.error.AttachError.{AttachError}
+use Rattle.amqp_link.specs.declared.error.LinkStateError.{LinkStateError}
+use Rattle.amqp_link.specs.declared.error.LinkStateError.TheVariants.{SessionStopped}
+use Rattle.amqp_sender.specs.declared.error.SendError.{SendError}
+use Rattle.amqp_sender.specs.declared.error.SendError.TheVariants as error
 use Rattle.amqp_sender.specs.Settling as settling
 use Rattle.amqp_link_words.specs.declared.link_reply.LinkReply.{LinkReply}
 use Rattle.amqp_link_words.specs.declared.link_reply.LinkReply.TheVariants as reply
@@ -53,6 +59,31 @@ accept_reply s = accept_reply_for (polled_answer s.side) s.side
 abbrev pub outcome_at : ℕ → Side → LinkReply
 outcome_at place (Sender s) = outcome_reply (settling.outcome_at place s)
 outcome_at place (Receiver s) = no_sender
+
+-- behind the own End a Disposition may still come (section 2.5.5): that the session has stopped is told once it is over
+abbrev pub is_own_end : SessionStopReason → Bool
+is_own_end why.Ended = true
+is_own_end (why.EndedWithError e) = true
+is_own_end other = false
+
+abbrev pub is_stop : LinkStateError → Bool
+is_stop (SessionStopped reason) = is_own_end reason
+is_stop other = false
+
+abbrev pub is_of_stop : SendError → Bool
+is_of_stop (error.LinkStateError e) = is_stop e
+is_of_stop other = false
+
+abbrev pub tells_of_stop : LinkReply → Bool
+tells_of_stop (reply.SendError e) = is_of_stop e
+tells_of_stop answer = false
+
+abbrev pub put_off : Bool → LinkReply → LinkReply
+put_off is_over answer = if not is_over && tells_of_stop answer then reply.Pending else answer
+
+-- what a call for the outcome of the delivery at a place is told
+abbrev pub outcome_now : ℕ → Called → LinkReply
+outcome_now place s = put_off s.is_concluded (outcome_at place s.side)
 
 abbrev pub outcome_answered_to : Option ℕ → ℕ → Called → Called
 outcome_answered_to None place s = s

@@ -23,7 +23,7 @@ use Rattle.amqp_link_calls.specs.Side.{Side, Sender, Receiver}
 
 -- the session, by the name of its call; the sender or receiver; the call that attaches the link and waits; whether the call that attached
 -- or accepted it was answered that it is made; the calls that wait for outcomes, by the places of the deliveries; the call that leaves the
--- link and waits; whether a call has left it; the answers of calls that have waited, which were not taken
+-- link and waits; whether a call has left it; whether its session is over; the answers of calls that have waited, which were not taken
 pub record Called : Type 0 where
   pub session : ℕ
   pub side : Side
@@ -32,10 +32,11 @@ pub record Called : Type 0 where
   pub waiting : List (ℕ × ℕ)
   pub parting : Option WaitingPart
   pub leaving : Leaving
+  pub is_concluded : Bool
   pub answers : List NamedLinkReply
 
 abbrev pub begun : ℕ → Side → Option ℕ → Called
-begun session s attaching = record { session = session; side = s; attaching = attaching; is_made = false; waiting = []; parting = None; leaving = Stays; answers = [] }
+begun session s attaching = record { session = session; side = s; attaching = attaching; is_made = false; waiting = []; parting = None; leaving = Stays; is_concluded = false; answers = [] }
 
 -- a call attaches a sender, and waits
 abbrev pub sender_asked : ℕ → ℕ → SenderSettings → ℕ → Called
@@ -81,6 +82,14 @@ answering name reply s = record s { answers = s.answers ++ record { name = name;
 -- a call waits for the outcome of the delivery at that place
 abbrev pub is_awaited : ℕ → Called → Bool
 is_awaited place s = is_some (lookup (nat_eq place) s.waiting)
+
+abbrev pub is_call : ℕ → Option ℕ → Bool
+is_call name None = false
+is_call name (Some other) = nat_eq other name
+
+-- the call of that name does
+abbrev pub awaits_outcome : ℕ → ℕ → Called → Bool
+awaits_outcome name place s = is_call name (lookup (nat_eq place) s.waiting)
 
 abbrev pub stopped : SessionStopReason → Called → Called
 stopped why s = with_side (side.stopped why s.side) s

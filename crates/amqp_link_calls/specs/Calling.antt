@@ -1,6 +1,6 @@
 -- What calls on a link come to (OASIS AMQP 1.0, part 2, sections 2.6.7 and 2.6.12).
-use Rattle.std.specs.Prelude.{◌≡◌, ◌⊎◌, ℕ, nat_eq, Bool, true, false, List, Option, Some, None, Ok, Err}
-use Rattle.indexmap.specs.IndexMap.{insert_entry}
+use Rattle.std.specs.Prelude.{◌≡◌, ◌⊎◌, ℕ, nat_eq, Bool, true, false, if◌then◌else◌, List, Option, Some, None, Ok, Err}
+use Rattle.indexmap.specs.IndexMap.{insert_entry, swap_remove_entry}
 use Rattle.amqp_termini.specs.TerminalState.{state_of_terminal}
 use Rattle.amqp_messages.specs.Reading.{IsTheMessage, SpellsMessage}
 use Rattle.amqp_delivery.specs.declared.info.DeliveryInfo.{DeliveryInfo}
@@ -20,8 +20,8 @@ use Rattle.amqp_link_words.specs.declared.link_call.Disposal.{Disposal}
 use Rattle.amqp_link_words.specs.declared.link_call.Sendable.{Sendable}
 use Rattle.amqp_link_words.specs.declared.link_reply.LinkReply.{LinkReply}
 use Rattle.amqp_link_words.specs.declared.link_reply.LinkReply.TheVariants as reply
-use Rattle.amqp_link_calls.specs.Answering.{outcome_at}
-use Rattle.amqp_link_calls.specs.Called.{Called, with_side}
+use Rattle.amqp_link_calls.specs.Answering.{outcome_now}
+use Rattle.amqp_link_calls.specs.Called.{Called, with_side, awaits_outcome}
 use Rattle.amqp_link_calls.specs.Replies.{no_sender, sent_reply, sent_token, is_pending, disposal_reply, credit_reply, terminal_of}
 use Rattle.amqp_link_calls.specs.Side.{Side, Sender, Receiver}
 
@@ -59,7 +59,12 @@ awaiting false name place s = s
 
 -- it waits while nothing is known
 abbrev pub outcome_asked : ℕ → ℕ → Called → Called
-outcome_asked name place s = awaiting (is_pending (outcome_at place s.side)) name place s
+outcome_asked name place s = awaiting (is_pending (outcome_now place s)) name place s
+
+-- the time of the call of that name is over: it waits no more
+abbrev pub outcome_given_up : ℕ → ℕ → Called → Called
+outcome_given_up name place s =
+    if awaits_outcome name place s then record s { waiting = swap_remove_entry (nat_eq place) s.waiting } else s
 
 -- ---- a call that receives
 

@@ -33,7 +33,7 @@ detach_read d s = outcomes_answered_now (part_answered_now (attach_answered_now 
 
 -- the session is over: each call that waits is answered
 abbrev pub concluded : Called → Called
-concluded s = outcomes_answered (part_answered (attach_answered s))
+concluded s = outcomes_answered (part_answered (attach_answered (record s { is_concluded = true })))
 
 -- it is known what has become of the delivery that was unsettled at that place, if there was one
 abbrev pub is_done : Option ℕ → sender.State → Bool

@@ -1,5 +1,5 @@
 -- How links are left (OASIS AMQP 1.0, part 2, sections 2.6.4 to 2.6.6).
-use Rattle.std.specs.Prelude.{ℕ, Bool, true, false, List, Option, Some, None, if◌then◌else◌}
+use Rattle.std.specs.Prelude.{ℕ, nat_eq, Bool, true, false, ◌&&◌, List, Option, Some, None, if◌then◌else◌}
 use Rattle.amqp_composites.specs.declared.error.Error.{Error as AmqpError}
 use Rattle.amqp_link.specs.declared.endpoint.DetachPoll.{DetachPoll}
 use Rattle.amqp_link.specs.declared.endpoint.DetachPoll.TheVariants as poll
@@ -51,8 +51,14 @@ known kind.OnDetach s = news_reply (detach_news s)
 known kind.Detach s = part_reply false (parted_poll false s)
 known kind.Close s = part_reply true (parted_poll true s)
 
+-- a call that has closed the link lets it go
+abbrev pub closed_by : LinkReply → Called → Called
+closed_by reply.Closed s = with_side (side_abandoned s.side) s
+closed_by other s = s
+
 abbrev pub told_part : LinkReply → WaitingPart → Called → Called
-told_part x w s = if is_pending x then s else answering w.name x (record s { parting = None; leaving = left_by w.kind s.leaving })
+told_part x w s =
+    if is_pending x then s else answering w.name x (closed_by x (record s { parting = None; leaving = left_by w.kind s.leaving }))
 
 abbrev pub part_answered_to : Option WaitingPart → Called → Called
 part_answered_to None s = s
@@ -123,9 +129,15 @@ abbrev pub closed_side : Option AmqpError → Side → PartedSide
 closed_side error (Sender s) = parts true error (Sender s)
 closed_side error (Receiver s) = let m = receiver_closed error s in record { side = Receiver m.state; answer = m.answer }
 
+-- a link that both ends have detached before is closed at once: no outcome comes any more
+abbrev pub closed_at_once : LinkReply → Called → Called
+closed_at_once reply.Closed s = outcomes_answered (closed_by reply.Closed s)
+closed_at_once other s = s
+
 abbrev pub close_asked : ℕ → Option (List ℕ) → Called → Leaves
 close_asked name error s =
-    let m = closed_side (error_of error) s.side in asks name kind.Close (part_reply true m.answer) (with_side m.side s)
+    let m = closed_side (error_of error) s.side in
+    let x = part_reply true m.answer in tells x (closed_at_once x (asked_part (is_pending x) name kind.Close (with_side m.side s)))
 
 -- the link is let go: no outcome comes any more
 abbrev pub abandoned : Called → Called
@@ -133,20 +145,40 @@ abandoned s = outcomes_answered (record (with_side (side_abandoned s.side) s) { 
 
 abbrev pub leaves : ℕ → Parting → Called → Leaves
 leaves name parting.OnDetach s = on_detach_asked name s
-leaves name (parting.Detach error) s = detach_asked name error s
+leaves name (parting.Detach error timeout) s = detach_asked name error s
 leaves name (parting.Close error) s = close_asked name error s
 leaves name parting.Abandon s = tells reply.Done (abandoned s)
 
 -- ---- the further attachment
 
+-- a call that waits until both ends have detached
+abbrev pub awaits_both : PartKind → Bool
+awaits_both kind.OnDetach = false
+awaits_both kind.Detach = true
+awaits_both kind.Close = true
+
+abbrev pub is_parting : Option WaitingPart → Bool
+is_parting None = false
+is_parting (Some w) = awaits_both w.kind
+
+-- a link is attached again while a call waits for that
 abbrev pub wants_handle : Called → Bool
-wants_handle s = link.wants_handle (link_of s.side).phase
+wants_handle s = is_parting s.parting && link.wants_handle (link_of s.side).phase
 
 abbrev pub is_reattaching : Called → Bool
 is_reattaching s = link.is_reattaching (link_of s.side).phase
 
 abbrev pub handle_given : ℕ → Called → Called
 handle_given handle s = with_side (reattached handle s.side) s
+
+-- whether the call of that name waits until the link is detached
+abbrev pub awaits_part : ℕ → Option WaitingPart → Bool
+awaits_part name None = false
+awaits_part name (Some w) = nat_eq w.name name
+
+-- its time is over: it waits no more
+abbrev pub part_given_up : ℕ → Called → Called
+part_given_up name s = if awaits_part name s.parting then record s { parting = None } else s
 
 -- there is no handle: the call that leaves the link is answered
 abbrev pub handle_refused : Called → Called

@@ -107,6 +107,7 @@ impl CalledLink {
         ensures answers { IfOk result (λ v. v.items ≡ (concluded self.old).answers) }
         ensures state { OnOk result (self.new ≡ answers_taken (concluded self.old)) }
     {
+        self.is_concluded = true;
         self.answer_attach()?;
         self.answer_part()?;
         self.answer_outcomes()?;

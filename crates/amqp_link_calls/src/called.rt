@@ -39,6 +39,8 @@ pub struct CalledLink {
     pub(crate) parting: Option<WaitingPart>,
     /// Whether a call has left the link.
     pub(crate) leaving: Leaving,
+    /// Whether the session is over.
+    pub(crate) is_concluded: bool,
     /// The answers of calls that have waited.
     pub(crate) answers: Vec<NamedLinkReply>,
 }
@@ -55,6 +57,7 @@ impl Drop for CalledLink {
             waiting,
             parting: _,
             leaving: _,
+            is_concluded: _,
             answers,
         } = self;
         drop(side);
@@ -77,7 +80,7 @@ impl Model for CalledLink {
 
     ghost coded = { Prim.hlevel (codes, map.the_row.coded, body.the_row.coded, stop_reason.the_row.coded, attach.the_row.coded, reply.the_row.coded) };
 
-    ghost view = { λ s. record { session = s.session; side = seen s.side; attaching = s.attaching; is_made = s.is_made; waiting = s.waiting.entries; parting = s.parting; leaving = s.leaving; answers = s.answers.items } };
+    ghost view = { λ s. record { session = s.session; side = seen s.side; attaching = s.attaching; is_made = s.is_made; waiting = s.waiting.entries; parting = s.parting; leaving = s.leaving; is_concluded = s.is_concluded; answers = s.answers.items } };
 }
 
 /// The end that answers the peer's Attach.
@@ -117,6 +120,7 @@ impl CalledLink {
             waiting: IndexMap::new(alloc),
             parting: None,
             leaving: Leaving::Stays,
+            is_concluded: false,
             answers: Vec::new(alloc),
         }
     }

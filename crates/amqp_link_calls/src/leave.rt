@@ -1,6 +1,6 @@
 //! How links are left (OASIS AMQP 1.0, part 2, sections 2.6.4 to 2.6.6).
 ghost use Rattle.std.specs.Prelude.{◌≡◌, IfOk, OnOk};
-ghost use Rattle.amqp_link_calls.specs.Leaving.{left_by, part_reply, news_reply, known, told_part, part_answered, asked_part, error_for, credit_taken, closed_for, receiver_closed, closed_side, on_detach_asked, detach_asked, close_asked, abandoned, leaves, wants_handle, is_reattaching, handle_given, handle_refused};
+ghost use Rattle.amqp_link_calls.specs.Leaving.{left_by, part_reply, news_reply, known, told_part, part_answered, asked_part, error_for, credit_taken, closed_for, receiver_closed, closed_side, closed_by, closed_at_once, on_detach_asked, detach_asked, close_asked, abandoned, leaves, awaits_both, is_parting, wants_handle, awaits_part, part_given_up, is_reattaching, handle_given, handle_refused};
 ghost use Rattle.amqp_link_calls.specs.Side.{seen};
 ghost use Rattle.amqp_receiver.specs.Receiver as of;
 
@@ -53,6 +53,16 @@ fn left_by(kind: PartKind, before: Leaving) -> Leaving
         PartKind::OnDetach => before,
         PartKind::Detach => Leaving::Detached,
         PartKind::Close => Leaving::Dropped,
+    }
+}
+
+/// Whether a call waits until both ends have detached.
+fn awaits_both(kind: PartKind) -> bool
+    ensures { result ≡ awaits_both kind }
+{
+    match kind {
+        PartKind::OnDetach => false,
+        PartKind::Detach | PartKind::Close => true,
     }
 }
 
@@ -167,6 +177,29 @@ impl LinkSide {
 }
 
 impl CalledLink {
+    /// A call that has closed the link lets it go.
+    fn close_by(&mut self, reply: &LinkReply) -> Result<(), AllocError>
+        ensures { OnOk result (self.new ≡ closed_by reply.now self.old) }
+    {
+        match reply {
+            LinkReply::Closed => self.side.abandon(),
+            _ => Ok(()),
+        }
+    }
+
+    /// The same, where the link is closed at once: no outcome comes any more.
+    fn close_at_once(&mut self, reply: &LinkReply) -> Result<(), AllocError>
+        ensures { OnOk result (self.new ≡ closed_at_once reply.now self.old) }
+    {
+        match reply {
+            LinkReply::Closed => {
+                self.side.abandon()?;
+                self.answer_outcomes()
+            }
+            _ => Ok(()),
+        }
+    }
+
     fn tell_part(&mut self, reply: LinkReply, part: WaitingPart) -> Result<(), AllocError>
         ensures { OnOk result (self.new ≡ told_part reply part self.old) }
     {
@@ -175,6 +208,7 @@ impl CalledLink {
         }
         self.parting = None;
         self.leaving = left_by(part.kind, self.leaving);
+        self.close_by(&reply)?;
         self.answer(part.name, reply)
     }
 
@@ -228,6 +262,7 @@ impl CalledLink {
         let poll = self.side.close(error_of(error))?;
         let reply = part_reply(true, poll);
         self.ask_part(name, PartKind::Close, is_pending(&reply));
+        self.close_at_once(&reply)?;
         Ok(reply)
     }
 
@@ -251,17 +286,46 @@ impl CalledLink {
     {
         match parting {
             Parting::OnDetach => self.ask_on_detach(name),
-            Parting::Detach { error } => self.ask_detach(name, error),
+            Parting::Detach { error, timeout: _ } => self.ask_detach(name, error),
             Parting::Close { error } => self.ask_close(name, error),
             Parting::Abandon => self.abandon(),
         }
     }
 
-    /// Whether the link is to be attached again, and has no handle for that yet.
+    /// Whether a call waits until the link is detached or closed.
+    fn is_parting(&self) -> bool
+        ensures { result ≡ is_parting self.now.parting }
+    {
+        match self.parting {
+            Some(part) => awaits_both(part.kind),
+            None => false,
+        }
+    }
+
+    /// Whether the link is to be attached again, since a call waits for that, and has no handle for it yet.
     pub fn wants_handle(&self) -> bool
         ensures { result ≡ wants_handle self.now }
     {
-        self.side.wants_handle()
+        self.is_parting() && self.side.wants_handle()
+    }
+
+    /// The time of the call of that name is over: if it waits until the link is detached, it waits no more. Whether it did. The
+    /// handshake goes on.
+    pub fn give_up_part(&mut self, name: u64) -> bool
+        ensures state { self.new ≡ part_given_up name self.old }
+        ensures answer { result ≡ awaits_part name self.old.parting }
+    {
+        match self.parting {
+            Some(part) => {
+                if part.name == name {
+                    self.parting = None;
+                    true
+                } else {
+                    false
+                }
+            }
+            None => false,
+        }
     }
 
     /// Whether the link was attached again, and the peer's Attach is awaited.

@@ -5,7 +5,7 @@ use Rattle.amqp_messages.specs.declared.message.Body.{Body}
 use Rattle.amqp_messages.specs.Message.{Said, seen}
 use Rattle.amqp_messages.specs.Writing.{message_items, AllFit}
 use Rattle.amqp_link_words.specs.declared.link_call.Sendable.{Sendable}
-use Rattle.amqp_link_words.specs.declared.link_call.LinkCall.TheVariants.{Send}
+use Rattle.amqp_link_words.specs.declared.link_call.LinkCall.TheVariants.{Send, SendTimed}
 use Rattle.amqp_script.specs.declared.script.line_error.LineError.{LineError}
 use Rattle.amqp_script.specs.declared.script.line_error.LineError.TheVariants.{Memory, Outside}
 use Rattle.amqp_script.specs.Fields.{Says}
@@ -41,3 +41,7 @@ no_bytes written form (Memory a) said none = tt
 pub no_call : (sender : ℕ) (written : Sendable) (e : LineError) → Made (IsSent written) (Err e) → Made (IsCall (Send sender written)) (Err e)
 no_call sender written Outside none = λ call is. none is.0 is.1.1
 no_call sender written (Memory a) none = tt
+
+pub no_timed_call : (sender : ℕ) (written : Sendable) (timeout : ℕ) (e : LineError) → Made (IsSent written) (Err e) → Made (IsCall (SendTimed sender written timeout)) (Err e)
+no_timed_call sender written timeout Outside none = λ call is. none is.0 is.1.1
+no_timed_call sender written timeout (Memory a) none = tt

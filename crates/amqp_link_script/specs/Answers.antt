@@ -71,6 +71,7 @@ link_answer_text (reply.SendError e) = codes "error Send." ++ send_text e
 link_answer_text (reply.RecvError e) = codes "error Recv." ++ recv_text e
 link_answer_text (reply.DispositionError e) = codes "error Disposition." ++ illegal_state_text e
 link_answer_text (reply.FlowError e) = codes "error Flow." ++ illegal_state_text e
+link_answer_text reply.Elapsed = codes "error Elapsed"
 link_answer_text reply.Detached = codes "detached"
 link_answer_text reply.Closed = codes "closed"
 link_answer_text (reply.DetachError e) = codes "error Detach." ++ detach_text e

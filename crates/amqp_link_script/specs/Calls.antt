@@ -7,10 +7,10 @@ use Rattle.amqp_link_words.specs.declared.link_call.Disposal.TheVariants as disp
 use Rattle.amqp_link_words.specs.declared.link_call.LinkCall.TheVariants as link
 use Rattle.amqp_link_words.specs.declared.regulation.Regulation.TheVariants as regulation
 use Rattle.amqp_script.specs.Number.{number_in}
-use Rattle.amqp_link_script.specs.declared.keys.LinkKey.TheVariants.{Settled, Batchable}
+use Rattle.amqp_link_script.specs.declared.keys.LinkKey.TheVariants.{Settled, Batchable, Timeout}
 use Rattle.amqp_link_script.specs.declared.words.LinkWord.{LinkWord}
 use Rattle.amqp_link_script.specs.declared.words.LinkWord.TheVariants as word
-use Rattle.amqp_link_script.specs.Keys.{has_only, flag_in, optional_choice_in}
+use Rattle.amqp_link_script.specs.Keys.{has_only, flag_in, optional_choice_in, timeout_in}
 use Rattle.amqp_link_script.specs.Names.{name_in, one_name_in}
 use Rattle.amqp_link_script.specs.Partings.{on_detach_call_in, detach_call_in, close_call_in, abandon_call_in}
 use Rattle.amqp_link_script.specs.Settings.{sender_in, receiver_in, accept_in}
@@ -46,7 +46,12 @@ written_of message arguments = do
 
 -- a message as it is written, and how it is sent
 abbrev pub written_in : List ℕ → List (List ℕ) → Option Sendable
-written_in message arguments = if has_only (Settled ∷ Batchable ∷ []) arguments then written_of message arguments else None
+written_in message arguments = if has_only (Settled ∷ Batchable ∷ Timeout ∷ []) arguments then written_of message arguments else None
+
+-- the call that sends a message, with a time or without
+abbrev pub sending_of : ℕ → Sendable → Option ℕ → LinkCall
+sending_of sender message None = link.Send sender message
+sending_of sender message (Some timeout) = link.SendTimed sender message timeout
 
 unfoldable pub send_call_in : List (List ℕ) → Option LinkCall
 send_call_in [] = None
@@ -54,7 +59,8 @@ send_call_in (sender ∷ []) = None
 send_call_in (sender ∷ message ∷ arguments) = do
   sender ← name_in sender
   message ← written_in message arguments
-  Some (link.Send sender message)
+  timeout ← timeout_in arguments
+  Some (sending_of sender message timeout)
 
 unfoldable pub outcome_call_in : List (List ℕ) → Option LinkCall
 outcome_call_in arguments = do

@@ -6,7 +6,7 @@ use Rattle.amqp_script.specs.Keys.{value_at}
 use Rattle.amqp_script.specs.Number.{number_in}
 use Rattle.amqp_script.specs.Fields.{text_in, if_there, or_else}
 use Rattle.amqp_link_script.specs.declared.keys.LinkKey.{LinkKey}
-use Rattle.amqp_link_script.specs.declared.keys.LinkKey.TheVariants.{Name, Source, Target, Snd, Rcv, Max, Count, Dynamic, Credit, Dyn, Settled, Batchable, Auto, Error}
+use Rattle.amqp_link_script.specs.declared.keys.LinkKey.TheVariants.{Name, Source, Target, Snd, Rcv, Max, Count, Dynamic, Credit, Dyn, Settled, Batchable, Auto, Error, Timeout}
 
 -- how a key is written
 abbrev pub name_of : LinkKey → List ℕ
@@ -24,6 +24,7 @@ name_of Settled = codes "settled"
 name_of Batchable = codes "batchable"
 name_of Auto = codes "auto"
 name_of Error = codes "error"
+name_of Timeout = codes "timeout"
 
 -- an argument has one of these keys, and no later one has its name
 abbrev pub is_first_of : List LinkKey → Option (List ℕ × List ℕ) → List (List ℕ) → Bool
@@ -61,6 +62,10 @@ optional_choice_in key arguments = if_there choice_in (value_of key arguments)
 -- the number of a key, below 2^32, and 0 where the key is left out
 abbrev pub count_in : List (List ℕ) → Option ℕ
 count_in arguments = or_else 0 (number_in (2 ^ 32 - 1)) (value_of Count arguments)
+
+-- how long a call waits, in milliseconds below 2^64, where the key is there
+abbrev pub timeout_in : List (List ℕ) → Option (Option ℕ)
+timeout_in arguments = if_there (number_in (2 ^ 64 - 1)) (value_of Timeout arguments)
 
 -- the largest message in bytes, below 2^64, where there is a limit
 abbrev pub max_in : List (List ℕ) → Option (Option ℕ)

@@ -11,7 +11,7 @@ use Rattle.amqp_messages.specs.Reading.{SpellsMessage}
 use Rattle.amqp_messages.specs.Writing.{message_items, AllFit}
 use Rattle.amqp_link_words.specs.declared.link_call.Sendable.{Sendable}
 use Rattle.amqp_link_words.specs.declared.link_call.LinkCall.{LinkCall}
-use Rattle.amqp_link_words.specs.declared.link_call.LinkCall.TheVariants.{Send}
+use Rattle.amqp_link_words.specs.declared.link_call.LinkCall.TheVariants.{Send, SendTimed}
 use Rattle.amqp_script.specs.declared.script.line_error.LineError.{LineError}
 use Rattle.amqp_script.specs.declared.script.line_error.LineError.TheVariants.{Memory, Outside}
 use Rattle.amqp_script.specs.Words.{split_once}
@@ -86,4 +86,6 @@ pub record IsSent (written sent : Sendable) : Type 0 where
 -- the call of a call in which a message stands as it is written
 abbrev pub IsCall : LinkCall → LinkCall → Type 0
 IsCall (Send sender written) call = (sent : Sendable) × ((call ≡ Send sender sent) × IsSent written sent)
+IsCall (SendTimed sender written timeout) call =
+    (sent : Sendable) × ((call ≡ SendTimed sender sent timeout) × IsSent written sent)
 IsCall written call = written ≡ call

@@ -1,6 +1,6 @@
 //! The text of the answers to calls for links.
 //!
-//! An answer is `pending`, `sender`, `receiver`, `sent`, `disposer`, `done`, `detached`, `closed`, `credit N`, `outcome STATE`, `delivery ID TAG MESSAGE` with the
+//! An answer is `pending`, `sender`, `receiver`, `sent`, `disposer`, `done`, `detached`, `closed`, `error Elapsed`, `credit N`, `outcome STATE`, `delivery ID TAG MESSAGE` with the
 //! message in canonical bytes, or `error PATH FIELDS` with a PATH that begins with `SenderAttach`, `ReceiverAttach`, `Accept`, `Send`,
 //! `Recv`, `Disposition`, `Flow` or `Detach`. A STATE is `accepted`, `released`, `rejected` and the error or `-`, `modified F U MAP` with `yes`,
 //! `no` or `-` for the two flags, or `declared BYTES`. In place of the message stands `long` where it has no canonical bytes.
@@ -176,6 +176,7 @@ pub fn push_link_answer(
             push_illegal_state(alloc, out, b"error Disposition.", error)
         }
         LinkReply::FlowError(error) => { push_illegal_state(alloc, out, b"error Flow.", error) }
+        LinkReply::Elapsed => push_word(out, b"error Elapsed"),
         LinkReply::Detached => push_word(out, b"detached"),
         LinkReply::Closed => push_word(out, b"closed"),
         LinkReply::DetachError(error) => { push_detach(alloc, out, b"error Detach.", error) }

@@ -5,7 +5,7 @@
 //! | `sender S name=T target=T source=T snd=M rcv=R max=N count=N dynamic=yes` | the client attaches a sender on the session S |
 //! | `receiver S name=T source=T target=T snd=M rcv=R max=N credit=C auto=yes dynamic=yes` | the client attaches a receiver |
 //! | `accept_link S max=N credit=C auto=yes count=N dyn=T` | the listener accepts the first link that waits, or the next |
-//! | `send L MSG settled=B batchable=yes` | sends a message at the sender L |
+//! | `send L MSG settled=B batchable=yes timeout=N` | sends a message at the sender L; with a time it waits for credit and outcome |
 //! | `outcome P` | asks what has become of the message that the step P sent |
 //! | `recv L` | asks the receiver L for the next message |
 //! | `dispose L STATE D,D` | gives the deliveries of the steps D, one or more, the state in which they end |
@@ -17,12 +17,12 @@
 //! | `disposer L` | makes a disposer of the deliveries of the receiver L |
 //! | `disposer_accept X D`, `disposer_release X D` | accepts or releases the delivery of the step D by the disposer X |
 //! | `on_detach L` | waits for the peer's Detach of the link L |
-//! | `detach L error=T`, `close_link L error=T` | detaches or closes it; T, if there, is the condition of an error |
+//! | `detach L error=T timeout=N`, `close_link L error=T` | detaches or closes it; T, if there, is the condition of an error |
 //! | `abandon L` | closes it, and waits for no answer |
 //!
 //! S, L, P, D and X are positions of steps, from 0, below 2^64. `name` is there at each `sender` and `receiver`. M is `unsettled`,
 //! `settled` or `mixed`, as where it is left out; R is `first`, as where it is left out, or `second`. `max` (bytes, else no limit) is
-//! below 2^64, `count` (else 0) and credit below 2^32. C is `manual`, or how much credit is given again and again, 200 where it is
+//! below 2^64, `timeout` (milliseconds, else for ever) too, `count` (else 0) and credit below 2^32. C is `manual`, or how much credit is given again and again, 200 where it is
 //! left out. With `auto` a receiver accepts each delivery as it gives it. `dynamic` asks for a node that is made; `dyn` is the address of such nodes. B is `yes` or `no`. MSG is `text:T`, a message
 //! with one string, or `hex:H`, the bytes of a message in hexadecimal digits. STATE is `accepted`, `released`, `rejected` or
 //! `rejected:T` with the condition of an error, `modified` or `modified:` with `f` (failed), `u` (undeliverable here) or `fu`.
@@ -31,10 +31,10 @@ ghost use Rattle.amqp_script.specs.Fields.{Says};
 ghost use Rattle.amqp_script.specs.Words.{words_left};
 ghost use Rattle.amqp_link_script.specs.Names.{one_name_in};
 ghost use Rattle.amqp_link_script.specs.Partings.{on_detach_call_in, detach_call_in, close_call_in, abandon_call_in};
-ghost use Rattle.amqp_link_script.specs.Calls.{sender_call_in, receiver_call_in, accept_call_in, written_of, written_in, send_call_in, outcome_call_in, recv_call_in, credit_call_in, dispose_of, dispose_call_in, set_credit_of, set_credit_call_in, call_in};
+ghost use Rattle.amqp_link_script.specs.Calls.{sender_call_in, receiver_call_in, accept_call_in, written_of, written_in, sending_of, send_call_in, outcome_call_in, recv_call_in, credit_call_in, dispose_of, dispose_call_in, set_credit_of, set_credit_call_in, call_in};
 
 use crate::disposals::{names, state};
-use crate::keys::{LinkKey, flag, has_only, optional_choice, ulong};
+use crate::keys::{LinkKey, flag, has_only, optional_choice, timeout, ulong};
 use crate::partings::{abandon_call, close_call, detach_call, on_detach_call};
 use crate::regulating::{
     auto_call, credit_mode_call, dispose_by_call, disposer_call, regulating_call,
@@ -48,7 +48,7 @@ use amqp_script::script::words::Words;
 use bytes::Bytes;
 use std::alloc::Global;
 
-const SEND_KEYS: [LinkKey; 2] = [LinkKey::Settled, LinkKey::Batchable];
+const SEND_KEYS: [LinkKey; 3] = [LinkKey::Settled, LinkKey::Batchable, LinkKey::Timeout];
 
 #[tactic(auto, unfolding(crate::specs::Calls::sender_call_in))]
 fn sender_call(alloc: Global, arguments: Words<'_>) -> Result<LinkCall, LineError>
@@ -123,6 +123,20 @@ fn written(alloc: Global, message: &[u8], arguments: Words<'_>) -> Result<Sendab
     written_fields(alloc, message, arguments)
 }
 
+/// The call that sends a message, with a time or without.
+fn sending(link: u64, message: Sendable, timeout: Option<u64>) -> LinkCall
+    ensures { result ≡ sending_of link message timeout }
+{
+    match timeout {
+        Some(timeout) => LinkCall::SendTimed {
+            link,
+            message,
+            timeout,
+        },
+        None => LinkCall::Send { link, message },
+    }
+}
+
 #[tactic(auto, unfolding(crate::specs::Calls::send_call_in))]
 fn send_call(alloc: Global, arguments: Words<'_>) -> Result<LinkCall, LineError>
     ensures { Says (send_call_in (words_left arguments.entry)) result }
@@ -133,7 +147,8 @@ fn send_call(alloc: Global, arguments: Words<'_>) -> Result<LinkCall, LineError>
     };
     let link = ulong(link)?;
     let message = written(alloc, message, arguments)?;
-    Ok(LinkCall::Send { link, message })
+    let timeout = timeout(arguments)?;
+    Ok(sending(link, message, timeout))
 }
 
 /// The one name that the arguments are.

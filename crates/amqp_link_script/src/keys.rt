@@ -4,7 +4,7 @@ ghost use Rattle.std.specs.List.{list_any};
 ghost use Rattle.amqp_script.specs.Fields.{Says};
 ghost use Rattle.amqp_script.specs.Number.{number_in};
 ghost use Rattle.amqp_script.specs.Words.{words_left};
-ghost use Rattle.amqp_link_script.specs.Keys.{name_of, has_only as only_test, value_of as value_in, optional_text_in, yes_in, flag_in, choice_in, optional_choice_in, count_in, max_in};
+ghost use Rattle.amqp_link_script.specs.Keys.{name_of, has_only as only_test, value_of as value_in, optional_text_in, yes_in, flag_in, choice_in, optional_choice_in, count_in, max_in, timeout_in};
 
 use amqp_script::script::fields::{text, uint};
 use amqp_script::script::keys::value_at;
@@ -45,6 +45,8 @@ pub enum LinkKey {
     Auto,
     /// The condition of an error.
     Error,
+    /// How long a call waits, in milliseconds.
+    Timeout,
 }
 
 impl LinkKey {
@@ -67,6 +69,7 @@ impl LinkKey {
             LinkKey::Batchable => b"batchable",
             LinkKey::Auto => b"auto",
             LinkKey::Error => b"error",
+            LinkKey::Timeout => b"timeout",
         }
     }
 }
@@ -177,6 +180,19 @@ pub fn ulong(argument: &[u8]) -> Result<u64, LineError>
     ensures { Says (number_in (2 ^ 64 - 1) argument.now) result }
 {
     number(u64::MAX, argument).ok_or(LineError::Outside)
+}
+
+/// How long a call waits, in milliseconds, where the key is there.
+pub fn timeout(arguments: Words<'_>) -> Result<Option<u64>, LineError>
+    ensures { Says (timeout_in (words_left arguments.entry)) result }
+{
+    match value_of(arguments, LinkKey::Timeout) {
+        Some(value) => {
+            let timeout = ulong(value)?;
+            Ok(Some(timeout))
+        }
+        None => Ok(None),
+    }
 }
 
 /// The largest message in bytes, where there is a limit.

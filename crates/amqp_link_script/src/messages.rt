@@ -139,13 +139,25 @@ fn sent(alloc: Global, written: Sendable) -> Result<Sendable, LineError>
 }
 
 /// The call of a call in which a message stands as it is written.
-#[tactic(auto, using(crate::proofs::Sent::no_call))]
+#[tactic(auto, using(crate::proofs::Sent::no_call, crate::proofs::Sent::no_timed_call))]
 pub fn with_message(alloc: Global, call: LinkCall) -> Result<LinkCall, LineError>
     ensures { Made (IsCall call) result }
 {
     match call {
         LinkCall::Send { link, message } => match sent(alloc, message) {
             Ok(message) => Ok(LinkCall::Send { link, message }),
+            Err(error) => Err(error),
+        },
+        LinkCall::SendTimed {
+            link,
+            message,
+            timeout,
+        } => match sent(alloc, message) {
+            Ok(message) => Ok(LinkCall::SendTimed {
+                link,
+                message,
+                timeout,
+            }),
             Err(error) => Err(error),
         },
         other => Ok(other),

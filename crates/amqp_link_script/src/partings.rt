@@ -4,7 +4,7 @@ ghost use Rattle.amqp_script.specs.Words.{words_left};
 ghost use Rattle.amqp_link_script.specs.Partings.{on_detach_call_in, abandon_call_in, condition_in, error_in, detach_call_in, close_call_in};
 
 use crate::calls::one_name;
-use crate::keys::{LinkKey, has_only, ulong, value_of};
+use crate::keys::{LinkKey, has_only, timeout, ulong, value_of};
 use amqp_link_words::{LinkCall, Parting};
 use amqp_script::script::fields::symbol;
 use amqp_script::script::line_error::LineError;
@@ -12,7 +12,9 @@ use amqp_script::script::words::Words;
 use amqp_text::Symbol;
 use std::alloc::Global;
 
-const ERROR_KEYS: [LinkKey; 1] = [LinkKey::Error];
+const CLOSE_KEYS: [LinkKey; 1] = [LinkKey::Error];
+
+const DETACH_KEYS: [LinkKey; 2] = [LinkKey::Error, LinkKey::Timeout];
 
 #[tactic(auto, unfolding(crate::specs::Partings::on_detach_call_in))]
 pub(crate) fn on_detach_call(arguments: Words<'_>) -> Result<LinkCall, LineError>
@@ -49,11 +51,11 @@ fn condition(alloc: Global, arguments: Words<'_>) -> Result<Option<Symbol>, Line
     }
 }
 
-/// The condition of the error that the peer is told, if the arguments say one and no more.
-fn error(alloc: Global, arguments: Words<'_>) -> Result<Option<Symbol>, LineError>
-    ensures { Says (error_in (words_left arguments.entry)) result }
+/// The condition of the error that the peer is told, if the arguments say one; they have only these keys.
+fn error(alloc: Global, keys: &[LinkKey], arguments: Words<'_>) -> Result<Option<Symbol>, LineError>
+    ensures { Says (error_in keys.now (words_left arguments.entry)) result }
 {
-    if !has_only(&ERROR_KEYS, arguments) {
+    if !has_only(keys, arguments) {
         return Err(LineError::Outside);
     }
     condition(alloc, arguments)
@@ -68,10 +70,11 @@ pub(crate) fn detach_call(alloc: Global, arguments: Words<'_>) -> Result<LinkCal
         return Err(LineError::Outside);
     };
     let link = ulong(link)?;
-    let error = error(alloc, arguments)?;
+    let error = error(alloc, &DETACH_KEYS, arguments)?;
+    let timeout = timeout(arguments)?;
     Ok(LinkCall::Part {
         link,
-        parting: Parting::Detach { error },
+        parting: Parting::Detach { error, timeout },
     })
 }
 
@@ -84,7 +87,7 @@ pub(crate) fn close_call(alloc: Global, arguments: Words<'_>) -> Result<LinkCall
         return Err(LineError::Outside);
     };
     let link = ulong(link)?;
-    let error = error(alloc, arguments)?;
+    let error = error(alloc, &CLOSE_KEYS, arguments)?;
     Ok(LinkCall::Part {
         link,
         parting: Parting::Close { error },

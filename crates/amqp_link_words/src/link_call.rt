@@ -52,6 +52,8 @@ pub enum Parting {
     Detach {
         /// The condition of the error that the peer is told, if it is told one.
         error: Option<Symbol>,
+        /// How long the call waits, in milliseconds; without it the call waits until it is answered.
+        timeout: Option<u64>,
     },
     /// Closes the link.
     Close {
@@ -96,6 +98,15 @@ pub enum LinkCall {
         link: u64,
         /// The message.
         message: Sendable,
+    },
+    /// Sends a message, and asks what becomes of it: waits for credit and for the outcome, but only so long.
+    SendTimed {
+        /// The name of the sender.
+        link: u64,
+        /// The message.
+        message: Sendable,
+        /// How long the call waits, in milliseconds.
+        timeout: u64,
     },
     /// Asks what has become of a message.
     Outcome {
@@ -203,9 +214,12 @@ impl Parting {
     {
         match self {
             Parting::OnDetach => Ok(Parting::OnDetach),
-            Parting::Detach { error } => {
+            Parting::Detach { error, timeout } => {
                 let error = copied_condition(alloc, error)?;
-                Ok(Parting::Detach { error })
+                Ok(Parting::Detach {
+                    error,
+                    timeout: *timeout,
+                })
             }
             Parting::Close { error } => {
                 let error = copied_condition(alloc, error)?;
@@ -267,6 +281,17 @@ impl LinkCall {
         Ok(LinkCall::Send { link, message })
     }
 
+    fn send_timed(link: u64, message: &Sendable, timeout: u64) -> Result<Self, AllocError>
+        ensures { IfOk result (λ c. c ≡ LinkCall.SendTimed link message.now timeout) }
+    {
+        let message = message.try_clone()?;
+        Ok(LinkCall::SendTimed {
+            link,
+            message,
+            timeout,
+        })
+    }
+
     fn dispose(
         alloc: Global,
         link: u64,
@@ -316,6 +341,11 @@ impl LinkCall {
                 auto_accept,
             } => LinkCall::accept(alloc, *session, settings, *credit_mode, *auto_accept),
             LinkCall::Send { link, message } => LinkCall::send(*link, message),
+            LinkCall::SendTimed {
+                link,
+                message,
+                timeout,
+            } => LinkCall::send_timed(*link, message, *timeout),
             LinkCall::Outcome { send } => Ok(LinkCall::Outcome { send: *send }),
             LinkCall::Recv { link } => Ok(LinkCall::Recv { link: *link }),
             LinkCall::Dispose {

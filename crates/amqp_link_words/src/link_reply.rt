@@ -20,8 +20,8 @@ pub enum AcceptError {
 /// The answer to a call for a link.
 #[derive(Debug)]
 pub enum LinkReply {
-    /// Not yet. To a `send` and a `recv` it is the only answer, and nothing was done; to another call an answer may follow in a later
-    /// step.
+    /// Not yet. To a `send` without a time and a `recv` it is the only answer, and nothing was done; to another call an answer may
+    /// follow in a later step.
     Pending,
     /// A sender is attached at both ends.
     Sender,
@@ -58,6 +58,8 @@ pub enum LinkReply {
     DispositionError(DispositionError),
     /// No credit is given.
     FlowError(FlowError),
+    /// The time of the call is over, and no other answer was there.
+    Elapsed,
     /// Both ends have detached the link.
     Detached,
     /// Both ends have closed the link.
@@ -76,6 +78,7 @@ impl Drop for LinkReply {
             | LinkReply::Sent
             | LinkReply::Disposer
             | LinkReply::Done
+            | LinkReply::Elapsed
             | LinkReply::Detached
             | LinkReply::Closed
             | LinkReply::Credit(_) => {}

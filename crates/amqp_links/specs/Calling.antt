@@ -26,13 +26,9 @@ use Rattle.amqp_links.specs.Numbering.{given_left, is_done, disposed_left}
 use Rattle.amqp_links.specs.Regulating.{regulating_at}
 use Rattle.amqp_links.specs.State.{State, entered, link_of, with_link, answering}
 use Rattle.amqp_links.specs.Taking.{finished}
+use Rattle.amqp_links.specs.Timing.{send_kept, timed_sending}
 
 -- ---- sending
-
--- a message that was sent is known by the name of its call
-abbrev pub send_kept : ℕ → ℕ → Option DeliveryToken → State → State
-send_kept name link None s = s
-send_kept name link (Some token) s = record s { sends = insert_entry nat_eq s.sends name (record { link = link; token = token }) }
 
 abbrev pub sending_at : Option Called → ℕ → ℕ → Sendable → State → State
 sending_at None name link x s = s
@@ -42,7 +38,7 @@ sending_at (Some l) name link x s =
 abbrev pub outcome_at : Option Called → ℕ → ℕ → DeliveryToken → State → State
 outcome_at None name link token s = s
 outcome_at (Some l) name link token s =
-    finished name link (answering_of.outcome_at token.place l.side) (with_link link (outcome_asked name token.place l) s)
+    finished name link (answering_of.outcome_now token.place l) (with_link link (outcome_asked name token.place l) s)
 
 abbrev pub outcome_for : Option SentDelivery → ℕ → State → State
 outcome_for None name s = s
@@ -103,6 +99,7 @@ Calls name (call.Receiver session settings) max old new = new ≡ attaching_rece
 Calls name (call.Accept session settings credit_mode auto_accept) max old new =
     new ≡ accepting session (waiting_as name settings credit_mode auto_accept max) (entered session old)
 Calls name (call.Send link message) max old new = new ≡ sending_at (link_of link old) name link message old
+Calls name (call.SendTimed link message timeout) max old new = new ≡ timed_sending name link message timeout old
 Calls name (call.Outcome send) max old new = new ≡ outcome_for (lookup (nat_eq send) old.sends) name old
 Calls name (call.Recv link) max old new = ReceivesAt (link_of link old) name link old new
 Calls name (call.Dispose link disposal deliveries) max old new = new ≡ disposing name link disposal deliveries old

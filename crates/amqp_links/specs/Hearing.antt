@@ -16,6 +16,7 @@ use Rattle.amqp_links.specs.Numbering.{numbering}
 use Rattle.amqp_links.specs.Parts.{Astray, heard}
 use Rattle.amqp_links.specs.State.{State, place_of, link_of, with_link, at_place}
 use Rattle.amqp_links.specs.Taking.{taken_up}
+use Rattle.amqp_links.specs.Timing.{tried_again}
 
 -- ---- frames on the handle of the peer
 
@@ -32,10 +33,11 @@ abbrev pub hearing_at : Option Called → ℕ → LinkInput → State → State
 hearing_at None link x s = s
 hearing_at (Some l) link x s = with_link link (heard x l) s
 
--- the link hears a frame; a delivery that it begins is known by its number
+-- the link hears a frame; a delivery that it begins is known by its number, and a message that has waited for credit is tried again
 abbrev pub hearing : ℕ → ℕ → ℕ → LinkInput → State → State
 hearing session link remote x s =
-    let t = numbering session link x (parting (is_detach x) session remote s) in taken_up link (hearing_at (link_of link t) link x t)
+    let t = numbering session link x (parting (is_detach x) session remote s) in
+    taken_up link (tried_again (is_detach x) link (hearing_at (link_of link t) link x t))
 
 -- the link of that handle of the peer
 abbrev pub link_from_at : ℕ → Option Place → Option ℕ

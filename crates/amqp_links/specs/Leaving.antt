@@ -7,7 +7,8 @@ use Rattle.amqp_link_words.specs.declared.link_call.Parting.TheVariants as parti
 use Rattle.amqp_session_links.specs.Claims.{spending}
 use Rattle.amqp_links.specs.Parts.{name_of}
 use Rattle.amqp_links.specs.State.{State, with_link, at_place}
-use Rattle.amqp_links.specs.Taking.{finished}
+use Rattle.amqp_links.specs.Taking.{taken_up}
+use Rattle.amqp_links.specs.Timing.{part_told}
 
 -- a call that detaches, closes or abandons a link
 abbrev pub is_leaving : Parting → Bool
@@ -19,7 +20,13 @@ abbrev pub spent_if : Bool → ℕ → List ℕ → State → State
 spent_if true session name s = at_place session (spending name) s
 spent_if false session name s = s
 
+-- how long the call waits, where it waits only so long
+abbrev pub timeout_of : Parting → Option ℕ
+timeout_of (parting.Detach error timeout) = timeout
+timeout_of other = None
+
 abbrev pub leaving_at : Option Called → ℕ → ℕ → Parting → State → State
 leaving_at None name link x s = s
 leaving_at (Some l) name link x s =
-    finished name link (leaves name x l).reply (spent_if (is_leaving x) l.session (name_of l) (with_link link (leaves name x l).called s))
+    let t = spent_if (is_leaving x) l.session (name_of l) (with_link link (leaves name x l).called s) in
+    taken_up link (part_told (timeout_of x) (leaves name x l).reply name link t)

@@ -1,6 +1,7 @@
 pub mod Parts
 pub mod State
 pub mod Taking
+pub mod Timing
 pub mod Leaving
 pub mod May
 pub mod Attaching

@@ -16,6 +16,7 @@ use Rattle.amqp_links.specs.declared.links.GivenDelivery.{GivenDelivery}
 use Rattle.amqp_links.specs.declared.links.KeptDisposer.{KeptDisposer}
 use Rattle.amqp_links.specs.declared.links.SentDelivery.{SentDelivery}
 use Rattle.amqp_links.specs.State.{State, place_of, link_of}
+use Rattle.amqp_links.specs.Timing.{is_sending}
 
 -- whether a call waits on the session
 abbrev pub busy_at : Option Place → Bool
@@ -43,13 +44,13 @@ same_role role.Sender role.Sender = true
 same_role role.Receiver role.Receiver = true
 same_role x y = false
 
--- whether the link was made, with this end in that role, and takes calls
+-- whether the link was made, with this end in that role, and takes calls, while no send with a time waits there
 abbrev pub made_as : Role → Option Called → Bool
 made_as role None = false
 made_as role (Some l) = takes_calls l && same_role (role_of l.side) role
 
 abbrev pub is_made : ℕ → Role → State → Bool
-is_made link role s = made_as role (link_of link s)
+is_made link role s = made_as role (link_of link s) && not (is_sending link s)
 
 -- whether that message was sent, and no call waits for its outcome
 abbrev pub may_ask_at : DeliveryToken → Option Called → Bool
@@ -90,12 +91,16 @@ may_leave_at x None = false
 may_leave_at parting.Abandon (Some l) = may_abandon l
 may_leave_at other (Some l) = takes_calls l
 
+abbrev pub may_leave : ℕ → Parting → State → Bool
+may_leave link x s = may_leave_at x (link_of link s) && not (is_sending link s)
+
 -- whether a call is taken
 abbrev pub may_call : LinkCall → State → Bool
 may_call (call.Sender session settings) s = may_attach session settings.name s
 may_call (call.Receiver session settings) s = may_attach session settings.name s
 may_call (call.Accept session settings credit_mode auto_accept) s = not (is_busy_on session s)
 may_call (call.Send link message) s = message.has_body && is_made link role.Sender s
+may_call (call.SendTimed link message timeout) s = message.has_body && is_made link role.Sender s
 may_call (call.Outcome send) s = may_ask send s
 may_call (call.Recv link) s = is_made link role.Receiver s
 may_call (call.Dispose link disposal deliveries) s = may_dispose link deliveries s
@@ -104,7 +109,7 @@ may_call (call.Credit link) s = is_made link role.Receiver s
 may_call (call.Regulate link regulation) s = is_made link role.Receiver s
 may_call (call.Disposer link) s = is_made link role.Receiver s
 may_call (call.DisposeBy disposer disposal delivery) s = may_dispose_by (lookup (nat_eq disposer) s.disposers) delivery s
-may_call (call.Part link x) s = may_leave_at x (link_of link s)
+may_call (call.Part link x) s = may_leave link x s
 
 abbrev pub MayCall : State → LinkCall → Type 0
 MayCall s x = IsTrue (may_call x s)

@@ -11,11 +11,13 @@ use Rattle.amqp_links.specs.declared.links.GivenDelivery.{GivenDelivery}
 use Rattle.amqp_links.specs.declared.links.KeptDisposer.{KeptDisposer}
 use Rattle.amqp_links.specs.declared.links.Links.{Links}
 use Rattle.amqp_links.specs.declared.links.SentDelivery.{SentDelivery}
+use Rattle.amqp_links.specs.declared.timed.TimedCall.{TimedCall}
 use Rattle.amqp_links.specs.Parts.{Told, Pops}
 
 -- whether this end accepts the links of the peer; what the links of each session share; the links by the names of the calls that made
--- them; the messages that were sent, the deliveries that were given and the disposers that were made, by the names of their calls; what is
--- to be done on the sessions; the answers that were not taken
+-- them; the messages that were sent, the deliveries that were given and the disposers that were made, by the names of their calls; the calls
+-- with a time, by the links at which they wait; the moment of the step, in milliseconds; what is to be done on the sessions; the answers that
+-- were not taken
 pub record State : Type 0 where
   pub accepts : Bool
   pub sessions : List (ℕ × Place)
@@ -23,6 +25,8 @@ pub record State : Type 0 where
   pub sends : List (ℕ × SentDelivery)
   pub deliveries : List (ℕ × GivenDelivery)
   pub disposers : List (ℕ × KeptDisposer)
+  pub timed : List (ℕ × TimedCall)
+  pub moment : ℕ
   pub output : List Told
   pub replies : List NamedLinkReply
 
@@ -39,13 +43,15 @@ seen s = record {
   sends = s.sends.entries;
   deliveries = s.deliveries.entries;
   disposers = s.disposers.entries;
+  timed = s.timed.entries;
+  moment = s.moment;
   output = s.output;
   replies = s.replies.items;
 }
 
 -- there are no links
 abbrev pub no_links : Bool → State
-no_links accepts = record { accepts = accepts; sessions = []; endpoints = []; sends = []; deliveries = []; disposers = []; output = []; replies = [] }
+no_links accepts = record { accepts = accepts; sessions = []; endpoints = []; sends = []; deliveries = []; disposers = []; timed = []; moment = 0; output = []; replies = [] }
 
 -- what the links of the session of that name share
 abbrev pub place_of : ℕ → State → Option Place

@@ -1,5 +1,5 @@
 -- The end of a session, as its links see it (OASIS AMQP 1.0, part 2, sections 2.5.4 and 2.6.5).
-use Rattle.std.specs.Prelude.{ℕ, List, [], ◌∷◌, Option, Some, None}
+use Rattle.std.specs.Prelude.{ℕ, true, List, [], ◌∷◌, Option, Some, None}
 use Rattle.amqp_frames.specs.declared.shared.SessionStopReason.{SessionStopReason}
 use Rattle.amqp_link_calls.specs.Answering.{answers_taken}
 use Rattle.amqp_link_calls.specs.Hearing.{concluded}
@@ -8,16 +8,17 @@ use Rattle.amqp_link_calls.specs.Called as called
 use Rattle.amqp_session_links.specs.State.{State as Place, stopped}
 use Rattle.amqp_links.specs.State.{State, place_of, link_of, with_link, at_place, answering_all}
 use Rattle.amqp_links.specs.Taking.{attach_told}
+use Rattle.amqp_links.specs.Timing.{tried_again}
 
 -- the links of a session
 abbrev pub links_at : Option Place → List ℕ
 links_at None = []
 links_at (Some p) = p.links
 
--- one of them stops
+-- one of them stops: a message that has waited for credit is refused
 abbrev pub stopped_at : Option Called → ℕ → SessionStopReason → State → State
 stopped_at None link why s = s
-stopped_at (Some l) link why s = with_link link (called.stopped why l) s
+stopped_at (Some l) link why s = tried_again true link (with_link link (called.stopped why l) s)
 
 abbrev pub all_stopped : List ℕ → SessionStopReason → State → State
 all_stopped [] why s = s

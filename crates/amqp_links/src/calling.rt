@@ -1,13 +1,13 @@
 //! The calls on links (OASIS AMQP 1.0, part 2, sections 2.6.7 and 2.6.12).
 ghost use Rattle.std.specs.Prelude.{◌≡◌, ◌++◌, nat_eq, option_map, OnOk, IfOk};
 ghost use Rattle.std.specs.Map.{lookup};
-ghost use Rattle.amqp_links.specs.Calling.{send_kept, sending_at, outcome_at, outcome_for, info_of, delivery_kept, ReceivesAt, disposing, crediting_at, credit_at, Calls};
+ghost use Rattle.amqp_links.specs.Calling.{sending_at, outcome_at, outcome_for, info_of, delivery_kept, ReceivesAt, disposing, crediting_at, credit_at, Calls};
 ghost use Rattle.amqp_links.specs.Disposers.{info_at, infos_of};
 ghost use Rattle.amqp_links.specs.State.{seen, link_of};
 ghost use Rattle.amqp_links.specs.Leaving.{leaving_at};
 ghost use Rattle.amqp_links.specs.Taking.{finished};
 
-use crate::links::{GivenDelivery, Links, SentDelivery};
+use crate::links::{GivenDelivery, Links};
 use amqp_delivery::DeliveryInfo;
 use amqp_link_words::{Disposal, LinkCall, LinkReply, Sendable};
 use amqp_sender::DeliveryToken;
@@ -64,6 +64,11 @@ impl Links {
                 self.accept(session, accept)
             }
             LinkCall::Send { link, message } => self.send(name, link, message),
+            LinkCall::SendTimed {
+                link,
+                message,
+                timeout,
+            } => self.send_timed(name, link, message, timeout),
             LinkCall::Outcome { send } => self.outcome(name, send),
             LinkCall::Recv { link } => self.recv(name, link),
             LinkCall::Dispose {
@@ -95,23 +100,6 @@ impl Links {
     {
         self.answer(name, reply)?;
         self.take_up(link)
-    }
-
-    fn keep_send(
-        &mut self,
-        name: u64,
-        link: u64,
-        token: Option<DeliveryToken>,
-    ) -> Result<(), AllocError>
-        ensures { OnOk result (seen self.new ≡ send_kept name link token (seen self.old)) }
-    {
-        match token {
-            Some(token) => {
-                self.sends.insert(name, SentDelivery { link, token })?;
-                Ok(())
-            }
-            None => Ok(()),
-        }
     }
 
     /// Sends a message.

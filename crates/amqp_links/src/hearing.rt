@@ -112,7 +112,7 @@ impl Links {
         }
     }
 
-    /// The link hears a frame; a Detach makes the handle of the peer free.
+    /// The link hears a frame; a Detach makes the handle of the peer free. A message that has waited for credit is tried again.
     pub(crate) fn hear(
         &mut self,
         session: u64,
@@ -122,9 +122,11 @@ impl Links {
     ) -> Result<(), AllocError>
         ensures { OnOk result (seen self.new ≡ hearing session link remote input (seen self.old)) }
     {
-        self.part_if(is_detach(&input), session, remote);
+        let is_detach = is_detach(&input);
+        self.part_if(is_detach, session, remote);
         self.number(session, link, &input)?;
         self.hear_at(link, input)?;
+        self.try_again(link, is_detach)?;
         self.take_up(link)
     }
 

@@ -1,6 +1,6 @@
 //! The calls that leave links (OASIS AMQP 1.0, part 2, sections 2.6.4 to 2.6.6).
 ghost use Rattle.std.specs.Prelude.{◌≡◌, OnOk};
-ghost use Rattle.amqp_links.specs.Leaving.{is_leaving, spent_if, leaving_at};
+ghost use Rattle.amqp_links.specs.Leaving.{is_leaving, timeout_of, spent_if, leaving_at};
 ghost use Rattle.amqp_links.specs.State.{seen, link_of};
 
 use crate::links::Links;
@@ -18,6 +18,16 @@ fn is_leaving(parting: &Parting) -> bool
     match parting {
         Parting::OnDetach => false,
         Parting::Detach { .. } | Parting::Close { .. } | Parting::Abandon => true,
+    }
+}
+
+/// How long a call waits, in milliseconds, where it waits only so long.
+fn timeout_of(parting: &Parting) -> Option<u64>
+    ensures { result ≡ timeout_of parting.now }
+{
+    match parting {
+        Parting::Detach { error: _, timeout } => *timeout,
+        Parting::OnDetach | Parting::Close { .. } | Parting::Abandon => None,
     }
 }
 
@@ -49,10 +59,12 @@ impl Links {
             return Ok(());
         };
         let is_leaving = is_leaving(&parting);
+        let timeout = timeout_of(&parting);
         let session = endpoint.session();
         let link_name = endpoint.name().try_clone(alloc)?;
         let reply = endpoint.part(name, parting)?;
         self.spend_if(is_leaving, session, link_name)?;
-        self.finish(name, link, reply)
+        self.tell_part(timeout, reply, name, link)?;
+        self.take_up(link)
     }
 }

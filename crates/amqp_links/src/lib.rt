@@ -4,6 +4,7 @@
 
 pub use links::{GivenDelivery, KeptDisposer, Links, SentDelivery};
 pub use output::LinksOutput;
+pub use timed::{Awaited, TimedCall, Timer};
 
 mod accepting;
 mod attaching;
@@ -18,3 +19,5 @@ mod regulating;
 mod settling;
 mod stopping;
 mod taking;
+pub mod timed;
+mod timing;

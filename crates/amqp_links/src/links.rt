@@ -1,11 +1,12 @@
 //! The links of an end.
 ghost use Rattle.std.specs.Prelude.{◌≡◌, ◌↔◌, IsTrue, [], nat_eq, option_map, Some, OnOk};
 ghost use Rattle.std.specs.Map.{lookup};
-ghost use Rattle.amqp_links.specs.May.{MayCall, may_call, is_busy_on, is_spent_on, may_attach, same_role, made_as, is_made, may_ask, may_ask_at, given_by, are_given, is_any, may_dispose, may_dispose_by, may_leave_at};
+ghost use Rattle.amqp_links.specs.May.{MayCall, may_call, is_busy_on, is_spent_on, may_attach, same_role, made_as, is_made, may_ask, may_ask_at, given_by, are_given, is_any, may_dispose, may_dispose_by, may_leave_at, may_leave};
 ghost use Rattle.amqp_links.specs.Parts.{told};
 ghost use Rattle.amqp_links.specs.State.{seen, no_links, link_of, answering, answering_all, TakesOutput};
 
 use crate::output::{LinksOutput, OutputQueue};
+use crate::timed::TimedCall;
 use amqp_composites::modes::Role;
 use amqp_data::Text;
 use amqp_delivery::{DeliveryInfo, DisposerView};
@@ -68,6 +69,10 @@ pub struct Links {
     pub(crate) deliveries: IndexMap<u64, GivenDelivery>,
     /// The disposers that were made.
     pub(crate) disposers: IndexMap<u64, KeptDisposer>,
+    /// The calls with a time, by the links at which they wait.
+    pub(crate) timed: IndexMap<u64, TimedCall>,
+    /// The moment of the step, in milliseconds.
+    pub(crate) moment: u64,
     /// What is to be done on the sessions, in order.
     pub(crate) output: OutputQueue,
     /// The answers that were not taken, in order.
@@ -85,6 +90,8 @@ impl Drop for Links {
             sends,
             deliveries,
             disposers,
+            timed,
+            moment: _,
             output,
             replies,
         } = self;
@@ -93,6 +100,7 @@ impl Drop for Links {
         drop(sends);
         drop(deliveries);
         drop(disposers);
+        drop(timed);
         drop(output);
         drop(replies);
     }
@@ -140,6 +148,8 @@ impl Links {
             sends: IndexMap::new(alloc),
             deliveries: IndexMap::new(alloc),
             disposers: IndexMap::new(alloc),
+            timed: IndexMap::new(alloc),
+            moment: 0,
             output: OutputQueue::new(alloc),
             replies: Vec::new(alloc),
         }
@@ -156,7 +166,7 @@ impl Links {
     }
 
     /// Whether no attach may use that name again on the session.
-    fn is_spent(&self, session: u64, name: &Text) -> bool
+    pub fn is_spent(&self, session: u64, name: &Text) -> bool
         ensures { result ≡ is_spent_on session name.now (seen self.now) }
     {
         match self.sessions.get(&session) {
@@ -176,7 +186,9 @@ impl Links {
         ensures { result ≡ is_made link role (seen self.now) }
     {
         match self.endpoints.get(&link) {
-            Some(endpoint) => endpoint.takes_calls() && same_role(endpoint.role(), role),
+            Some(endpoint) => {
+                endpoint.takes_calls() && same_role(endpoint.role(), role) && !self.is_sending(link)
+            }
             None => false,
         }
     }
@@ -239,10 +251,10 @@ impl Links {
 
     /// Whether that call that leaves a link is taken.
     fn may_leave(&self, link: u64, parting: &Parting) -> bool
-        ensures { result ≡ may_leave_at parting.now (link_of link (seen self.now)) }
+        ensures { result ≡ may_leave link parting.now (seen self.now) }
     {
         match self.endpoints.get(&link) {
-            Some(endpoint) => takes(endpoint, parting),
+            Some(endpoint) => takes(endpoint, parting) && !self.is_sending(link),
             None => false,
         }
     }
@@ -251,7 +263,8 @@ impl Links {
     /// accept while none waits; a `send` of a message with a body on a sender that was made; an `outcome` of a message that was sent,
     /// where no other waits; another call for a receiver on one that was made; a disposal of one or more deliveries, each of which that
     /// receiver, or the receiver of that disposer, gave; a call that leaves a link that was made. A link takes calls while none waits
-    /// that leaves it, and once it was detached `abandon` alone, once it was closed or abandoned none, but for outcomes and disposers.
+    /// that leaves it and no send with a time, and once it was detached `abandon` alone, once it was closed or abandoned none, but for
+    /// outcomes and disposers.
     pub fn may_call(&self, call: &LinkCall) -> bool
         ensures { IsTrue result ↔ MayCall (seen self.now) call.now }
     {
@@ -267,6 +280,11 @@ impl Links {
             LinkCall::Send { link, message } => {
                 message.has_body && self.is_made(*link, Role::Sender)
             }
+            LinkCall::SendTimed {
+                link,
+                message,
+                timeout: _,
+            } => message.has_body && self.is_made(*link, Role::Sender),
             LinkCall::Outcome { send } => self.may_ask(*send),
             LinkCall::Dispose {
                 link,

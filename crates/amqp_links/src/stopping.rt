@@ -56,11 +56,12 @@ impl Links {
         ensures { OnOk result (seen self.new ≡ stopped_at (link_of link (seen self.old)) link reason.now (seen self.old)) }
     {
         let reason = copied_reason(self.alloc, reason)?;
-        match self.endpoints.get_mut(&link) {
-            Some(endpoint) => endpoint.stop(reason),
-            None => drop(reason),
-        }
-        Ok(())
+        let Some(endpoint) = self.endpoints.get_mut(&link) else {
+            drop(reason);
+            return Ok(());
+        };
+        endpoint.stop(reason);
+        self.try_again(link, true)
     }
 
     /// Nothing more comes of the session: each call that waits at its links is answered. An accept goes on waiting.

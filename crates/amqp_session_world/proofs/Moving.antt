@@ -19,6 +19,7 @@ use Rattle.amqp_end.specs.declared.end.End.{End}
 use Rattle.amqp_end.specs.Deeds.{behind}
 use Rattle.amqp_end.specs.Goes.{Goes}
 use Rattle.amqp_end.proofs.Passing.{goes_passes}
+use Rattle.amqp_session_world.specs.Paired.{paired_by}
 use Rattle.amqp_session_world.specs.Turn.{count_of, calls_of, CanAct, CanStep, IsValid, given, marked, named, Told, Turned, View, IsTurnAt, IsTurn, Turns, IsStart, IsFirstInvalid}
 
 pub named_connection : (name : ℕ) (act : Act) (e : End Piped) → (named name act e).connection ≡ e.connection
@@ -68,7 +69,7 @@ turned_by near far ran near' name count at act entry can counted g told wrote =
 -- ---- steps
 
 pub client_turned : (old mid new : View) (step : Step) (name : ℕ) (entry : Entry) → step.end ≡ Client → IsValid old step → name ≡ length old.entries → Turned old.client old.listener name step.at step.act mid.client mid.listener entry
-    → new ≡ record mid { entries = old.entries ++ entry ∷ []; moment = step.at } → IsTurn old step new
+    → new ≡ record mid { entries = old.entries ++ entry ∷ []; moment = step.at; paired = paired_by Client entry.replies.items old.paired } → IsTurn old step new
 client_turned old mid new step name entry end valid named turned is =
     subst (λ (w : View). IsTurn old step w) (sym is)
     (record {
@@ -76,12 +77,13 @@ client_turned old mid new step name entry end valid named turned is =
       entry = entry;
       entries = refl;
       moment = refl;
-      turned = subst (λ (s : Side). IsTurnAt s (length old.entries) old step (record mid { entries = old.entries ++ entry ∷ []; moment = step.at }) entry) (sym end)
+      paired = ap (λ (s : Side). paired_by s entry.replies.items old.paired) (sym end);
+      turned = subst (λ (s : Side). IsTurnAt s (length old.entries) old step (record mid { entries = old.entries ++ entry ∷ []; moment = step.at; paired = paired_by Client entry.replies.items old.paired }) entry) (sym end)
           (subst (λ (n : ℕ). Turned old.client old.listener n step.at step.act mid.client mid.listener entry) named turned);
     })
 
 pub listener_turned : (old mid new : View) (step : Step) (name : ℕ) (entry : Entry) → step.end ≡ Listener → IsValid old step → name ≡ length old.entries → Turned old.listener old.client name step.at step.act mid.listener mid.client entry
-    → new ≡ record mid { entries = old.entries ++ entry ∷ []; moment = step.at } → IsTurn old step new
+    → new ≡ record mid { entries = old.entries ++ entry ∷ []; moment = step.at; paired = paired_by Listener entry.replies.items old.paired } → IsTurn old step new
 listener_turned old mid new step name entry end valid named turned is =
     subst (λ (w : View). IsTurn old step w) (sym is)
     (record {
@@ -89,7 +91,8 @@ listener_turned old mid new step name entry end valid named turned is =
       entry = entry;
       entries = refl;
       moment = refl;
-      turned = subst (λ (s : Side). IsTurnAt s (length old.entries) old step (record mid { entries = old.entries ++ entry ∷ []; moment = step.at }) entry) (sym end)
+      paired = ap (λ (s : Side). paired_by s entry.replies.items old.paired) (sym end);
+      turned = subst (λ (s : Side). IsTurnAt s (length old.entries) old step (record mid { entries = old.entries ++ entry ∷ []; moment = step.at; paired = paired_by Listener entry.replies.items old.paired }) entry) (sym end)
           (subst (λ (n : ℕ). Turned old.listener old.client n step.at step.act mid.listener mid.client entry) named turned);
     })
 

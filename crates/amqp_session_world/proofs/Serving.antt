@@ -13,7 +13,7 @@ use Rattle.amqp_peer.proofs.Sessions.{takes_has, session_has}
 use Rattle.amqp_sessions.specs.State.{State}
 use Rattle.amqp_end_streams.specs.Streams.{Serves}
 use Rattle.amqp_end_streams.proofs.Serving.{serves_calls, serves_polls, serves_on, serves_last, serves_hands, serves_asks, serves_sends, serves_seats, serves_frees, serves_tells}
-use Rattle.amqp_end.specs.Deeds.{Deed, Makes, Polls, Goes, Moves, Hears, Writes, Seats, Lacks, Frees, Accepts, Asks, LinksHear, LinksWrite, LinksLack, Tells, IsStep, IsDeed, Did, adds, behind, called_of, called_by, asked_of, asked_by, heard_of, heard_by, given_of, given_by}
+use Rattle.amqp_end.specs.Deeds.{Deed, Makes, Polls, Goes, Moves, Hears, Writes, Seats, Lacks, Frees, Accepts, Asks, LinksHear, LinksWrite, LinksLack, LinksKnow, LinksLook, Tells, TellsFirst, IsStep, IsDeed, Did, adds, behind, called_of, called_by, asked_of, asked_by, heard_of, heard_by, given_of, given_by}
 
 -- ---- the same of other lists
 
@@ -69,7 +69,10 @@ deed_serves link at (Asks name call) p p' s s' l l' a b c h x m k = serves_none 
 deed_serves link at (LinksHear session y) p p' s s' l l' a b c h x m k = serves_none p' a b c h h refl (serves_same p p' a b c h x.0 k)
 deed_serves link at (LinksWrite session y) p p' s s' l l' a b c h x m k = serves_none p' a b c h h refl (serves_same p p' a b c h x.0 k)
 deed_serves link at (LinksLack session) p p' s s' l l' a b c h x m k = serves_none p' a b c h h refl (serves_same p p' a b c h x.0 k)
+deed_serves link at LinksKnow p p' s s' l l' a b c h x m k = serves_none p' a b c h h refl (serves_same p p' a b c h x.0 k)
+deed_serves link at LinksLook p p' s s' l l' a b c h x m k = serves_none p' a b c h h refl (serves_same p p' a b c h x.0 k)
 deed_serves link at (Tells answers) p p' s s' l l' a b c h x m k = serves_none p' a b c h h refl (serves_same _ p' a b c h x.0 (serves_tells p a b c h k))
+deed_serves link at (TellsFirst name answers) p p' s s' l l' a b c h x m k = serves_none p' a b c h h refl (serves_same _ p' a b c h x.0 (serves_tells p a b c h k))
 
 -- ---- its moment, and its call
 
@@ -99,7 +102,10 @@ deed_moment link at (Asks name call) p p' s s' l l' h x m = m
 deed_moment link at (LinksHear session y) p p' s s' l l' h x m = m
 deed_moment link at (LinksWrite session y) p p' s s' l l' h x m = m
 deed_moment link at (LinksLack session) p p' s s' l l' h x m = m
+deed_moment link at LinksKnow p p' s s' l l' h x m = m
+deed_moment link at LinksLook p p' s s' l l' h x m = m
 deed_moment link at (Tells answers) p p' s s' l l' h x m = m
+deed_moment link at (TellsFirst name answers) p p' s s' l l' h x m = m
 
 deed_calls : {L : Type 0} (link : Ghosts L) (at : ℕ) (d : Deed) (p p' : Peering L) (s s' : State) (l l' : Links) (h : List Local) → IsDeed link at p s l d p' s' l' → made_in (adds at d ++ h) ≡ called_of d ++ made_in h
 deed_calls link at (Makes name call events) p p' s s' l l' h x = made_first events (Made at name call) h (subst IsInside x.0.1 x.0.0.inside)
@@ -116,7 +122,10 @@ deed_calls link at (Asks name call) p p' s s' l l' h x = refl
 deed_calls link at (LinksHear session y) p p' s s' l l' h x = refl
 deed_calls link at (LinksWrite session y) p p' s s' l l' h x = refl
 deed_calls link at (LinksLack session) p p' s s' l l' h x = refl
+deed_calls link at LinksKnow p p' s s' l l' h x = refl
+deed_calls link at LinksLook p p' s s' l l' h x = refl
 deed_calls link at (Tells answers) p p' s s' l l' h x = refl
+deed_calls link at (TellsFirst name answers) p p' s s' l l' h x = refl
 
 -- ---- all of them
 

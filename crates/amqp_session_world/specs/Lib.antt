@@ -1,3 +1,4 @@
+pub mod Paired
 pub mod Turn
 pub mod Lives
 pub mod Carried

@@ -1,5 +1,5 @@
 -- What one step of two ends with sessions and links does.
-use Rattle.std.specs.Prelude.{◌≡◌, ◌≤◌, ℕ, Bool, true, false, List, [], ◌∷◌, ◌++◌, length, take, drop, slice_get, Some, None, ⊤}
+use Rattle.std.specs.Prelude.{◌≡◌, ◌≤◌, ℕ, Bool, true, false, IsTrue, List, [], ◌∷◌, ◌++◌, length, take, drop, slice_get, Some, None, ⊤}
 use Rattle.amqp_wire.specs.Piped.{Piped}
 use Rattle.amqp_peer.specs.Peering.{fresh, with_link_of}
 use Rattle.amqp_words.specs.declared.call.Call.{Call as ConnectionCall}
@@ -16,6 +16,7 @@ use Rattle.amqp_sessions.specs.State.{seen, none_begun}
 use Rattle.amqp_end.specs.declared.end.End.{End}
 use Rattle.amqp_end.specs.Asks.{MayAsk}
 use Rattle.amqp_end.specs.Goes.{Goes, on_connection}
+use Rattle.amqp_session_world.specs.Paired.{Paired, none_paired, paired_by, spares}
 
 -- the bytes that an end wrote and that were not moved yet
 abbrev pub untaken : End Piped → List ℕ
@@ -83,10 +84,11 @@ pub record Turned (near far : End Piped) (name at : ℕ) (act : Act) (near' far'
   pub told : Told ran near' entry
   pub output : (pipe_of near'.connection).output ≡ (pipe_of near.connection).output ++ entry.wrote.items
 
--- both ends, the entries of the steps made, and the moment of the last
+-- both ends, which of their sessions pair, the entries of the steps made, and the moment of the last
 pub record View : Type 0 where
   pub client : End Piped
   pub listener : End Piped
+  pub paired : Paired
   pub entries : List Entry
   pub moment : ℕ
 
@@ -94,9 +96,15 @@ abbrev pub CanStep : Side → View → Step → Type 0
 CanStep Client w step = CanAct w.client w.listener (length w.entries) step.act
 CanStep Listener w step = CanAct w.listener w.client (length w.entries) step.act
 
--- a step is valid after those made: its moment is not below the last, and its act may be made at its end
+-- a client, which attaches the links, takes no name that the listener has used up
+abbrev pub IsSpared : Side → View → Step → Type 0
+IsSpared Client w step = IsTrue (spares w.paired w.listener step.act)
+IsSpared Listener w step = ⊤
+
+-- a step is valid after those made: its moment is not below the last, its act may be made at its end, and it takes no name that the other has
+-- used up
 abbrev pub IsValid : View → Step → Type 0
-IsValid w step = (w.moment ≤ step.at) × CanStep step.end w step
+IsValid w step = (w.moment ≤ step.at) × CanStep step.end w step × IsSpared step.end w step
 
 abbrev pub IsTurnAt : Side → ℕ → View → Step → View → Entry → Type 0
 IsTurnAt Client name old step new entry = Turned old.client old.listener name step.at step.act new.client new.listener entry
@@ -108,6 +116,7 @@ pub record IsTurn (old : View) (step : Step) (new : View) : Type 0 where
   pub entry : Entry
   pub entries : new.entries ≡ old.entries ++ entry ∷ []
   pub moment : new.moment ≡ step.at
+  pub paired : new.paired ≡ paired_by step.end entry.replies.items old.paired
   pub turned : IsTurnAt step.end (length old.entries) old step new entry
 
 -- the ends made these steps, one after another
@@ -132,6 +141,7 @@ pub record IsFresh (side : Side) (e : End Piped) : Type 0 where
 pub record IsStart (w : View) : Type 0 where
   pub client : IsFresh Client w.client
   pub listener : IsFresh Listener w.listener
+  pub paired : w.paired ≡ none_paired
   pub entries : w.entries ≡ []
   pub moment : w.moment ≡ 0
 

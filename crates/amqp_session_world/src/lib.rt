@@ -3,5 +3,6 @@
 
 pub use world::SessionWorld;
 
+pub mod pairs;
 mod turns;
 pub mod world;

@@ -2,9 +2,11 @@
 ghost use Rattle.std.specs.Prelude.{◌≡◌, ◌↔◌, ◌++◌, ◌∷◌, [], ℕ, length, OnOk, IfOk, IsTrue, IsErrOf};
 ghost use Rattle.amqp_words.specs.declared.step.End.TheVariants.{Client, Listener};
 ghost use Rattle.amqp_session_world.specs.Carried.{AreCarried};
+ghost use Rattle.amqp_session_world.specs.Paired.{paired_by};
 ghost use Rattle.amqp_session_world.specs.Turn.{IsFresh, IsStart, IsValid, IsTurn, Turns, AreMade, IsFirstInvalid};
 ghost use Rattle.amqp_session_world.specs.Worlds.{view_of};
 
+use crate::pairs::SessionPairs;
 use crate::turns::{can_act, turn};
 use amqp_calls::{Entry, Step, Trace};
 use amqp_end::End;
@@ -17,6 +19,8 @@ use std::alloc::{AllocError, Global};
 pub struct SessionWorld {
     client: End<Pipe>,
     listener: End<Pipe>,
+    /// Which of their sessions pair.
+    pairs: SessionPairs,
     /// The moment of the last step.
     moment: u64,
     trace: Trace,
@@ -29,12 +33,14 @@ impl Drop for SessionWorld {
         let SessionWorld {
             client,
             listener,
+            pairs,
             moment: _,
             trace,
             alloc: _,
         } = self;
         drop(client);
         drop(listener);
+        drop(pairs);
         drop(trace);
     }
 }
@@ -75,6 +81,7 @@ impl SessionWorld {
         Ok(SessionWorld {
             client,
             listener,
+            pairs: SessionPairs::new(alloc),
             moment: 0,
             trace: Trace {
                 entries: Vec::new(alloc),
@@ -120,7 +127,10 @@ impl SessionWorld {
         }
         let name = self.made();
         match step.end {
-            Side::Client => can_act(&self.client, &self.listener, name, &step.act),
+            Side::Client => {
+                can_act(&self.client, &self.listener, name, &step.act)
+                    && self.pairs.spares(&self.listener, &step.act)
+            }
             Side::Listener => can_act(&self.listener, &self.client, name, &step.act),
         }
     }
@@ -150,7 +160,7 @@ impl SessionWorld {
             step.at,
             &step.act,
         )?;
-        self.keep(step.at, entry)
+        self.keep(Side::Client, step.at, entry)
     }
 
     fn listener_turn(&mut self, step: &Step) -> Result<(), AllocError>
@@ -161,13 +171,14 @@ impl SessionWorld {
         let name = self.made();
         let near = &mut self.listener;
         let entry = turn(self.alloc, near, &mut self.client, name, step.at, &step.act)?;
-        self.keep(step.at, entry)
+        self.keep(Side::Listener, step.at, entry)
     }
 
-    /// Adds the entry of a step to those made.
-    fn keep(&mut self, at: u64, entry: Entry) -> Result<(), AllocError>
-        ensures { OnOk result (view_of self.new ≡ record (view_of self.old) { entries = (view_of self.old).entries ++ entry ∷ []; moment = at }) }
+    /// Adds the entry of a step of that end to those made.
+    fn keep(&mut self, side: Side, at: u64, entry: Entry) -> Result<(), AllocError>
+        ensures { OnOk result (view_of self.new ≡ record (view_of self.old) { entries = (view_of self.old).entries ++ entry ∷ []; moment = at; paired = paired_by side entry.replies.items (view_of self.old).paired }) }
     {
+        self.pairs.note(side, &entry.replies)?;
         self.moment = at;
         self.trace.entries.push(entry)?;
         Ok(())
@@ -215,12 +226,14 @@ impl SessionWorld {
         let SessionWorld {
             client,
             listener,
+            pairs,
             moment: _,
             trace,
             alloc: _,
         } = self;
         discard_end(client);
         discard_end(listener);
+        drop(pairs);
         trace
     }
 }

@@ -8,7 +8,9 @@ returns g c =
     let at = c.args.at in
     let one : List (ℕ × ConnectionCall) = (c.args.name, c.args.call) ∷ [] in
     let mid = record c.stop_sessions.new.self { connection = c.call.new.self } in
-    let called = goes_then g.L.Link at [] one c.args.self.now c.stop_sessions.new.self mid (c.in_ok-stop_sessions.ensures.ok at).goes
+    let stopped = goes_then g.L.Link at [] [] c.args.self.now c.know.new.self c.stop_sessions.new.self c.know.ensures.goes.goes (c.in_ok-stop_sessions.ensures.ok at).goes in
+    let called = goes_then g.L.Link at [] one c.args.self.now c.stop_sessions.new.self mid stopped
     (goes_called g.L.Link at c.args.name c.args.call c.stop_sessions.new.self mid c.in-Ok.ensures.ok refl refl refl refl refl) in
     let taken = goes_then g.L.Link at one [] c.args.self.now mid c.take_up.new.self called (c.in_ok-take_up.ensures at).goes in
-    on_ok c.steps.result (λ h. goes_then g.L.Link at one [] c.args.self.now c.take_up.new.self c.steps.new.self taken h) c.steps.ensures
+    let ran = goes_then g.L.Link at one [] c.args.self.now c.take_up.new.self c.steps.new.self taken c.in_ok-steps.ensures in
+    on_ok c.look.result (λ h. goes_then g.L.Link at one [] c.args.self.now c.steps.new.self c.look.new.self ran (h at).goes) c.look.ensures

@@ -5,9 +5,11 @@ use Rattle.amqp_end.proofs.end.End.hear.Goals as goal
 pub frames-preserved : goal.frames-preserved
 frames-preserved g c =
     let mid = record c.frames.self { connection = c.take_incoming.new.self; sessions = c.on_frame.new.self } in
-    λ at. on_then g.L.Link at _ mid _
+    λ at. on_then g.L.Link at _ c.hand_on_all.new.self _
+    (on_then g.L.Link at _ mid c.hand_on_all.new.self
     (on_then g.L.Link at _ c.frames.self mid (c.frames.invariant at) (on_heard g.L.Link at _ c.frames.self mid c.in-Some.ensures.takes c.in-Some.ensures.rest c.in_ok-on_frame.ensures.state refl refl refl refl))
-    (c.in_ok-hand_on_all.ensures.goes at)
+    (c.in_ok-hand_on_all.ensures.goes at))
+    (c.in_ok-look_at_links.ensures.goes at)
 
 pub returns : goal.returns
 returns g c =

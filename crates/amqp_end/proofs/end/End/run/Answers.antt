@@ -3,4 +3,8 @@ use Rattle.amqp_end.proofs.Goes.{on_ok, goes_then}
 use Rattle.amqp_end.proofs.end.End.run.Goals as goal
 
 pub returns : goal.returns
-returns g c = on_ok c.steps.result (λ h. goes_then g.L.Link c.args.at [] [] c.args.self.now c.exchange.new.self c.steps.new.self c.in_ok-exchange.ensures h) c.steps.ensures
+returns g c =
+    let at = c.args.at in
+    let began = goes_then g.L.Link at [] [] c.args.self.now c.know.new.self c.exchange.new.self c.know.ensures.goes.goes c.in_ok-exchange.ensures in
+    let ran = goes_then g.L.Link at [] [] c.args.self.now c.exchange.new.self c.steps.new.self began c.in_ok-steps.ensures in
+    on_ok c.look.result (λ h. goes_then g.L.Link at [] [] c.args.self.now c.steps.new.self c.look.new.self ran (h at).goes) c.look.ensures
