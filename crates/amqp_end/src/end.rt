@@ -4,6 +4,7 @@ ghost use Rattle.std.specs.Borrow.{Lends, sem};
 ghost use Rattle.amqp_end.specs.contracts.end.End.{the_row};
 ghost use Rattle.amqp_end.specs.Asks.{IsNew, Takes, HasSession, TakesForLink, MayAskFor, MayAsk};
 ghost use Rattle.amqp_end.specs.Goes.{Goes, on_connection};
+ghost use Rattle.amqp_links.specs.Forgetting.{forgotten};
 ghost use Rattle.amqp_links.specs.State.{seen as linked, no_links};
 ghost use Rattle.amqp_peer.specs.Peering.{fresh, link_of, with_link_of};
 ghost use Rattle.amqp_sessions.specs.State.{seen, none_begun};
@@ -276,6 +277,19 @@ impl<L: Link> End<L> {
         ensures alive { self.new.failed ≡ self.old.failed }
     {
         mem::replace(&mut self.replies, Vec::new(self.alloc))
+    }
+
+    /// Forgets which message the call of that name has sent, or which delivery it was given, so that an end which lives long does not grow
+    /// with each: no later call may name it. The link itself goes on as it would. Takes no memory, and does nothing for another name.
+    pub fn forget(&mut self, name: u64)
+        ensures links { linked self.new.links ≡ forgotten name (linked self.old.links) }
+        ensures connection { self.new.connection ≡ self.old.connection }
+        ensures sessions { self.new.sessions ≡ self.old.sessions }
+        ensures replies { self.new.replies ≡ self.old.replies }
+        ensures last { self.new.last ≡ self.old.last }
+        ensures alive { self.new.failed ≡ self.old.failed }
+    {
+        self.links.forget(name);
     }
 
     /// The link.

@@ -14,3 +14,4 @@ pub mod Regulating
 pub mod Calling
 pub mod Stops
 pub mod Inputs
+pub mod Forgetting

@@ -10,6 +10,7 @@ mod accepting;
 mod attaching;
 mod calling;
 mod disposers;
+mod forgetting;
 mod hearing;
 mod leaving;
 pub mod links;
