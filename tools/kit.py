@@ -1,0 +1,43 @@
+"""What the scripts of this folder take from the kit that is installed: the crates of a clone, and how `rt` proves them."""
+
+import os
+import shutil
+import sys
+import types
+
+RT = os.path.realpath(shutil.which("rt") or sys.exit("the Rattle kit is not installed: rt is not found"))
+sys.path.insert(0, os.path.dirname(RT))
+rt = types.ModuleType("rt_command")
+rt.__file__ = RT
+with open(RT, encoding="utf-8") as source:
+    exec(compile(source.read(), RT, "exec"), rt.__dict__)
+rtlib = rt.rtlib
+
+_stamps = {}
+_stamp = rtlib.Crate.stamp
+_made = rtlib.Crate.__init__
+
+
+def stamp(crate):
+    """The kit's sum of all that a library is made from, computed once for each crate."""
+    if crate.folder not in _stamps:
+        _stamps[crate.folder] = _stamp(crate)
+    return _stamps[crate.folder]
+
+
+def make(crate, *given, **named):
+    _made(crate, *given, **named)
+    rt.read_files(crate)
+
+
+def forget(crate):
+    """Has its sum computed anew."""
+    _stamps.pop(crate.folder, None)
+
+
+def crates_of(folder):
+    """The crates of a clone, lowest first."""
+    os.chdir(os.path.realpath(folder))
+    rtlib.Crate.stamp, rtlib.Crate.__init__ = stamp, make
+    rtlib.guarded()
+    return sorted(rtlib.crates_below(os.getcwd()), key=lambda it: len(it.below()))
