@@ -86,7 +86,7 @@ IsUnreadable other x = ⊥
 abbrev pub TellsReceived : LinkReply → Step → Type 0
 TellsReceived reply.Pending step = step.answer ≡ None
 TellsReceived (reply.Delivery info message) step =
-    (x : Got) × ((step.answer ≡ Some (Ok x)) × (info ≡ x.info) × IsTheMessage (Ok message) (SpellsMessage (all_bytes x.payloads)))
+    (x : Got) × ((step.answer ≡ Some (Ok x)) × (info ≡ x.info) × IsTheMessage (Ok message.value) (SpellsMessage (all_bytes x.payloads)))
 TellsReceived (reply.RecvError e) step =
     (step.answer ≡ Some (Err e)) ⊎ ((x : Got) × ((step.answer ≡ Some (Ok x)) × IsUnreadable e x))
 TellsReceived other step = ⊥

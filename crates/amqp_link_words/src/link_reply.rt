@@ -37,8 +37,8 @@ pub enum LinkReply {
     Delivery {
         /// What names its delivery.
         info: DeliveryInfo,
-        /// The message.
-        message: Message,
+        /// The message, in its own place of memory: it is large, and most answers are none.
+        message: Box<Message>,
     },
     /// It was done.
     Done,

@@ -1,5 +1,9 @@
 -- The messages of deliveries (OASIS AMQP 1.0, part 3, section 3.2).
-use Rattle.std.specs.Prelude.{◌≡◌, ◌⊎◌, ℕ, List, [], ◌∷◌, ◌++◌, Some, None, Result, Ok, Err}
+use Rattle.std.specs.Prelude.{◌≡◌, ◌⊎◌, ℕ, List, [], ◌∷◌, ◌++◌, Some, None, Result, Ok, Err, Box}
+use Rattle.std.specs.declared.alloc.Global.{Global}
+use Rattle.amqp_fields.specs.declared.error.BaseError.{BaseError}
+use Rattle.amqp_messages.specs.declared.message.Body.{Body}
+use Rattle.amqp_messages.specs.declared.message.Message.{Message}
 use Rattle.amqp_messages.specs.Reading.{IsTheMessage, SpellsMessage}
 use Rattle.amqp_receiver.specs.declared.delivering.Delivery.{Delivery}
 use Rattle.amqp_receiver.specs.declared.delivering.RecvReply.{RecvReply}
@@ -15,9 +19,14 @@ abbrev pub all_bytes : List (List ℕ) → List ℕ
 all_bytes [] = []
 all_bytes (p ∷ ps) = p ++ all_bytes ps
 
+-- a message that lies in its own place of memory
+abbrev pub unboxed : Result (Box (Message Body) Global) BaseError → Result (Message Body) BaseError
+unboxed (Ok place) = Ok place.value
+unboxed (Err error) = Err error
+
 -- what the bytes of a delivery spell
 abbrev pub Decodes : Result Delivery RecvError → ℕ → Got → Type 0
-Decodes (Ok d) handle x = (d.info ≡ x.info) × (d.link_handle ≡ handle) × (d.message_format ≡ x.message_format) × IsTheMessage (Ok d.message) (SpellsMessage (all_bytes x.payloads))
+Decodes (Ok d) handle x = (d.info ≡ x.info) × (d.link_handle ≡ handle) × (d.message_format ≡ x.message_format) × IsTheMessage (Ok d.message.value) (SpellsMessage (all_bytes x.payloads))
 Decodes (Err (error.Memory a)) handle x = Unit {0}
 Decodes (Err (error.MessageDecode info source)) handle x = (info ≡ x.info) × IsTheMessage (Err source) (SpellsMessage (all_bytes x.payloads))
 Decodes (Err e) handle x = ⊥

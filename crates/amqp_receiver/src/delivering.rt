@@ -3,7 +3,7 @@ ghost use Rattle.std.specs.Prelude.{◌≡◌, IfOk};
 ghost use Rattle.amqp_messages.specs.Reading.{IsTheMessage, SpellsMessage};
 ghost use Rattle.amqp_receiver.specs.Receiver.{seen};
 ghost use Rattle.amqp_receiver.specs.Receiving.{got, received};
-ghost use Rattle.amqp_receiver.specs.Delivering.{all_bytes, Decodes, Gives, Receives};
+ghost use Rattle.amqp_receiver.specs.Delivering.{all_bytes, unboxed, Decodes, Gives, Receives};
 
 use crate::error::RecvError;
 use crate::receiver::Receiver;
@@ -24,8 +24,8 @@ pub struct Delivery {
     pub link_handle: u32,
     /// The format of the message.
     pub message_format: Option<u32>,
-    /// The message.
-    pub message: Message,
+    /// The message, in its own place of memory: it is large.
+    pub message: Box<Message>,
 }
 
 // It is let go by a call, so that no caller sees what it holds.
@@ -44,7 +44,7 @@ impl Drop for Delivery {
 
 impl Delivery {
     /// What names it, and its message.
-    pub fn into_parts(self) -> (DeliveryInfo, Message)
+    pub fn into_parts(self) -> (DeliveryInfo, Box<Message>)
         ensures { (result.0 ≡ self.info) × (result.1 ≡ self.message) }
     {
         let Delivery {
@@ -89,12 +89,21 @@ fn message_in(alloc: Global, payloads: Vec<Bytes>) -> Result<Message, BaseError>
     decode_message(alloc, bytes.as_slice())
 }
 
+/// The same, in its own place of memory.
+fn boxed_message_in(alloc: Global, payloads: Vec<Bytes>) -> Result<Box<Message>, BaseError>
+    ensures { IsTheMessage (unboxed result) (SpellsMessage (all_bytes payloads.items)) }
+{
+    let message = message_in(alloc, payloads)?;
+    let place = Box::new(alloc, message).map_err(AllocError::from)?;
+    Ok(place)
+}
+
 /// The message of a delivery: `MessageDecode` exactly where its bytes spell none.
 fn decoded(alloc: Global, link_handle: u32, received: Received) -> Result<Delivery, RecvError>
     ensures { Decodes result link_handle (got received) }
 {
     let (info, message_format, payloads) = received.into_parts();
-    match message_in(alloc, payloads) {
+    match boxed_message_in(alloc, payloads) {
         Ok(message) => Ok(Delivery {
             info,
             link_handle,
