@@ -89,12 +89,20 @@ fn message_in(alloc: Global, payloads: Vec<Bytes>) -> Result<Message, BaseError>
     decode_message(alloc, bytes.as_slice())
 }
 
-/// The same, in its own place of memory.
-fn boxed_message_in(alloc: Global, payloads: Vec<Bytes>) -> Result<Box<Message>, BaseError>
+/// A message, in its own place of memory.
+fn placed(alloc: Global, message: Message) -> Result<Box<Message>, AllocError>
+    ensures { IfOk result (λ place. place.value ≡ message) }
+{
+    let place = Box::new(alloc, message)?;
+    Ok(place)
+}
+
+/// The message that the bytes of the parts spell, in its own place of memory.
+fn placed_message_in(alloc: Global, payloads: Vec<Bytes>) -> Result<Box<Message>, BaseError>
     ensures { IsTheMessage (unboxed result) (SpellsMessage (all_bytes payloads.items)) }
 {
     let message = message_in(alloc, payloads)?;
-    let place = Box::new(alloc, message).map_err(AllocError::from)?;
+    let place = placed(alloc, message)?;
     Ok(place)
 }
 
@@ -103,7 +111,7 @@ fn decoded(alloc: Global, link_handle: u32, received: Received) -> Result<Delive
     ensures { Decodes result link_handle (got received) }
 {
     let (info, message_format, payloads) = received.into_parts();
-    match boxed_message_in(alloc, payloads) {
+    match placed_message_in(alloc, payloads) {
         Ok(message) => Ok(Delivery {
             info,
             link_handle,
