@@ -1,0 +1,5 @@
+pub mod Walks
+pub mod Orders
+pub mod Announces
+pub mod Counts
+pub mod Keeps

@@ -1,0 +1,8 @@
+use Rattle.window_laws.proofs.Keeps.{keeps_the_window, waits_for_the_begin}
+use Rattle.window_laws.proofs.windows.keeps_the_window.Goals as goal
+
+pub returns-clause-within : goal.returns-clause-within
+returns-clause-within c = keeps_the_window
+
+pub returns-clause-first : goal.returns-clause-first
+returns-clause-first c = waits_for_the_begin

@@ -1,0 +1,4 @@
+pub mod Starting
+pub mod Announcing
+pub mod Counting
+pub mod Keeping
