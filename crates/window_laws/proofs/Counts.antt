@@ -12,7 +12,7 @@ use Rattle.session_laws.specs.Handing.{heard_by, heard}
 use Rattle.window_laws.specs.Starting.{Start, session_of, read_at_first, reads, writes, first_number}
 use Rattle.window_laws.specs.Counting.{number_at, count, behind, InOrder, NamesNext, Numbers, NumbersItsTransfers, Reports, ReportsWhatItHeard, ReportsWithin, ReportsNoMore}
 use Rattle.window_laws.proofs.Walks.{View, view, is_mapped, IsPlain, Walks, HeardAs, behind_move, moves, counted, lives}
-use Rattle.window_laws.proofs.Orders.{counted_push, counted_both, counted_all, order_push, order_first, order_so, Each, each_all, none_known}
+use Rattle.window_laws.proofs.Orders.{counted_push, counted_both, counted_all, order_push, order_first, order_last, order_so, Each, each_all, none_known}
 
 -- ---- the end that writes Transfers
 
@@ -82,6 +82,7 @@ abbrev Due : ℕ → ℕ → View → Type 0
 Due first n v = is_mapped v.phase ≡ true → v.windows.next_incoming_id ≡ number_at first n
 
 plain_reports : (first n : ℕ) (x : FrameBody) → IsPlain x → Reports first n x
+plain_reports first n (b.Begin x) h = absurd h
 plain_reports first n (b.Flow x) h = absurd h
 plain_reports first n other h = tt
 
@@ -164,30 +165,26 @@ tells_all base first = record {
 }
 
 -- one move more
-after_last : (s : State) (js : List Move) (m : Move) → after_all s (js ++ m ∷ []) ≡ after (after_all s js) m
+pub after_last : (s : State) (js : List Move) (m : Move) → after_all s (js ++ m ∷ []) ≡ after (after_all s js) m
 after_last s [] m = refl
 after_last s (j ∷ js) m = after_last (after s j) js m
 
-handed_last : (s : State) (js : List Move) (m : Move) → handed_all s (js ++ m ∷ []) ≡ handed_all s js ++ handed (after_all s js) m
+pub handed_last : (s : State) (js : List Move) (m : Move) → handed_all s (js ++ m ∷ []) ≡ handed_all s js ++ handed (after_all s js) m
 handed_last s [] m = append-nil (handed s m)
 handed_last s (j ∷ js) m = ap (λ (xs : List Framed). handed s j ++ xs) (handed_last (after s j) js m) ∙ sym (append_assoc (handed s j) (handed_all (after s j) js) (handed (after_all (after s j) js) m))
 
-written_last : (s : State) (js : List Move) (m : Move) → written s (js ++ m ∷ []) ≡ (handed_all s js ++ handed (after_all s js) m) ++ (after (after_all s js) m).output
+pub written_last : (s : State) (js : List Move) (m : Move) → written s (js ++ m ∷ []) ≡ (handed_all s js ++ handed (after_all s js) m) ++ (after (after_all s js) m).output
 written_last s js m =
     ap (λ (xs : List Framed). xs ++ (after_all s (js ++ m ∷ [])).output) (handed_last s js m) ∙ ap (λ (t : State). (handed_all s js ++ handed (after_all s js) m) ++ t.output) (after_last s js m)
 
-heard_last : (js : List Move) (m : Move) → heard (js ++ m ∷ []) ≡ heard js ++ heard_by m
+pub heard_last : (js : List Move) (m : Move) → heard (js ++ m ∷ []) ≡ heard js ++ heard_by m
 heard_last [] m = append-nil (heard_by m)
 heard_last (j ∷ js) m = ap (λ (xs : List Framed). heard_by j ++ xs) (heard_last js m) ∙ sym (append_assoc (heard_by j) (heard js) (heard_by m))
 
-reads_last : (u : Start) (js : List Move) (m : Move) → reads u (js ++ m ∷ []) ≡ reads u js ++ heard_by m
+pub reads_last : (u : Start) (js : List Move) (m : Move) → reads u (js ++ m ∷ []) ≡ reads u js ++ heard_by m
 reads_last u js m = ap (λ (xs : List Framed). read_at_first u ++ xs) (heard_last js m) ∙ sym (append_assoc (read_at_first u) (heard js) (heard_by m))
 
-order_last : (P : ℕ → FrameBody → Type 0) (n : ℕ) (xs ys : List Framed) → InOrder P n (xs ++ ys) → InOrder P (counted n xs) ys
-order_last P n [] ys h = h
-order_last P n (x ∷ xs) ys h = order_last P (behind n x.body) xs ys h.1
-
-heard_as : (P : ℕ → FrameBody → Type 0) (n : ℕ) (m : Move) → InOrder P n (heard_by m) → HeardAs P n m
+pub heard_as : (P : ℕ → FrameBody → Type 0) (n : ℕ) (m : Move) → InOrder P n (heard_by m) → HeardAs P n m
 heard_as P n (hears x) h = h.0
 heard_as P n other h = tt
 
@@ -195,22 +192,37 @@ behind_is : (n : ℕ) (m : Move) → counted n (heard_by m) ≡ behind_move n m
 behind_is n (hears x) = refl
 behind_is n other = refl
 
-cancel : (xs ys zs : List Framed) → xs ++ ys ≡ xs ++ zs → ys ≡ zs
+pub cancel : (xs ys zs : List Framed) → xs ++ ys ≡ xs ++ zs → ys ≡ zs
 cancel [] ys zs h = h
 cancel (x ∷ xs) ys zs h = cancel xs ys zs (rest x x (xs ++ ys) (xs ++ zs) h)
   where
     rest : (a c : Framed) (vs ws : List Framed) → a ∷ vs ≡ c ∷ ws → vs ≡ ws
     rest a c vs ws e = cc
 
-pub reports_what_it_heard : ReportsWhatItHeard
-reports_what_it_heard u js m new first k w =
+-- what a move adds to what is written
+pub record Adds (u : Start) (js : List Move) (m : Move) (first : ℕ) : Type 0 where
+  pub new : List Framed
+  pub all : writes u (js ++ m ∷ []) ≡ writes u js ++ new
+  pub told : InOrder (Each (Reports first (count (reads u (js ++ m ∷ []))))) 0 new
+
+pub adds : (u : Start) (js : List Move) (m : Move) (first : ℕ) → Numbers first (reads u (js ++ m ∷ [])) → Adds u js m first
+adds u js m first k =
     let s = after_all (session_of u) js in
     let done = handed_all (session_of u) js in
     let n = counted 0 (reads u js) in
     let all : Numbers first (reads u js ++ heard_by m) = subst (λ (xs : List Framed). Numbers first xs) (reads_last u js m) k in
     let t = told_by u js first (order_first (NamesNext first) 0 (reads u js) (heard_by m) all) in
     let h = moves (NamesNext first) (Before (writes u js) first) (Behind (writes u js) first) (tells_all (writes u js) first) n done s m (heard_as (NamesNext first) n m (order_last (NamesNext first) 0 (reads u js) (heard_by m) all)) (record { due = t.due; same = refl }) in
-    let same : h.gained ≡ new = cancel (writes u js) h.gained new (sym h.all ∙ sym (written_last (session_of u) js m) ∙ w) in
     let number : behind_move n m ≡ count (reads u (js ++ m ∷ [])) = sym (behind_is n m) ∙ sym (counted_both 0 (reads u js) (heard_by m)) ∙ sym (ap (λ (xs : List Framed). counted 0 xs) (reads_last u js m)) ∙ counted_all (reads u (js ++ m ∷ [])) in
-    subst (λ (xs : List Framed). All (λ (x : Framed). Reports first (count (reads u (js ++ m ∷ []))) x.body) xs) same
-    (subst (λ (i : ℕ). All (λ (x : Framed). Reports first i x.body) h.gained) number (each_all (Reports first (behind_move n m)) 0 h.gained h.told))
+    record {
+      new = h.gained;
+      all = written_last (session_of u) js m ∙ h.all;
+      told = subst (λ (i : ℕ). InOrder (Each (Reports first i)) 0 h.gained) number h.told;
+    }
+
+pub reports_what_it_heard : ReportsWhatItHeard
+reports_what_it_heard u js m new first k w =
+    let a = adds u js m first k in
+    let n = count (reads u (js ++ m ∷ [])) in
+    let same : a.new ≡ new = cancel (writes u js) a.new new (sym a.all ∙ w) in
+    subst (λ (xs : List Framed). All (λ (x : Framed). Reports first n x.body) xs) same (each_all (Reports first n) 0 a.new a.told)

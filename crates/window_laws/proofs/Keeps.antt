@@ -12,7 +12,7 @@ use Rattle.session_laws.specs.Holding.{Move, after_all, transfers}
 use Rattle.window_laws.specs.Starting.{Start, session_of, reads, writes, window, first_number}
 use Rattle.window_laws.specs.Announcing.{Announces}
 use Rattle.window_laws.specs.Counting.{number_at, count, InOrder, NamesNext, Numbers, ReportsWithin}
-use Rattle.window_laws.specs.Keeping.{Pair, KeepsTheWindow, IsNotBegin, WaitsForTheBegin}
+use Rattle.window_laws.specs.Keeping.{KeepsTheWindow, IsNotBegin, WaitsForTheBegin}
 use Rattle.window_laws.proofs.Walks.{View, is_mapped, Walks, counted, lives}
 use Rattle.window_laws.proofs.Orders.{counted_all, order_first, order_both, Each, all_each}
 use Rattle.window_laws.proofs.Announces.{announces_its_window}
@@ -20,14 +20,14 @@ use Rattle.window_laws.proofs.Counts.{plain_push, flow_push, transfer_push, next
 
 -- ---- numbers
 
-ahead : (first r w : ℕ) → r ≤ w → w < 4294967296 → minus (number_at first w) (number_at first r) ≡ w - r
+pub ahead : (first r w : ℕ) → r ≤ w → w - r < 4294967296 → minus (number_at first w) (number_at first r) ≡ w - r
 ahead first r w le h = omega arith
 
 -- a report of more than was written leaves no room
 beyond : (first r w : ℕ) → w < r → r < 4294967296 → minus (number_at first w) (number_at first r) ≡ 4294967296 - (r - w)
 beyond first r w l h = omega arith
 
-ahead_room : (size most r w : ℕ) → r ≤ most → r ≤ w → w ≤ most + size → (size - (w - r)) + w ≤ most + size
+pub ahead_room : (size most r w : ℕ) → r ≤ most → r ≤ w → w ≤ most + size → (size - (w - r)) + w ≤ most + size
 ahead_room size most r w le h room = omega arith
 
 beyond_room : (size most r w : ℕ) → most + size < 4294967296 → r ≤ most → w < r → w ≤ most + size → (size - (4294967296 - (r - w))) + w ≤ most + size
@@ -52,10 +52,10 @@ record Open (first size most n : ℕ) (v : View) : Type 0 where
 abbrev Grants : ℕ → ℕ → ℕ → ℕ → FrameBody → Type 0
 Grants first size most n x = Announces size x × ReportsWithin first most x
 
-less_room : (a c m : ℕ) → a + c ≤ m → c ≤ m
+pub less_room : (a c m : ℕ) → a + c ≤ m → c ≤ m
 less_room a c m h = omega arith
 
-one_left : (a c m : ℕ) → 0 < a → a + c ≤ m → (a - 1) + (c + 1) ≤ m
+pub one_left : (a c m : ℕ) → 0 < a → a + c ≤ m → (a - 1) + (c + 1) ≤ m
 one_left a c m p h = omega arith
 
 flow_room : (first size most w n said from : ℕ) (o : Option ℕ) → most + size < 4294967296 → n ≡ number_at first w → said ≡ size → (r : ℕ) → r ≤ most → o ≡ Some (number_at first r) → w ≤ most + size → (said - minus n (unwrap_or o from)) + w ≤ most + size
@@ -107,17 +107,17 @@ zero_within : (m : ℕ) → 0 ≤ m
 zero_within m = omega arith
 
 pub keeps_the_window : KeepsTheWindow
-keeps_the_window t ns u js p =
+keeps_the_window t ns u js p short few =
     let first = first_number t in
     let size = window u in
     let most = count (reads u js) in
-    let numbers : Numbers first (reads u js) = order_first (NamesNext first) 0 (reads u js) p.unread (subst (λ (xs : List Framed). Numbers first xs) (sym p.hears) (numbers_its_transfers t ns p.short)) in
+    let numbers : Numbers first (reads u js) = order_first (NamesNext first) 0 (reads u js) p.unread (subst (λ (xs : List Framed). Numbers first xs) (sym p.hears) (numbers_its_transfers t ns short)) in
     let announced = all_each (Announces size) 0 (writes u js) (announces_its_window u js).announced in
     let reported = all_each (ReportsWithin first most) 0 (writes u js) (reports_no_more u js first numbers) in
     let all : InOrder (Grants first size most) 0 (writes u js) = order_both (Each (Announces size)) (Each (ReportsWithin first most)) (Grants first size most) 0 (writes u js) (λ m x h k. (h, k)) announced reported in
     let known : InOrder (Grants first size most) 0 (reads t ns) = order_first (Grants first size most) 0 (reads t ns) p.unanswered (subst (λ (xs : List Framed). InOrder (Grants first size most) 0 xs) (sym p.answers) all) in
-    let e = first_is first p.short in
-    let h = lives (Grants first size most) (Open first size most) (keeps first size most p.short p.few) t ns (λ channel remote. record { starts_at = refl; next = e; room = zero_within (most + size) }) known in
+    let e = first_is first short in
+    let h = lives (Grants first size most) (Open first size most) (keeps first size most short few) t ns (λ channel remote. record { starts_at = refl; next = e; room = zero_within (most + size) }) known in
     subst (λ (n : ℕ). n ≤ most + size) (counted_all (writes t ns)) (less_room (after_all (session_of t) ns).windows.allowance (counted 0 (writes t ns)) (most + size) h.room)
 
 -- ---- before a Begin

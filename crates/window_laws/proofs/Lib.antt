@@ -3,3 +3,4 @@ pub mod Orders
 pub mod Announces
 pub mod Counts
 pub mod Keeps
+pub mod Together

@@ -56,6 +56,10 @@ pub order_first : (P : ℕ → FrameBody → Type 0) (n : ℕ) (xs ys : List Fra
 order_first P n [] ys h = tt
 order_first P n (x ∷ xs) ys h = (h.0, order_first P (behind n x.body) xs ys h.1)
 
+pub order_last : (P : ℕ → FrameBody → Type 0) (n : ℕ) (xs ys : List Framed) → InOrder P n (xs ++ ys) → InOrder P (counted n xs) ys
+order_last P n [] ys h = h
+order_last P n (x ∷ xs) ys h = order_last P (behind n x.body) xs ys h.1
+
 pub order_so : (P R : ℕ → FrameBody → Type 0) (n : ℕ) (xs : List Framed) → ((m : ℕ) (x : FrameBody) → P m x → R m x) → InOrder P n xs → InOrder R n xs
 order_so P R n [] f h = tt
 order_so P R n (x ∷ xs) f h = (f n x.body h.0, order_so P R (behind n x.body) xs f h.1)
@@ -80,3 +84,8 @@ all_each P n (x ∷ xs) h = (All-head (λ (y : Framed). P y.body) x xs h, all_ea
 pub none_known : (n : ℕ) (xs : List Framed) → InOrder (Each (λ x. Unit {0})) n xs
 none_known n [] = tt
 none_known n (x ∷ xs) = (tt, none_known (behind n x.body) xs)
+
+-- what holds of each alone holds wherever they begin
+pub any_start : (P : FrameBody → Type 0) (n m : ℕ) (xs : List Framed) → InOrder (Each P) n xs → InOrder (Each P) m xs
+any_start P n m [] h = tt
+any_start P n m (x ∷ xs) h = (h.0, any_start P (behind n x.body) (behind m x.body) xs h.1)

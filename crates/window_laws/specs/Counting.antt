@@ -42,13 +42,14 @@ NumbersItsTransfers = (t : Start) (ns : List Move) → first_number t < 42949672
 
 -- ---- the end that reads them
 
--- a Flow names as next-incoming-id the number of the Transfer behind so many
+-- a Flow names as next-incoming-id the number of the Transfer behind so many; a Begin was written at first
 abbrev pub Reports : ℕ → ℕ → FrameBody → Type 0
+Reports first n (b.Begin x) = ⊥
 Reports first n (b.Flow x) = x.next_incoming_id ≡ Some (number_at first n)
 Reports first n other = Unit {0}
 
--- Of a peer that numbers its Transfers one by one: each Flow that a session writes as it goes through a move reports all Transfers that it
--- has read by then.
+-- Of a peer that numbers its Transfers one by one: each Flow that a move adds to what a session writes reports all
+-- Transfers that it has read by then.
 abbrev pub ReportsWhatItHeard : Type 0
 ReportsWhatItHeard =
     (u : Start) (js : List Move) (m : Move) (new : List Framed) (first : ℕ) → Numbers first (reads u (js ++ m ∷ []))

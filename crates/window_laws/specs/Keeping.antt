@@ -1,5 +1,5 @@
 -- No session writes more Transfers than the window of the other allows (OASIS AMQP 1.0, part 2, section 2.5.6).
-use Rattle.std.specs.Prelude.{◌≡◌, ℕ, ◌+◌, ◌<◌, ◌≤◌, List, [], ◌++◌, All}
+use Rattle.std.specs.Prelude.{◌≡◌, ℕ, ◌+◌, ◌<◌, ◌≤◌, List, [], ◌∷◌, ◌++◌, All}
 use Rattle.amqp_frames.specs.declared.body.FrameBody.{FrameBody}
 use Rattle.amqp_frames.specs.declared.body.FrameBody.TheVariants as b
 use Rattle.amqp_session.specs.State.{Framed}
@@ -7,19 +7,46 @@ use Rattle.session_laws.specs.Holding.{Move, transfers}
 use Rattle.window_laws.specs.Starting.{Start, reads, writes, window, first_number}
 use Rattle.window_laws.specs.Counting.{count}
 
--- Two sessions, each from its begin on: each has read a front of what the other writes. The numbers of Transfers are 32 bits wide, and have
--- not gone round.
-pub record Pair (t : Start) (ns : List Move) (u : Start) (js : List Move) : Type 0 where
+-- each of two sessions has read a front of what the other has written
+pub record Hear (t : Start) (ns : List Move) (u : Start) (js : List Move) : Type 0 where
   pub unread : List Framed
   pub hears : reads u js ++ unread ≡ writes t ns
   pub unanswered : List Framed
   pub answers : reads t ns ++ unanswered ≡ writes u js
-  pub short : first_number t < 4294967296
-  pub few : count (reads u js) + window u < 4294967296
 
--- one has written no more Transfers than the other has read and its window
+-- Two sessions, each from its begin on, whatever it goes through: the one has written no more Transfers than the other
+-- has read and its window, as long as that is less than 2^32.
 abbrev pub KeepsTheWindow : Type 0
-KeepsTheWindow = (t : Start) (ns : List Move) (u : Start) (js : List Move) → Pair t ns u js → count (writes t ns) ≤ count (reads u js) + window u
+KeepsTheWindow =
+    (t : Start) (ns : List Move) (u : Start) (js : List Move) → Hear t ns u js → first_number t < 4294967296
+    → count (reads u js) + window u < 4294967296 → count (writes t ns) ≤ count (reads u js) + window u
+
+-- a move of the one session, or of the other
+pub data Step : Type 0 where
+  moves_one : Move → Step
+  moves_other : Move → Step
+
+abbrev pub moves_of_one : List Step → List Move
+moves_of_one [] = []
+moves_of_one (moves_one m ∷ xs) = m ∷ moves_of_one xs
+moves_of_one (moves_other m ∷ xs) = moves_of_one xs
+
+abbrev pub moves_of_other : List Step → List Move
+moves_of_other [] = []
+moves_of_other (moves_one m ∷ xs) = moves_of_other xs
+moves_of_other (moves_other m ∷ xs) = m ∷ moves_of_other xs
+
+-- from here on they go through these moves, and at each moment each has read a front of what the other has written
+abbrev pub GoOn : Start → List Move → Start → List Move → List Step → Type 0
+GoOn t ns u js [] = Hear t ns u js
+GoOn t ns u js (moves_one m ∷ xs) = Hear t ns u js × GoOn t (ns ++ m ∷ []) u js xs
+GoOn t ns u js (moves_other m ∷ xs) = Hear t ns u js × GoOn t ns u (js ++ m ∷ []) xs
+
+-- so it is at every moment, however many Transfers there were: numbers may go round
+abbrev pub KeepsTheWindowForEver : Type 0
+KeepsTheWindowForEver =
+    (t u : Start) (steps : List Step) → GoOn t [] u [] steps → first_number t < 4294967296 → window u < 4294967296
+    → count (writes t (moves_of_one steps)) ≤ count (reads u (moves_of_other steps)) + window u
 
 abbrev pub IsNotBegin : FrameBody → Type 0
 IsNotBegin (b.Begin x) = ⊥

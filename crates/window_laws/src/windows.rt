@@ -1,7 +1,7 @@
 //! What a session announces, counts and keeps, from its begin on.
 ghost use Rattle.window_laws.specs.Announcing.{AnnouncesItsWindow};
 ghost use Rattle.window_laws.specs.Counting.{NumbersItsTransfers, ReportsWhatItHeard, ReportsNoMore};
-ghost use Rattle.window_laws.specs.Keeping.{KeepsTheWindow, WaitsForTheBegin};
+ghost use Rattle.window_laws.specs.Keeping.{KeepsTheWindow, KeepsTheWindowForEver, WaitsForTheBegin};
 
 #[tactic(auto, using(crate::proofs::Announces::announces_its_window))]
 /// Whatever a session goes through from its begin on: its incoming window stays as it was built, and each Begin and
@@ -20,17 +20,19 @@ pub fn numbers_its_transfers()
 #[tactic(auto, using(crate::proofs::Counts::reports_what_it_heard, crate::proofs::Counts::reports_no_more))]
 /// Whatever a session goes through from its begin on, where its peer numbers its Transfers one by one: each Flow that
 /// it writes names as next-incoming-id the number of the peer's first Transfer, plus how many it has read by then,
-/// modulo 2^32; so none reports more than it has read.
+/// modulo 2^32, and no move writes a Begin; so none reports more than it has read.
 pub fn reports_what_it_heard()
     ensures heard { ReportsWhatItHeard }
     ensures no_more { ReportsNoMore }
 {}
 
-/// Of two sessions, each from its begin on and each hearing a front of what the other writes, one has never written
-/// more Transfers than the other has read and the incoming window with which that one was built; and none before it
-/// has read a Begin. The premise (`Pair`): the Transfers that the other reads in all, and its window, are fewer than
-/// 2^32, so that no number has gone round.
+/// Of two sessions, each from its begin on, one has never written more Transfers than the other has read and the
+/// incoming window with which that one was built; and none before it has read a Begin. The premises: the number of the
+/// first Transfer has 32 bits; and each has read a front of what the other has written. Where this is known of the last
+/// moment alone (`within`), so is that the Transfers that are read, and the window, are fewer than 2^32. Where it is
+/// known of each moment (`for_ever`), numbers may go round.
 pub fn keeps_the_window()
     ensures within { KeepsTheWindow }
+    ensures for_ever { KeepsTheWindowForEver }
     ensures first { WaitsForTheBegin }
 {}
