@@ -4,3 +4,4 @@ pub mod Announces
 pub mod Counts
 pub mod Keeps
 pub mod Together
+pub mod Examples

@@ -2,3 +2,4 @@ pub mod Starting
 pub mod Announcing
 pub mod Counting
 pub mod Keeping
+pub mod Example

@@ -1,5 +1,6 @@
 //! What a session announces, counts and keeps, from its begin on.
 ghost use Rattle.window_laws.specs.Announcing.{AnnouncesItsWindow};
+ghost use Rattle.window_laws.specs.Example.{WindowIsMet};
 ghost use Rattle.window_laws.specs.Counting.{NumbersItsTransfers, ReportsWhatItHeard, ReportsNoMore};
 ghost use Rattle.window_laws.specs.Keeping.{KeepsTheWindow, KeepsTheWindowForEver, WaitsForTheBegin};
 
@@ -35,4 +36,10 @@ pub fn keeps_the_window()
     ensures within { KeepsTheWindow }
     ensures for_ever { KeepsTheWindowForEver }
     ensures first { WaitsForTheBegin }
+{}
+
+/// There are two sessions that meet these premises: one fills the window of the other, waits while it is full, and
+/// writes again once the other has reported what it has read; the bounds are reached, and the numbers go round.
+pub fn window_is_met()
+    ensures { WindowIsMet }
 {}
