@@ -1,11 +1,9 @@
 -- The window that a session announces.
-use Rattle.std.specs.Prelude.{◌≡◌, ℕ, List, [], ◌∷◌, ◌++◌, Option, refl}
+use Rattle.std.specs.Prelude.{◌≡◌, ℕ, refl}
 use Rattle.amqp_frames.specs.declared.body.FrameBody.{FrameBody}
 use Rattle.amqp_frames.specs.declared.body.FrameBody.TheVariants as b
-use Rattle.amqp_session.specs.State.{Framed}
-use Rattle.session_laws.specs.Holding.{Move}
-use Rattle.window_laws.specs.Starting.{Start, window, reads, writes}
-use Rattle.window_laws.specs.Announcing.{Announces, Keeps, AnnouncesItsWindow}
+use Rattle.window_laws.specs.Starting.{window, reads, writes}
+use Rattle.window_laws.specs.Announcing.{Announces, AnnouncesItsWindow}
 use Rattle.window_laws.specs.Counting.{InOrder}
 use Rattle.window_laws.proofs.Walks.{View, IsPlain, Walks, lives}
 use Rattle.window_laws.proofs.Orders.{Each, order_push, each_all, none_known}

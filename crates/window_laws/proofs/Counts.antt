@@ -1,5 +1,5 @@
 -- What two ends tell each other of how many Transfers were written and read.
-use Rattle.std.specs.Prelude.{◌≡◌, ℕ, ◌+◌, ◌%◌, ◌<◌, ◌≤◌, true, false, List, [], ◌∷◌, ◌++◌, length, All, Option, Some, refl}
+use Rattle.std.specs.Prelude.{◌≡◌, ℕ, ◌+◌, ◌<◌, ◌≤◌, true, List, [], ◌∷◌, ◌++◌, All, Some, refl}
 use Rattle.std.proofs.Common.{sym, ◌∙◌, ap, subst, append-nil, append_assoc, arith}
 use Rattle.amqp_performatives.specs.declared.flow.Flow.{Flow}
 use Rattle.amqp_performatives.specs.declared.transfer.Transfer.{Transfer}
@@ -54,17 +54,17 @@ counts first = record {
   takes = λ n v e h. record { next = h.next; named = h.named };
   ends = λ n v p e h. record { next = h.next; named = h.named };
   says = λ n v x q h. record {
-      next = h.next ∙ ap (λ (m : ℕ). number_at first m) (sym (plain_push x v.output q));
-      named = order_push (NamesNext first) 0 v.output x h.named (plain_next first (counted 0 v.output) x.body q);
-    };
+    next = h.next ∙ ap (λ (m : ℕ). number_at first m) (sym (plain_push x v.output q));
+    named = order_push (NamesNext first) 0 v.output x h.named (plain_next first (counted 0 v.output) x.body q);
+  };
   flows = λ n v channel x e h. record {
-      next = h.next ∙ ap (λ (m : ℕ). number_at first m) (sym (flow_push v.output channel (stamped v.windows x)));
-      named = order_push (NamesNext first) 0 v.output (record { channel = channel; body = b.Flow (stamped v.windows x) }) h.named h.next;
-    };
+    next = h.next ∙ ap (λ (m : ℕ). number_at first m) (sym (flow_push v.output channel (stamped v.windows x)));
+    named = order_push (NamesNext first) 0 v.output (record { channel = channel; body = b.Flow (stamped v.windows x) }) h.named h.next;
+  };
   leaves = λ n v channel c x payload p h. record {
-      next = ap following h.next ∙ next_number first (counted 0 v.output) ∙ ap (λ (m : ℕ). number_at first m) (sym (transfer_push v.output channel x payload));
-      named = order_push (NamesNext first) 0 v.output (record { channel = channel; body = b.Transfer x payload }) h.named tt;
-    };
+    next = ap following h.next ∙ next_number first (counted 0 v.output) ∙ ap (λ (m : ℕ). number_at first m) (sym (transfer_push v.output channel x payload));
+    named = order_push (NamesNext first) 0 v.output (record { channel = channel; body = b.Transfer x payload }) h.named tt;
+  };
   begun = λ n v x k h. record { next = h.next; named = h.named };
   flowed = λ n v x k e h. record { next = h.next; named = h.named };
 }
@@ -149,17 +149,17 @@ tells_all base first = record {
   ends = λ n v p e h. record { due = λ m. absurd cc; gained = h.gained; all = h.all; told = h.told };
   says = λ n v x q h. record { due = h.due; gained = h.gained ++ x ∷ []; all = pushed base h.gained v.output x h.all; told = order_push (Each (Reports first n)) 0 h.gained x h.told (plain_reports first n x.body q) };
   flows = λ n v channel x e h. (let y : Framed = record { channel = channel; body = b.Flow (stamped v.windows x) } in record {
-      due = h.due;
-      gained = h.gained ++ y ∷ [];
-      all = pushed base h.gained v.output y h.all;
-      told = order_push (Each (Reports first n)) 0 h.gained y h.told (ap (λ (m : ℕ). Some m) (h.due e));
-    });
+    due = h.due;
+    gained = h.gained ++ y ∷ [];
+    all = pushed base h.gained v.output y h.all;
+    told = order_push (Each (Reports first n)) 0 h.gained y h.told (ap (λ (m : ℕ). Some m) (h.due e));
+  });
   leaves = λ n v channel c x payload p h. (let y : Framed = record { channel = channel; body = b.Transfer x payload } in record {
-      due = h.due;
-      gained = h.gained ++ y ∷ [];
-      all = pushed base h.gained v.output y h.all;
-      told = order_push (Each (Reports first n)) 0 h.gained y h.told tt;
-    });
+    due = h.due;
+    gained = h.gained ++ y ∷ [];
+    all = pushed base h.gained v.output y h.all;
+    told = order_push (Each (Reports first n)) 0 h.gained y h.told tt;
+  });
   begun = λ n v x k h. record { due = λ m. k; gained = h.gained; all = h.all; told = h.told };
   flowed = λ n v x k e h. record { due = λ m. k; gained = h.gained; all = h.all; told = h.told };
 }

@@ -1,5 +1,5 @@
 -- Two sessions that meet what the laws ask of them.
-use Rattle.std.specs.Prelude.{◌≡◌, [], ◌∷◌, refl}
+use Rattle.std.specs.Prelude.{[], ◌∷◌, refl}
 use Rattle.std.proofs.Common.{arith}
 use Rattle.amqp_frames.specs.declared.body.FrameBody.TheVariants as b
 use Rattle.amqp_parts.specs.Cut.{cut_of, is_sized}

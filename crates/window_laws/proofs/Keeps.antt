@@ -1,15 +1,14 @@
 -- No session writes more Transfers than the window of the other allows.
-use Rattle.std.specs.Prelude.{◌≡◌, ◌⊎◌, ℕ, suc, ◌+◌, ◌-◌, ◌%◌, ◌<◌, ◌≤◌, true, false, List, [], ◌∷◌, ◌++◌, length, All, Option, Some, unwrap_or, refl}
+use Rattle.std.specs.Prelude.{◌≡◌, ◌⊎◌, ℕ, suc, ◌+◌, ◌-◌, ◌<◌, ◌≤◌, true, false, List, [], ◌∷◌, length, Option, Some, unwrap_or, refl}
 use Rattle.std.proofs.Common.{inl, inr, sym, ◌∙◌, ap, subst, arith}
 use Rattle.std.proofs.lemmas.Bool.{cases_lt}
 use Rattle.amqp_frames.specs.declared.body.FrameBody.{FrameBody}
-use Rattle.amqp_frames.specs.declared.body.FrameBody.TheVariants as b
 use Rattle.amqp_parts.specs.declared.part.Part.{Part}
 use Rattle.amqp_session.specs.declared.session.SessionState.{SessionState}
 use Rattle.amqp_session.specs.State.{Framed}
 use Rattle.amqp_session.specs.Windows.{minus, stamped, after as following}
-use Rattle.session_laws.specs.Holding.{Move, after_all, transfers}
-use Rattle.window_laws.specs.Starting.{Start, session_of, reads, writes, window, first_number}
+use Rattle.session_laws.specs.Holding.{after_all, transfers}
+use Rattle.window_laws.specs.Starting.{session_of, reads, writes, window, first_number}
 use Rattle.window_laws.specs.Announcing.{Announces}
 use Rattle.window_laws.specs.Counting.{number_at, count, InOrder, NamesNext, Numbers, ReportsWithin}
 use Rattle.window_laws.specs.Keeping.{KeepsTheWindow, IsNotBegin, WaitsForTheBegin}
@@ -77,30 +76,30 @@ keeps first size most short few = record {
   takes = λ n v e h. record { starts_at = h.starts_at; next = h.next; room = h.room };
   ends = λ n v p e h. record { starts_at = h.starts_at; next = h.next; room = h.room };
   says = λ n v x q h. (let e = sym (plain_push x v.output q) in record {
-      starts_at = h.starts_at;
-      next = h.next ∙ ap (λ (m : ℕ). number_at first m) e;
-      room = subst (λ (m : ℕ). v.windows.allowance + m ≤ most + size) e h.room;
-    });
+    starts_at = h.starts_at;
+    next = h.next ∙ ap (λ (m : ℕ). number_at first m) e;
+    room = subst (λ (m : ℕ). v.windows.allowance + m ≤ most + size) e h.room;
+  });
   flows = λ n v channel x e h. record {
-      starts_at = h.starts_at;
-      next = h.next ∙ ap (λ (m : ℕ). number_at first m) (sym (flow_push v.output channel (stamped v.windows x)));
-      room = subst (λ (m : ℕ). v.windows.allowance + m ≤ most + size) (sym (flow_push v.output channel (stamped v.windows x))) h.room;
-    };
+    starts_at = h.starts_at;
+    next = h.next ∙ ap (λ (m : ℕ). number_at first m) (sym (flow_push v.output channel (stamped v.windows x)));
+    room = subst (λ (m : ℕ). v.windows.allowance + m ≤ most + size) (sym (flow_push v.output channel (stamped v.windows x))) h.room;
+  };
   leaves = λ n v channel c x payload p h. record {
-      starts_at = h.starts_at;
-      next = ap following h.next ∙ next_number first (counted 0 v.output) ∙ ap (λ (m : ℕ). number_at first m) (sym (transfer_push v.output channel x payload));
-      room = subst (λ (m : ℕ). (v.windows.allowance - 1) + m ≤ most + size) (sym (transfer_push v.output channel x payload)) (one_left v.windows.allowance (counted 0 v.output) (most + size) p h.room);
-    };
+    starts_at = h.starts_at;
+    next = ap following h.next ∙ next_number first (counted 0 v.output) ∙ ap (λ (m : ℕ). number_at first m) (sym (transfer_push v.output channel x payload));
+    room = subst (λ (m : ℕ). (v.windows.allowance - 1) + m ≤ most + size) (sym (transfer_push v.output channel x payload)) (one_left v.windows.allowance (counted 0 v.output) (most + size) p h.room);
+  };
   begun = λ n v x k h. record {
-      starts_at = h.starts_at;
-      next = h.next;
-      room = begin_room first size most (counted 0 v.output) v.windows.next_outgoing_id x.incoming_window v.windows.first_outgoing_id short few h.next k.0 h.starts_at (less_room v.windows.allowance (counted 0 v.output) (most + size) h.room);
-    };
+    starts_at = h.starts_at;
+    next = h.next;
+    room = begin_room first size most (counted 0 v.output) v.windows.next_outgoing_id x.incoming_window v.windows.first_outgoing_id short few h.next k.0 h.starts_at (less_room v.windows.allowance (counted 0 v.output) (most + size) h.room);
+  };
   flowed = λ n v x k e h. record {
-      starts_at = h.starts_at;
-      next = h.next;
-      room = flow_room first size most (counted 0 v.output) v.windows.next_outgoing_id x.incoming_window v.windows.first_outgoing_id x.next_incoming_id few h.next k.0 k.1.0 k.1.1.0 k.1.1.1 (less_room v.windows.allowance (counted 0 v.output) (most + size) h.room);
-    };
+    starts_at = h.starts_at;
+    next = h.next;
+    room = flow_room first size most (counted 0 v.output) v.windows.next_outgoing_id x.incoming_window v.windows.first_outgoing_id x.next_incoming_id few h.next k.0 k.1.0 k.1.1.0 k.1.1.1 (less_room v.windows.allowance (counted 0 v.output) (most + size) h.room);
+  };
 }
 
 zero_within : (m : ℕ) → 0 ≤ m

@@ -1,10 +1,9 @@
 -- Frames in order, and how many Transfers are among them.
 use Rattle.std.specs.Prelude.{◌≡◌, ℕ, ◌+◌, List, [], ◌∷◌, ◌++◌, length, All, refl}
-use Rattle.std.proofs.Common.{sym, ◌∙◌, ap, subst, arith, length-append}
+use Rattle.std.proofs.Common.{sym, ◌∙◌, ap, arith, length-append}
 use Rattle.std.proofs.lemmas.List.Elements.{All-nil, All-cons, All-head, All-tail}
 use Rattle.amqp_frames.specs.declared.body.FrameBody.{FrameBody}
 use Rattle.amqp_frames.specs.declared.body.FrameBody.TheVariants as b
-use Rattle.amqp_parts.specs.declared.part.Part.{Part}
 use Rattle.amqp_session.specs.State.{Framed}
 use Rattle.session_laws.specs.Messages.{transfer_in}
 use Rattle.session_laws.specs.Holding.{transfers}

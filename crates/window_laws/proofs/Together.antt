@@ -6,7 +6,7 @@ use Rattle.amqp_frames.specs.declared.body.FrameBody.TheVariants as b
 use Rattle.amqp_session.specs.State.{State, Framed}
 use Rattle.amqp_session.specs.Begin.{asked}
 use Rattle.amqp_session.specs.Windows.{minus, stamped, after as following}
-use Rattle.session_laws.specs.Holding.{Move, hears, after, after_all, handed, handed_all}
+use Rattle.session_laws.specs.Holding.{Move, hears, after, after_all, handed_all}
 use Rattle.session_laws.specs.Handing.{heard_by}
 use Rattle.window_laws.specs.Starting as starting
 use Rattle.window_laws.specs.Starting.{Start, session_of, reads, writes, window, first_number}
@@ -14,10 +14,10 @@ use Rattle.window_laws.specs.Announcing.{Announces}
 use Rattle.window_laws.specs.Counting.{number_at, count, behind, InOrder, NamesNext, Numbers, Reports}
 use Rattle.window_laws.specs.Keeping as steps
 use Rattle.window_laws.specs.Keeping.{Hear, Step, moves_of_one, moves_of_other, GoOn, KeepsTheWindowForEver}
-use Rattle.window_laws.proofs.Walks.{View, view, Walks, HeardAs, behind_move, moves, counted}
+use Rattle.window_laws.proofs.Walks.{View, view, Walks, HeardAs, moves, counted}
 use Rattle.window_laws.proofs.Orders.{counted_all, count_both, order_first, order_last, Each, all_each, any_start}
 use Rattle.window_laws.proofs.Announces.{announces_its_window}
-use Rattle.window_laws.proofs.Counts.{plain_push, flow_push, transfer_push, next_number, first_is, numbers_its_transfers, after_last, handed_last, written_last, reads_last, cancel, Adds, adds}
+use Rattle.window_laws.proofs.Counts.{plain_push, flow_push, transfer_push, next_number, first_is, numbers_its_transfers, after_last, written_last, reads_last, cancel, adds}
 use Rattle.window_laws.proofs.Keeps.{ahead, ahead_room, less_room, one_left}
 
 -- ---- what is on its way back
@@ -120,35 +120,35 @@ keeps first size low said fits short = record {
   takes = λ n v e h. record { starts_at = h.starts_at; next = h.next; room = more_room _ low said size h.room h.no_lower; no_more = h.no_more };
   ends = λ n v p e h. record { starts_at = h.starts_at; next = h.next; room = h.room; no_more = h.no_more };
   says = λ n v x q h. (let e = sym (plain_push x v.output q) in record {
-      starts_at = h.starts_at;
-      next = h.next ∙ ap (λ (m : ℕ). number_at first m) e;
-      room = subst (λ (m : ℕ). v.windows.allowance + m ≤ said + size) e h.room;
-      no_more = subst (λ (m : ℕ). said ≤ m) e h.no_more;
-    });
+    starts_at = h.starts_at;
+    next = h.next ∙ ap (λ (m : ℕ). number_at first m) e;
+    room = subst (λ (m : ℕ). v.windows.allowance + m ≤ said + size) e h.room;
+    no_more = subst (λ (m : ℕ). said ≤ m) e h.no_more;
+  });
   flows = λ n v channel x e h. (let f = sym (flow_push v.output channel (stamped v.windows x)) in record {
-      starts_at = h.starts_at;
-      next = h.next ∙ ap (λ (m : ℕ). number_at first m) f;
-      room = subst (λ (m : ℕ). v.windows.allowance + m ≤ said + size) f h.room;
-      no_more = subst (λ (m : ℕ). said ≤ m) f h.no_more;
-    });
+    starts_at = h.starts_at;
+    next = h.next ∙ ap (λ (m : ℕ). number_at first m) f;
+    room = subst (λ (m : ℕ). v.windows.allowance + m ≤ said + size) f h.room;
+    no_more = subst (λ (m : ℕ). said ≤ m) f h.no_more;
+  });
   leaves = λ n v channel c x payload p h. (let f = sym (transfer_push v.output channel x payload) in record {
-      starts_at = h.starts_at;
-      next = ap following h.next ∙ next_number first (counted 0 v.output) ∙ ap (λ (m : ℕ). number_at first m) f;
-      room = subst (λ (m : ℕ). (v.windows.allowance - 1) + m ≤ said + size) f (one_left v.windows.allowance (counted 0 v.output) (said + size) p h.room);
-      no_more = subst (λ (m : ℕ). said ≤ m) f (some_more said (counted 0 v.output) h.no_more);
-    });
+    starts_at = h.starts_at;
+    next = ap following h.next ∙ next_number first (counted 0 v.output) ∙ ap (λ (m : ℕ). number_at first m) f;
+    room = subst (λ (m : ℕ). (v.windows.allowance - 1) + m ≤ said + size) f (one_left v.windows.allowance (counted 0 v.output) (said + size) p h.room);
+    no_more = subst (λ (m : ℕ). said ≤ m) f (some_more said (counted 0 v.output) h.no_more);
+  });
   begun = λ n v x k h. record {
-      starts_at = h.starts_at;
-      next = h.next;
-      room = begin_room first size said (counted 0 v.output) v.windows.next_outgoing_id x.incoming_window v.windows.first_outgoing_id fits short h.next k.0 k.1 h.starts_at h.no_more (less_room v.windows.allowance (counted 0 v.output) (said + size) h.room);
-      no_more = h.no_more;
-    };
+    starts_at = h.starts_at;
+    next = h.next;
+    room = begin_room first size said (counted 0 v.output) v.windows.next_outgoing_id x.incoming_window v.windows.first_outgoing_id fits short h.next k.0 k.1 h.starts_at h.no_more (less_room v.windows.allowance (counted 0 v.output) (said + size) h.room);
+    no_more = h.no_more;
+  };
   flowed = λ n v x k e h. record {
-      starts_at = h.starts_at;
-      next = h.next;
-      room = flow_room first size said (counted 0 v.output) v.windows.next_outgoing_id x.incoming_window v.windows.first_outgoing_id x.next_incoming_id short h.next k.0 k.1 h.no_more (less_room v.windows.allowance (counted 0 v.output) (said + size) h.room);
-      no_more = h.no_more;
-    };
+    starts_at = h.starts_at;
+    next = h.next;
+    room = flow_room first size said (counted 0 v.output) v.windows.next_outgoing_id x.incoming_window v.windows.first_outgoing_id x.next_incoming_id short h.next k.0 k.1 h.no_more (less_room v.windows.allowance (counted 0 v.output) (said + size) h.room);
+    no_more = h.no_more;
+  };
 }
 
 -- ---- both
@@ -186,7 +186,7 @@ one_moves t ns u js m fits short now then a =
     let h = heard_first first size a.low (count (reads u js)) m then.unanswered (subst (λ (xs : List Framed). Pending first size a.low (count (reads u js)) xs) same a.pending) in
     let no_more : h.said ≤ counted 0 (writes t ns) = le_then h.said (count (reads u js)) (counted 0 (writes t ns)) (pending_within first size h.said (count (reads u js)) then.unanswered h.pending) (front_count (reads u js) now.unread (writes t ns) now.hears) in
     let o = moves (Grants first size h.said) (Before first size a.low h.said) (Open first size h.said) (keeps first size a.low h.said fits short) 0 done s m h.grants
-          (record { starts_at = a.starts_at; next = a.next; room = a.room; no_lower = h.no_lower; no_more = no_more }) in
+    (record { starts_at = a.starts_at; next = a.next; room = a.room; no_lower = h.no_lower; no_more = no_more }) in
     let w = sym (written_last (session_of t) ns m) in
     let l = sym (after_last (session_of t) ns m) in
     record {
@@ -268,7 +268,7 @@ first_at (starting.answers x channel incoming) u fits short h =
     let p : Pending first size 0 high (reads t [] ++ h.unanswered) = subst (λ (xs : List Framed). Pending first size 0 high xs) (sym h.answers) (first_pending first u) in
     let r : ℕ = p.0 in
     let o = (keeps first size 0 r fits short).begun 0 (view [] (asked x channel (Some incoming.channel))) incoming.begin p.1.1.0
-          (record { starts_at = refl; next = first_is first fits; room = zero_within (r + size); no_more = none_said r p.1.1.0.1 }) in
+    (record { starts_at = refl; next = first_is first fits; room = zero_within (r + size); no_more = none_said r p.1.1.0.1 }) in
     record {
       low = r;
       starts_at = o.starts_at;

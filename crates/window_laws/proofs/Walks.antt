@@ -22,14 +22,13 @@ use Rattle.amqp_session.specs.declared.error.Fault.TheVariants as fault
 use Rattle.amqp_session.specs.declared.session.LinkInput.TheVariants as input
 use Rattle.amqp_session.specs.declared.session.SessionState.{SessionState}
 use Rattle.amqp_session.specs.declared.session.SessionState.TheVariants as state
-use Rattle.amqp_session.specs.declared.settings.SessionSettings.{SessionSettings}
 use Rattle.amqp_session.specs.declared.windows.Windows.{Windows}
 use Rattle.amqp_session.specs.Begin.{asked, mapped}
 use Rattle.amqp_session.specs.Ends.{stopping, stopped, own_reason, remote_reason, ending, failing, ended, answered, end_asked, attach_refused}
 use Rattle.amqp_session.specs.Faults.{error_for}
 use Rattle.amqp_session.specs.Frames.{heard_in, heard_unanswered, heard_mapped, heard_ending, told_in}
-use Rattle.amqp_session.specs.Hold.{begins, leaving, first_leaving, releasing, released, dropping, reporting}
-use Rattle.amqp_session.specs.Links.{input_at, attach_at, detach_at, report, transfer_at, hand_flow, echo, is_astray, flow_at}
+use Rattle.amqp_session.specs.Hold.{begins, first_leaving, releasing, released, dropping, reporting}
+use Rattle.amqp_session.specs.Links.{input_at, attach_at, detach_at, transfer_at, hand_flow, echo, is_astray, flow_at}
 use Rattle.amqp_session.specs.State.{State, Framed, saying, handing}
 use Rattle.amqp_session.specs.State.{refuses as refused_with}
 use Rattle.amqp_session.specs.Windows.{stamped, session_flow, transfer_read, is_report_due, reported, windows_left, windows_begun, windows_flowed}

@@ -38,7 +38,8 @@ Numbers first xs = InOrder (NamesNext first) 0 xs
 
 -- so does a session, whatever it goes through
 abbrev pub NumbersItsTransfers : Type 0
-NumbersItsTransfers = (t : Start) (ns : List Move) → first_number t < 4294967296 → Numbers (first_number t) (writes t ns)
+NumbersItsTransfers =
+    (t : Start) (ns : List Move) → first_number t < 4294967296 → Numbers (first_number t) (writes t ns)
 
 -- ---- the end that reads them
 

@@ -1,6 +1,6 @@
--- Two sessions of which one fills the window of the other, and waits until it is told that there is room (OASIS AMQP 1.0, part 2, section
--- 2.5.6).
-use Rattle.std.specs.Prelude.{◌≡◌, ℕ, ◌+◌, ◌<◌, true, false, codes, List, [], ◌∷◌, Some, None}
+-- Two sessions of which one fills the window of the other, and waits until it is told that there is room (OASIS AMQP
+-- 1.0, part 2, section 2.5.6).
+use Rattle.std.specs.Prelude.{◌≡◌, ℕ, ◌+◌, ◌<◌, true, false, codes, List, [], ◌∷◌, ◌++◌, Some, None}
 use Rattle.amqp_composites.specs.declared.modes.ReceiverSettleMode.TheVariants.{First}
 use Rattle.amqp_composites.specs.declared.modes.Role.TheVariants as role
 use Rattle.amqp_composites.specs.declared.modes.SenderSettleMode.TheVariants.{Mixed}
@@ -38,9 +38,6 @@ abbrev pub other_settings : SessionSettings
 other_settings = record settings { next_outgoing_id = 0; incoming_window = 1 }
 
 -- ---- the frames
-
-abbrev pub begin : Framed
-begin = framed (b.Begin (begin_of settings None))
 
 abbrev pub answer : Framed
 answer = framed (b.Begin (begin_of other_settings (Some 0)))
@@ -113,11 +110,18 @@ other_starts = answers other_settings 0 (record { channel = 0; begin = begin_of 
 
 -- the link of the one writes two deliveries, for which there is no room at once
 abbrev pub fills : List Step
-fills = moves_one (hears answer) ∷ moves_one (tells (link.Attach attach)) ∷ moves_one (tells (link.Transfer (delivery 0) hello)) ∷ moves_one (tells (link.Transfer (delivery 1) hello)) ∷ []
+fills =
+    moves_one (hears answer) ∷ moves_one (tells (link.Attach attach))
+    ∷ moves_one (tells (link.Transfer (delivery 0) hello)) ∷ moves_one (tells (link.Transfer (delivery 1) hello)) ∷ []
 
 -- the other reads the first one, and reports it
+abbrev pub tells_back : List Step
+tells_back =
+    moves_other (hears (framed (b.Attach attach))) ∷ moves_other (hears (sent 0))
+    ∷ moves_one (hears (framed (b.Flow report))) ∷ []
+
 abbrev pub goes : List Step
-goes = moves_one (hears answer) ∷ moves_one (tells (link.Attach attach)) ∷ moves_one (tells (link.Transfer (delivery 0) hello)) ∷ moves_one (tells (link.Transfer (delivery 1) hello)) ∷ moves_other (hears (framed (b.Attach attach))) ∷ moves_other (hears (sent 0)) ∷ moves_one (hears (framed (b.Flow report))) ∷ []
+goes = fills ++ tells_back
 
 -- They meet what the laws ask. The second delivery waits while the window is full, and is written once the other has
 -- reported the first one; then the window is full again, and each bound is reached.

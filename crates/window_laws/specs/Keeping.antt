@@ -1,5 +1,5 @@
 -- No session writes more Transfers than the window of the other allows (OASIS AMQP 1.0, part 2, section 2.5.6).
-use Rattle.std.specs.Prelude.{◌≡◌, ℕ, ◌+◌, ◌<◌, ◌≤◌, List, [], ◌∷◌, ◌++◌, All}
+use Rattle.std.specs.Prelude.{◌≡◌, ◌+◌, ◌<◌, ◌≤◌, List, [], ◌∷◌, ◌++◌, All}
 use Rattle.amqp_frames.specs.declared.body.FrameBody.{FrameBody}
 use Rattle.amqp_frames.specs.declared.body.FrameBody.TheVariants as b
 use Rattle.amqp_session.specs.State.{Framed}
@@ -54,4 +54,5 @@ IsNotBegin other = Unit {0}
 
 -- and none before it has read a Begin
 abbrev pub WaitsForTheBegin : Type 0
-WaitsForTheBegin = (t : Start) (ns : List Move) → All (λ (x : Framed). IsNotBegin x.body) (reads t ns) → transfers (writes t ns) ≡ []
+WaitsForTheBegin =
+    (t : Start) (ns : List Move) → All (λ (x : Framed). IsNotBegin x.body) (reads t ns) → transfers (writes t ns) ≡ []

@@ -1,5 +1,5 @@
 -- A session from its begin on: what it has read, and what it writes (OASIS AMQP 1.0, part 2, sections 2.5.1 and 2.7.2).
-use Rattle.std.specs.Prelude.{ℕ, List, [], ◌∷◌, ◌++◌, None}
+use Rattle.std.specs.Prelude.{ℕ, List, [], ◌∷◌, ◌++◌}
 use Rattle.amqp_frames.specs.declared.body.FrameBody.TheVariants as b
 use Rattle.amqp_frames.specs.declared.shared.IncomingSession.{IncomingSession}
 use Rattle.amqp_session.specs.declared.settings.SessionSettings.{SessionSettings}
