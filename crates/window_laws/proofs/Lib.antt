@@ -5,3 +5,4 @@ pub mod Counts
 pub mod Keeps
 pub mod Together
 pub mod Examples
+pub mod Grants

@@ -2,6 +2,7 @@
 ghost use Rattle.window_laws.specs.Announcing.{AnnouncesItsWindow};
 ghost use Rattle.window_laws.specs.Example.{WindowIsMet};
 ghost use Rattle.window_laws.specs.Counting.{NumbersItsTransfers, ReportsWhatItHeard, ReportsNoMore};
+ghost use Rattle.window_laws.specs.Granting.{WritesWhatIsGranted};
 ghost use Rattle.window_laws.specs.Keeping.{KeepsTheWindow, KeepsTheWindowForEver, WaitsForTheBegin};
 
 #[tactic(auto, using(crate::proofs::Announces::announces_its_window))]
@@ -25,6 +26,14 @@ pub fn numbers_its_transfers()
 pub fn reports_what_it_heard()
     ensures heard { ReportsWhatItHeard }
     ensures no_more { ReportsNoMore }
+{}
+
+/// Whatever a session goes through from its begin on, and whoever its peer is: the number of each Transfer that it
+/// writes is behind where a Begin or a Flow that it has read begins to count, by less than the incoming-window in that
+/// frame, modulo 2^32. A Begin, and a Flow that names no next-incoming-id, count from the first Transfer. The
+/// premises: that window and the number of the first Transfer are of 32 bits.
+pub fn writes_what_is_granted()
+    ensures { WritesWhatIsGranted }
 {}
 
 /// Of two sessions, each from its begin on, one has never written more Transfers than the other has read and the
