@@ -1,0 +1,10 @@
+pub mod Tables
+pub mod Lives
+pub mod Going
+pub mod Hearing
+pub mod Calling
+pub mod Deeds
+pub mod Channels
+pub mod Runs
+pub mod Sound
+pub mod Fronts
