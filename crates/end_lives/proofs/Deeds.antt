@@ -3,10 +3,8 @@ use Rattle.std.specs.Prelude.{◌≡◌, ℕ, List, [], ◌∷◌, ◌++◌, ref
 use Rattle.std.proofs.Common.{sym, ◌∙◌, ap, subst, append_assoc}
 use Rattle.amqp_wire.specs.declared.link.Link.{Ghosts}
 use Rattle.amqp_peer.specs.Peering.{Peering}
-use Rattle.amqp_links.specs.Parts.{Told}
 use Rattle.amqp_links.specs.State.{State as Links}
 use Rattle.amqp_sessions.specs.State.{State as Sessions}
-use Rattle.amqp_session.specs.declared.session.LinkInput.{LinkInput}
 use Rattle.amqp_end.specs.Deeds as end
 use Rattle.amqp_end.specs.Moves as move
 use Rattle.link_lives.specs.Deeds as links

@@ -1,26 +1,23 @@
 -- What the links of an end give to one of its sessions: that takes the first of it, until it is let go.
-use Rattle.std.specs.Prelude.{◌≡◌, ℕ, nat_eq, Bool, true, false, List, [], ◌∷◌, ◌++◌, flat_map, Option, Some, None, if◌then◌else◌, refl}
-use Rattle.std.proofs.Common.{sym, ◌∙◌, ap, subst, append_assoc}
+use Rattle.std.specs.Prelude.{◌≡◌, ℕ, nat_eq, Bool, true, false, List, [], ◌∷◌, ◌++◌, Option, Some, None, if◌then◌else◌, refl}
+use Rattle.std.proofs.Common.{sym, ◌∙◌, ap, append_assoc}
 use Rattle.std.proofs.lemmas.Grind.{flat_map-append}
-use Rattle.std.proofs.lemmas.List.{append-nil}
 use Rattle.amqp_frames.specs.declared.shared.LinkFrame.{LinkFrame}
 use Rattle.amqp_frames.specs.declared.shared.LinkFrame.TheVariants as frame
 use Rattle.amqp_link.specs.Link.{body_of}
-use Rattle.amqp_links.specs.Parts.{Told}
 use Rattle.amqp_parts.specs.declared.part.Part.{Part}
 use Rattle.amqp_sessions.specs.Parts.{EndpointState}
 use Rattle.amqp_sessions.specs.State.{State, endpoint_of}
 use Rattle.session_laws.specs.Messages.{transfer_in}
 use Rattle.link_lives.specs.Deeds.{part_told, parts_told}
 use Rattle.link_lives.proofs.Tables.{flip}
-use Rattle.session_lives.specs.Deeds.{Deed, Begins, Awaits, Accepts, Refuses, Ends, HandsOut, Halts, Concludes, Hears, Writes, Frees, Gives, Takes, Lacks, Tells, Did, where_there, told_of, came_in, AreOther}
+use Rattle.session_lives.specs.Deeds.{Deed, Takes, Did, where_there, told_of, came_in, AreOther}
 use Rattle.session_lives.specs.Lives.{Share}
 use Rattle.session_lives.specs.Logs.{AreKeyed, Fate}
 use Rattle.session_lives.proofs.Deeds.{one_session_lives}
 use Rattle.end_lives.specs.Ends.{taken_of, taken_in}
 use Rattle.end_lives.specs.Laws.{IsFront}
 use Rattle.end_lives.proofs.Phases.{part_in, parts_given}
-use Rattle.end_lives.proofs.Fronts.{front_is, front_more}
 
 -- the frames that links give to the session of that name, whether it stands or not
 abbrev pub meant_by : ℕ → Deed → List LinkFrame

@@ -1,6 +1,6 @@
 -- A sender that is attached sends on its handle: it gets another only as it is attached again, and then it sends no more.
-use Rattle.std.specs.Prelude.{◌≡◌, ℕ, nat_eq, nat_lt, Bool, true, false, not, is_some, ◌&&◌, ◌||◌, List, [], ◌∷◌, ◌++◌, length, map, Option, Some, None, Result, Ok, Err, if◌then◌else◌, refl}
-use Rattle.std.proofs.Common.{sym, ◌∙◌, ap, subst, eq-eqb}
+use Rattle.std.specs.Prelude.{◌≡◌, ℕ, nat_eq, nat_lt, Bool, true, false, is_some, ◌&&◌, ◌||◌, List, [], ◌∷◌, ◌++◌, length, map, Option, Some, None, Ok, Err, if◌then◌else◌, refl}
+use Rattle.std.proofs.Common.{sym, ◌∙◌, ap, eq-eqb}
 use Rattle.std.proofs.lemmas.List.{map-append}
 use Rattle.std.proofs.lemmas.List.Elements.{filter-append}
 use Rattle.amqp_composites.specs.declared.error.Error.{Error as AmqpError}
@@ -24,13 +24,11 @@ use Rattle.amqp_link.specs.declared.error.AttachFault.TheVariants as fault
 use Rattle.amqp_link.specs.declared.error.DetachError.TheVariants.{IllegalState}
 use Rattle.amqp_link.specs.declared.error.LinkStateError.{LinkStateError}
 use Rattle.amqp_link.specs.declared.error.LinkStateError.TheVariants as state
-use Rattle.amqp_link.specs.Link as link
-use Rattle.amqp_link.specs.Link.{Link, is_attached, is_awaited, is_detaching, is_done, agreed_as, answered, reclosed_unless, has_unsettled, unexpected_in, unexpected, attach_in, detach_in, poll_waiting, poll_failing, polled, tells, or_else, refusal, ended_by}
+use Rattle.amqp_link.specs.Link.{Link, is_attached, is_awaited, is_detaching, is_done, agreed_as, answered, reclosed_unless, has_unsettled, unexpected_in, unexpected, attach_in, detach_in, poll_waiting, poll_failing, tells, or_else, refusal, ended_by}
 use Rattle.amqp_link.specs.Parting as parting
 use Rattle.amqp_link.specs.Parting.{parting_unless, parting_in, abandoned_in}
 use Rattle.amqp_link.specs.Rules.{fault_of}
 use Rattle.amqp_sender.specs.declared.error.SendError.TheVariants as error
-use Rattle.amqp_sender.specs.Parting.{map_of, all_told}
 use Rattle.amqp_sender.specs.Sender.{State}
 use Rattle.amqp_sender.specs.Sending.{Made, sending, sending_unless, sending_with, is_settled, is_too_large, flow_in, drained, credit_by}
 use Rattle.amqp_sender.specs.Sending as out
@@ -38,7 +36,7 @@ use Rattle.amqp_sender.specs.declared.sender.Settlement.{Settlement}
 use Rattle.amqp_sender.specs.Settling.{settled, settled_at, place_of, settlement_of, echoed, outcome_read, disposition_read, is_second, is_terminal}
 use Rattle.session_laws.specs.Messages.{Message, part_of, transfers, on}
 use Rattle.session_laws.specs.Sending.{Move, sends, polls, parts, abandons, reattaches, stays, hears_attach, hears_flow, hears_transfer, hears_disposition, hears_detach, stops, hands_over, after, written, message_for, sent_if, sent_by, sent}
-use Rattle.session_laws.proofs.Links.{Fixed, fixed, fixed_same, fixed_then, unexpected_moves, attach_moves, detach_moves, polled_moves, parting_moves, abandoned_moves, unplaced_moves, reattached_moves, stopped_moves}
+use Rattle.session_laws.proofs.Links.{Fixed, fixed, fixed_same, fixed_then, unexpected_moves, attach_moves, detach_moves, polled_moves, parting_moves, abandoned_moves, unplaced_moves, stopped_moves}
 use Rattle.session_laws.proofs.Receives.{attached_met}
 use Rattle.session_laws.proofs.Sends.{writes_what_is_sent}
 use Rattle.end_lives.specs.Between.{SendOnTheirHandle}

@@ -2,7 +2,6 @@
 use Rattle.std.specs.Prelude.{◌≡◌, ◌⊎◌, ℕ, zero, suc, Bool, true, false, nat_lt, List, [], ◌∷◌, ◌++◌, flat_map, Option, Some, None, if◌then◌else◌, refl}
 use Rattle.std.proofs.Common.{sym, ◌∙◌, ap, append_assoc, inl, inr}
 use Rattle.std.proofs.lemmas.Grind.{flat_map-append}
-use Rattle.std.proofs.lemmas.List.{append-nil}
 use Rattle.amqp_composites.specs.declared.error.Error.{Error as AmqpError}
 use Rattle.amqp_composites.specs.declared.modes.Role.{Role}
 use Rattle.amqp_composites.specs.declared.modes.Role.TheVariants as role
@@ -23,11 +22,11 @@ use Rattle.amqp_session.specs.declared.error.Error.{Error}
 use Rattle.amqp_session.specs.declared.error.Error.TheVariants.{FramingError}
 use Rattle.amqp_session.specs.declared.error.Fault.{Fault}
 use Rattle.amqp_session.specs.declared.error.Fault.TheVariants as fault
-use Rattle.amqp_session.specs.Ends.{stopping, stopped, own_reason, remote_reason, ending, failing, ended, answered, end_asked, attach_refused}
+use Rattle.amqp_session.specs.Ends.{stopping, stopped, own_reason, remote_reason, ending, failing, answered, end_asked, attach_refused}
 use Rattle.amqp_session.specs.Faults.{error_for}
 use Rattle.amqp_session.specs.Frames.{heard_in, heard_mapped, heard_ending, told_in}
 use Rattle.amqp_session.specs.Hold.{first_leaving, releasing, released, reporting}
-use Rattle.amqp_session.specs.Links.{input_at, attach_at, detach_at, report, transfer_at, hand_flow, echo, is_astray, flow_at}
+use Rattle.amqp_session.specs.Links.{input_at, attach_at, detach_at, transfer_at, hand_flow, echo, is_astray, flow_at}
 use Rattle.amqp_session.specs.State.{State, Framed, handing, refuses as refused_with}
 use Rattle.amqp_session.specs.Windows.{transfer_read, is_report_due, windows_flowed}
 use Rattle.session_laws.specs.Holding.{Move, tells, hears, ends, refuses, stops, hands_frame, hands_input, after, told_in_phase, told_by, told}

@@ -1,9 +1,8 @@
 -- A receiver and its session go on together.
-use Rattle.std.specs.Prelude.{◌≡◌, ℕ, nat_eq, Bool, true, false, List, [], ◌∷◌, ◌++◌, flat_map, Option, Some, None, if◌then◌else◌, refl}
-use Rattle.std.proofs.Common.{sym, ◌∙◌, ap, subst, eq-eqb}
+use Rattle.std.specs.Prelude.{◌≡◌, ℕ, nat_eq, Bool, true, false, List, [], ◌∷◌, ◌++◌, Option, Some, None, if◌then◌else◌, refl}
+use Rattle.std.proofs.Common.{sym, ◌∙◌, ap, eq-eqb}
 use Rattle.std.proofs.lemmas.Bool.{eqb-true, eqb-false}
 use Rattle.std.proofs.lemmas.Grind.{flat_map-append}
-use Rattle.std.proofs.lemmas.List.{append-nil}
 use Rattle.amqp_parts.specs.declared.part.Part.{Part}
 use Rattle.amqp_performatives.specs.declared.transfer.Transfer.{Transfer}
 use Rattle.amqp_session.specs.declared.session.LinkInput.{LinkInput}
@@ -24,10 +23,10 @@ use Rattle.session_lives.specs.Deeds as sessions
 use Rattle.session_lives.specs.Deeds.{gave_in}
 use Rattle.session_lives.specs.Laws.{SessionLives}
 use Rattle.session_lives.specs.Lives.{Step, Makes, Closes, moves, given}
-use Rattle.session_lives.specs.Logs.{own_in, own}
+use Rattle.session_lives.specs.Logs.{own}
 use Rattle.session_lives.proofs.Going.{own_more}
 use Rattle.session_lives.proofs.Runs.{one_of_all_lives}
-use Rattle.end_lives.specs.Ends.{heard_of, heard_in, Together}
+use Rattle.end_lives.specs.Ends.{heard_of, heard_in}
 use Rattle.end_lives.specs.Laws.{IsFront, IsLed, IsLedAt, AreLed, ReceiversPass}
 use Rattle.end_lives.proofs.Fronts.{front_more, front_to, front_of, front_then, on_more, front_on}
 

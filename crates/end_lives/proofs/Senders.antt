@@ -1,5 +1,5 @@
 -- A sender and its session go on together.
-use Rattle.std.specs.Prelude.{◌≡◌, ℕ, List, [], ◌∷◌, ◌++◌, Some}
+use Rattle.std.specs.Prelude.{◌≡◌, ℕ, List, [], ◌++◌}
 use Rattle.std.proofs.Common.{sym, ◌∙◌, ap}
 use Rattle.std.proofs.lemmas.Grind.{flat_map-append}
 use Rattle.amqp_parts.specs.declared.part.Part.{Part}
@@ -22,9 +22,9 @@ use Rattle.session_lives.specs.Lives.{moves}
 use Rattle.session_lives.specs.Lives as lives
 use Rattle.session_lives.specs.Logs.{AreKeyed}
 use Rattle.session_lives.proofs.Runs.{one_of_all_lives}
-use Rattle.end_lives.specs.Ends.{taken_in, Together}
+use Rattle.end_lives.specs.Ends.{taken_in}
 use Rattle.end_lives.specs.Laws.{IsFront, SendersPass}
-use Rattle.end_lives.proofs.Fronts.{front_more, front_then, front_to, on_more, front_on}
+use Rattle.end_lives.proofs.Fronts.{front_more, front_then, front_to, front_on}
 use Rattle.end_lives.proofs.Phases.{parts_given, takes_front}
 use Rattle.end_lives.proofs.Gone.{meant, takes_first, parts_first, meant_parts}
 

@@ -5,7 +5,6 @@ use Rattle.amqp_parts.specs.declared.part.Part.{Part}
 use Rattle.amqp_peer.specs.Peering.{Peering}
 use Rattle.amqp_receiver.specs.Receiver.{State as ReceiverState}
 use Rattle.amqp_sender.specs.Sender.{State as SenderState}
-use Rattle.amqp_session.specs.declared.session.LinkInput.{LinkInput}
 use Rattle.amqp_session.specs.declared.session.LinkInput.TheVariants as input
 use Rattle.amqp_session.specs.declared.session.SessionState.TheVariants.{Mapped}
 use Rattle.amqp_link_calls.specs.Called.{Called}
