@@ -81,50 +81,50 @@ widens gave first = record {
   takes = λ n v e h. record { starts_at = h.starts_at; next = h.next; grant = h.grant; was = h.was; short = h.short; room = h.room; all = h.all };
   ends = λ n v p e h. record { starts_at = h.starts_at; next = h.next; grant = h.grant; was = h.was; short = h.short; room = h.room; all = h.all };
   says = λ n v x q h. record {
-      starts_at = h.starts_at;
-      next = h.next ∙ ap (λ (m : ℕ). number_at first m) (sym (plain_push x v.output q));
-      grant = h.grant;
-      was = h.was;
-      short = h.short;
-      room = h.room;
-      all = order_push (IsGranted gave first) 0 v.output x h.all (plain_granted gave first (counted 0 v.output) x.body q);
-    };
+    starts_at = h.starts_at;
+    next = h.next ∙ ap (λ (m : ℕ). number_at first m) (sym (plain_push x v.output q));
+    grant = h.grant;
+    was = h.was;
+    short = h.short;
+    room = h.room;
+    all = order_push (IsGranted gave first) 0 v.output x h.all (plain_granted gave first (counted 0 v.output) x.body q);
+  };
   flows = λ n v channel x e h. record {
-      starts_at = h.starts_at;
-      next = h.next ∙ ap (λ (m : ℕ). number_at first m) (sym (flow_push v.output channel (stamped v.windows x)));
-      grant = h.grant;
-      was = h.was;
-      short = h.short;
-      room = h.room;
-      all = order_push (IsGranted gave first) 0 v.output (record { channel = channel; body = b.Flow (stamped v.windows x) }) h.all tt;
-    };
+    starts_at = h.starts_at;
+    next = h.next ∙ ap (λ (m : ℕ). number_at first m) (sym (flow_push v.output channel (stamped v.windows x)));
+    grant = h.grant;
+    was = h.was;
+    short = h.short;
+    room = h.room;
+    all = order_push (IsGranted gave first) 0 v.output (record { channel = channel; body = b.Flow (stamped v.windows x) }) h.all tt;
+  };
   leaves = λ n v channel c x payload p h. (let some = some_room v.windows.allowance (minus v.windows.next_outgoing_id h.grant.from) h.grant.window h.room p in record {
-      starts_at = h.starts_at;
-      next = ap following h.next ∙ next_number first (counted 0 v.output) ∙ ap (λ (m : ℕ). number_at first m) (sym (transfer_push v.output channel x payload));
-      grant = h.grant;
-      was = h.was;
-      short = h.short;
-      room = ap (λ (m : ℕ). m - 1) h.room ∙ one_less v.windows.next_outgoing_id h.grant.from h.grant.window h.short some;
-      all = order_push (IsGranted gave first) 0 v.output (record { channel = channel; body = b.Transfer x payload }) h.all (granted_at gave first (counted 0 v.output) v.windows.next_outgoing_id h.grant h.was h.next some);
-    });
+    starts_at = h.starts_at;
+    next = ap following h.next ∙ next_number first (counted 0 v.output) ∙ ap (λ (m : ℕ). number_at first m) (sym (transfer_push v.output channel x payload));
+    grant = h.grant;
+    was = h.was;
+    short = h.short;
+    room = ap (λ (m : ℕ). m - 1) h.room ∙ one_less v.windows.next_outgoing_id h.grant.from h.grant.window h.short some;
+    all = order_push (IsGranted gave first) 0 v.output (record { channel = channel; body = b.Transfer x payload }) h.all (granted_at gave first (counted 0 v.output) v.windows.next_outgoing_id h.grant h.was h.next some);
+  });
   begun = λ n v x k h. record {
-      starts_at = h.starts_at;
-      next = h.next;
-      grant = record { from = first; window = x.incoming_window };
-      was = inr k.among;
-      short = k.short;
-      room = ap (λ (m : ℕ). x.incoming_window - minus v.windows.next_outgoing_id m) h.starts_at;
-      all = h.all;
-    };
+    starts_at = h.starts_at;
+    next = h.next;
+    grant = record { from = first; window = x.incoming_window };
+    was = inr k.among;
+    short = k.short;
+    room = ap (λ (m : ℕ). x.incoming_window - minus v.windows.next_outgoing_id m) h.starts_at;
+    all = h.all;
+  };
   flowed = λ n v x k e h. record {
-      starts_at = h.starts_at;
-      next = h.next;
-      grant = record { from = unwrap_or x.next_incoming_id first; window = x.incoming_window };
-      was = inr k.among;
-      short = k.short;
-      room = ap (λ (m : ℕ). x.incoming_window - minus v.windows.next_outgoing_id (unwrap_or x.next_incoming_id m)) h.starts_at;
-      all = h.all;
-    };
+    starts_at = h.starts_at;
+    next = h.next;
+    grant = record { from = unwrap_or x.next_incoming_id first; window = x.incoming_window };
+    was = inr k.among;
+    short = k.short;
+    room = ap (λ (m : ℕ). x.incoming_window - minus v.windows.next_outgoing_id (unwrap_or x.next_incoming_id m)) h.starts_at;
+    all = h.all;
+  };
 }
 
 none_first : (d : ℕ) → 0 ≡ 0 - d
