@@ -1,5 +1,5 @@
 //! The calls, and what comes of them.
-ghost use Rattle.std.specs.Prelude.{◌≡◌, ℕ, ◌<◌, ◌∷◌, [], length, slice_get, Some};
+ghost use Rattle.std.specs.Prelude.{◌≡◌, ℕ, ◌<◌, ◌≤◌, ◌∷◌, [], length, slice_get, Some};
 ghost use Rattle.amqp_delivery.specs.Book.{view_of};
 ghost use Rattle.book_lock.specs.Seats.{new_seat};
 
@@ -58,6 +58,93 @@ fn three_calls<L: TicketName, R: Wait>(
     tell(alloc, text, answer)
 }
 
+/// The orders are taken; what is told are the place, and how many orders were handed out.
+fn take<L: TicketName, R: Wait>(
+    rt: &R,
+    alloc: Global,
+    desk: &TicketDesk<L>,
+    seat: &mut TicketSeat<L>,
+    text: &mut String,
+) -> Result<(), AllocError>
+    requires { seat.old.table ≡ desk.now.table.shared.table_id }
+    ensures table { seat.new.table ≡ seat.old.table }
+    ensures number { seat.new.number ≡ seat.old.number }
+{
+    match seat.take_orders(rt, desk) {
+        Ok((receipt, orders)) => {
+            tell(alloc, text, Ok(receipt))?;
+            let count = orders.len();
+            let line = format!(in alloc; "orders {count}\n")?;
+            text.push_str(line.as_str())
+        }
+        Err(error) => tell(alloc, text, Err(error)),
+    }
+}
+
+/// Each call of a seat, and its orders.
+fn each_call<L: TicketName, R: Wait>(
+    rt: &R,
+    alloc: Global,
+    desk: &TicketDesk<L>,
+    seat: &mut TicketSeat<L>,
+    text: &mut String,
+) -> Result<(), AllocError>
+    requires { seat.old.table ≡ desk.now.table.shared.table_id }
+    ensures table { seat.new.table ≡ seat.old.table }
+    ensures number { seat.new.number ≡ seat.old.number }
+{
+    let info = delivery(alloc)?;
+    let copy = info.try_clone(alloc)?;
+    let answer = seat.register(rt, desk, copy);
+    tell(alloc, text, answer)?;
+    let answer = seat.release(rt, desk, &info);
+    tell(alloc, text, answer)?;
+    take(rt, alloc, desk, seat, text)?;
+    let answer = seat.accept(rt, desk, &info);
+    tell(alloc, text, answer)?;
+    take(rt, alloc, desk, seat, text)
+}
+
+/// What a seat does that is alone at its desk.
+#[derive(Clone, Copy)]
+enum Plan {
+    /// It registers a delivery, accepts it, and asks for a third call.
+    Three,
+    /// It makes each call, and takes orders twice.
+    Each,
+}
+
+impl Plan {
+    /// How many calls the desk is for.
+    fn calls(self) -> u64
+        ensures { result ≤ 4294967296 }
+    {
+        match self {
+            Plan::Three => 2,
+            Plan::Each => 5,
+        }
+    }
+}
+
+/// The calls of a seat that is alone.
+fn calls_alone<L: TicketName, R: Wait>(
+    rt: &R,
+    alloc: Global,
+    desk: &TicketDesk<L>,
+    seat: &mut TicketSeat<L>,
+    text: &mut String,
+    plan: Plan,
+) -> Result<(), AllocError>
+    requires { seat.old.table ≡ desk.now.table.shared.table_id }
+    ensures table { seat.new.table ≡ seat.old.table }
+    ensures number { seat.new.number ≡ seat.old.number }
+{
+    match plan {
+        Plan::Three => three_calls(rt, alloc, desk, seat, text),
+        Plan::Each => each_call(rt, alloc, desk, seat, text),
+    }
+}
+
 /// A seat registers the delivery; another takes in its note, and accepts the delivery.
 fn noted_calls<L: TicketName, R: Wait>(
     rt: &R,
@@ -84,11 +171,16 @@ fn noted_calls<L: TicketName, R: Wait>(
     tell(alloc, text, answer)
 }
 
-/// A desk for two calls, with one seat.
-fn row<L: TicketName, R: Wait>(rt: &R, alloc: Global, book: BookState) -> Result<String, AllocError>
+/// A desk with one seat, for the calls of its plan.
+fn row<L: TicketName, R: Wait>(
+    rt: &R,
+    alloc: Global,
+    book: BookState,
+    plan: Plan,
+) -> Result<String, AllocError>
     requires { book.book ≡ L.book }
 {
-    let (desk, mut seats) = match TicketDesk::<L>::new(alloc, book, 1, 2) {
+    let (desk, mut seats) = match TicketDesk::<L>::new(alloc, book, 1, plan.calls()) {
         Ok(made) => made,
         Err(_) => return Err(AllocError),
     };
@@ -96,7 +188,7 @@ fn row<L: TicketName, R: Wait>(rt: &R, alloc: Global, book: BookState) -> Result
         return Err(AllocError);
     };
     let mut text = String::new(alloc);
-    three_calls(rt, alloc, &desk, &mut seat, &mut text)?;
+    calls_alone(rt, alloc, &desk, &mut seat, &mut text, plan)?;
     let seats = vec![in alloc; seat]?;
     let (book, history) = desk.close(seats);
     drop(book);
@@ -142,8 +234,10 @@ fn book(alloc: Global) -> BookState {
 
 /// What the calls come to, a line each.
 pub fn run<R: Wait>(rt: &R, alloc: Global) -> Result<String, AllocError> {
-    let mut text = row::<Brand, R>(rt, alloc, book(alloc))?;
+    let mut text = row::<Brand, R>(rt, alloc, book(alloc), Plan::Three)?;
     let noted = noted_row::<Brand, R>(rt, alloc, book(alloc))?;
     text.push_str(noted.as_str())?;
+    let all = row::<Brand, R>(rt, alloc, book(alloc), Plan::Each)?;
+    text.push_str(all.as_str())?;
     Ok(text)
 }
