@@ -1,0 +1,4 @@
+pub mod Acts
+pub mod Answers
+pub mod Endings
+pub mod Ran

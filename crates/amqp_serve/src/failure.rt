@@ -1,0 +1,79 @@
+//! Why a run over a link goes no further.
+ghost use Rattle.std.specs.Prelude.{◌≡◌, ◌↔◌, ◌⊎◌};
+ghost use Rattle.amqp_serve.specs.Endings.{IsFailure, HasFault};
+
+use amqp_calls::Reply;
+use amqp_end::End;
+use amqp_net::{LinkFault, WaitLink};
+use amqp_served::Ending;
+use std::alloc::AllocError;
+
+/// Why a run goes no further.
+pub enum Failure {
+    /// Memory was wanting.
+    Memory,
+    /// A wait failed.
+    Waiting,
+    /// A call was answered by this error.
+    Answer(Reply),
+    /// A call may not be made, since what it is for has ended.
+    Over,
+    /// The time that was given is over.
+    TimedOut,
+    /// A call was answered by something else than it asks for.
+    Unexpected,
+}
+
+impl From<AllocError> for Failure {
+    ghost use Rattle.amqp_serve.specs.declared.failure.Failure.TheVariants.{Memory};
+
+    ghost from_gives = { λ _ f. f ≡ Memory };
+
+    fn from(_error: AllocError) -> Self {
+        Failure::Memory
+    }
+}
+
+// A failure is let go by a call, so that no caller sees the parts of an answer.
+impl Drop for Failure {
+    fn drop(self) {
+        match self {
+            Failure::Answer(reply) => drop(reply),
+            Failure::Memory
+            | Failure::Waiting
+            | Failure::Over
+            | Failure::TimedOut
+            | Failure::Unexpected => {}
+        }
+    }
+}
+
+/// How a run ends that the peer or the link has ended: by the link's fault, where it has one.
+fn ending_of_link<L: WaitLink>(end: &End<L>) -> Ending
+    ensures failure { IsFailure result }
+    ensures fault { (result ≡ Ending.PeerFault) ⊎ HasFault L.Link end.now }
+    ensures memory { ¬ (result ≡ Ending.Memory) }
+    ensures timed_out { ¬ (result ≡ Ending.TimedOut) }
+{
+    match end.link_ref().fault() {
+        Some(LinkFault::Reading) => Ending::ReadFault,
+        Some(LinkFault::Writing) => Ending::WriteFault,
+        None => Ending::PeerFault,
+    }
+}
+
+/// How a run ends for this failure.
+pub fn ending_of<L: WaitLink>(end: &End<L>, failure: &Failure) -> Ending
+    ensures failure { IsFailure result }
+    ensures read_fault { result ≡ Ending.ReadFault → HasFault L.Link end.now }
+    ensures write_fault { result ≡ Ending.WriteFault → (failure.now ≡ Failure.Waiting) ⊎ HasFault L.Link end.now }
+    ensures memory { (result ≡ Ending.Memory) ↔ (failure.now ≡ Failure.Memory) }
+    ensures timed_out { (result ≡ Ending.TimedOut) ↔ (failure.now ≡ Failure.TimedOut) }
+{
+    match failure {
+        Failure::Memory => Ending::Memory,
+        Failure::Waiting => Ending::WriteFault,
+        Failure::Answer(_) | Failure::Over | Failure::Unexpected => ending_of_link(end),
+        Failure::TimedOut => Ending::TimedOut,
+    }
+}

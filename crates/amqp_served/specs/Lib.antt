@@ -1,0 +1,3 @@
+pub mod Count
+pub mod Ending
+pub mod Served

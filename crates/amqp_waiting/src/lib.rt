@@ -1,0 +1,11 @@
+//! The commands of the program that wait for a peer.
+#![tactic(auto)]
+
+pub use run::run_waiting;
+
+mod address;
+mod receiving;
+mod report;
+pub mod run;
+mod sending;
+mod session;
