@@ -1,3 +1,4 @@
 pub mod Script
 pub mod Program
 pub mod Show
+pub mod Command

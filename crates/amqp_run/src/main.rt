@@ -13,16 +13,15 @@
 
 ghost use Rattle.std.specs.Prelude.{◌≤◌, ◌<◌, IfSome};
 
+pub mod command;
 pub mod program;
 pub mod script;
 pub mod show;
 
-use crate::program::run_program;
-use crate::show::{form_of, run_show};
+use crate::command::{CommandEnd, run_command};
 use amqp_decoder::ending::Ending;
-use amqp_decoder::run::run_decode;
 use amqp_disposers::{Ending as DisposersEnding, OpenGate, run_disposers};
-use amqp_gen::{asked, run_command};
+use amqp_gen::{asked, run_command as run_gen_command};
 use amqp_script::script::number::number;
 use amqp_served::Ending as WaitingEnding;
 use amqp_streams::standard::{StandardInput, StandardOutput};
@@ -192,7 +191,6 @@ fn run(
         match word.as_str() {
             "--help" => return End::Program(print(rt, HELP)),
             "--version" => return End::Program(print(rt, VERSION)),
-            "decode" => return End::Decoder(run_decode(rt.alloc(), &mut source, &mut sink)),
             _ => {}
         }
     }
@@ -209,12 +207,12 @@ fn run(
         ));
     }
     if let Some((start, count)) = asked(words) {
-        return End::Program(run_command(rt.alloc(), start, count, &mut sink));
+        return End::Program(run_gen_command(rt.alloc(), start, count, &mut sink));
     }
-    if let Some(form) = form_of(words) {
-        return End::Program(run_show(rt.alloc(), form, &mut source, &mut sink));
+    match run_command(rt.alloc(), words, &mut source, &mut sink) {
+        CommandEnd::Program(status) => End::Program(status),
+        CommandEnd::Decoder(ending) => End::Decoder(ending),
     }
-    End::Program(run_program(rt.alloc(), words, &mut source, &mut sink))
 }
 
 /// Words that are no text are no command.
