@@ -1,7 +1,7 @@
 /* The unsettled deliveries of a link of libqpid-proton, without a transport: COUNT deliveries are begun in one order, and accepted and
    settled in another. Writes both times in microseconds of the clock. An order is order, reverse, random or other (two shuffles by one
    rule), or none for the second: then nothing is settled.
-   cc -O2 unsettled_list.c -o unsettled_list -lqpid-proton-core */
+   cc -O2 unsettled_list.c -o unsettled_list -lqpid-proton */
 #include <proton/connection.h>
 #include <proton/delivery.h>
 #include <proton/disposition.h>
