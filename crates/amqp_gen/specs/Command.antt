@@ -5,7 +5,8 @@ use Rattle.amqp_streams.specs.Streams.{WritesFront}
 use Rattle.amqp_wire.specs.declared.status.Status.{Status}
 use Rattle.amqp_wire.specs.declared.status.Status.TheVariants.{Done, Usage, BadScript, BadStep, Memory, ReadFault, WriteFault, TooLong}
 use Rattle.amqp_gen.specs.declared.run.GenRun.{GenRun}
-use Rattle.amqp_gen.specs.Run.{IsGenRun}
+use Rattle.amqp_gen.specs.Run.{steps_of, IsGenRun}
+use Rattle.amqp_session_world.specs.Turn.{IsFirstInvalid}
 use Rattle.amqp_gen.specs.Tally.{text_of}
 
 -- the lines of a run
@@ -26,16 +27,16 @@ pub record WritesSomeGen (start count : ℕ) (written written' : Option (List �
   pub lines : IsGenText start count text
   pub front : WritesFront text written written'
 
--- how a run ends that has no lines
-abbrev pub IsGenUnwritten : Status → Type 0
-IsGenUnwritten Done = ⊥
-IsGenUnwritten Usage = ⊥
-IsGenUnwritten (BadScript line) = ⊥
-IsGenUnwritten (BadStep index) = ⊤
-IsGenUnwritten Memory = ⊤
-IsGenUnwritten ReadFault = ⊥
-IsGenUnwritten WriteFault = ⊥
-IsGenUnwritten TooLong = ⊥
+-- how a run ends that has no lines: its first step that is not valid is named
+abbrev pub IsGenUnwritten : ℕ → ℕ → Status → Type 0
+IsGenUnwritten start count Done = ⊥
+IsGenUnwritten start count Usage = ⊥
+IsGenUnwritten start count (BadScript line) = ⊥
+IsGenUnwritten start count (BadStep index) = IsFirstInvalid (steps_of start count) index
+IsGenUnwritten start count Memory = ⊤
+IsGenUnwritten start count ReadFault = ⊥
+IsGenUnwritten start count WriteFault = ⊥
+IsGenUnwritten start count TooLong = ⊥
 
 -- how it ends once it has them
 abbrev pub IsGenWritten : Status → Type 0

@@ -1,6 +1,7 @@
 -- A run of messages that are made by a rule.
 use Rattle.std.specs.Prelude.{◌≡◌, ℕ, List}
 use Rattle.amqp_calls.specs.declared.step.Step.{Step}
+use Rattle.amqp_session_world.specs.Carried.{AreCarried}
 use Rattle.amqp_session_world.specs.Turn.{AreMade}
 use Rattle.amqp_gen.specs.declared.run.GenRun.{GenRun}
 use Rattle.amqp_gen.specs.Steps.{with_messages, bytes_of}
@@ -11,8 +12,9 @@ use Rattle.amqp_gen.specs.Walk.{walk}
 abbrev pub steps_of : ℕ → ℕ → List Step
 steps_of start count = with_messages walk start count
 
--- two ends made these steps, and the numbers are counted off them and off what they came to
+-- two ends made these steps, their connections carried what passed, and the numbers are counted off them and off what they came to
 pub record IsGenRun (start count : ℕ) (run : GenRun) : Type 0 where
   pub made : AreMade (steps_of start count) run.trace.entries.items
+  pub carried : AreCarried (steps_of start count) run.trace.entries.items
   pub tally : run.tally ≡ tallied run.trace.entries.items
   pub bytes : run.bytes ≡ bytes_of start count

@@ -1,6 +1,8 @@
 //! The command `gen START COUNT`.
 ghost use Rattle.std.specs.Prelude.{◌≡◌, ◌≤◌, ◌⊎◌, ℕ, IfSome, IfOk, IfErr};
 ghost use Rattle.amqp_gen.specs.Command.{IsGenText, WritesGen, WritesSomeGen, IsGenUnwritten, IsGenWritten};
+ghost use Rattle.amqp_gen.specs.Run.{steps_of};
+ghost use Rattle.amqp_session_world.specs.Turn.{IsFirstInvalid};
 ghost use Rattle.amqp_streams.specs.Streams.{WritesFront};
 ghost use Rattle.amqp_wire.specs.Link.{Rose};
 ghost use Rattle.list_laws.specs.Told.{Gains};
@@ -38,25 +40,16 @@ pub fn asked(words: &[Text]) -> Option<(u64, u32)>
 fn text_of_run(alloc: Global, start: u64, count: u32) -> Result<Vec<u8>, Status>
     requires { count ≤ 10000 }
     ensures lines { IfOk result (λ t. IsGenText start count t.items) }
-    ensures ends { IfErr result IsGenUnwritten }
+    ensures ends { IfErr result (IsGenUnwritten start count) }
 {
     let run = match run_gen(alloc, start, count) {
         Ok(run) => run,
-        Err(error) => return Err(status_of(error)),
+        Err(WorldError::BadStep { index }) => return Err(Status::BadStep { index }),
+        Err(WorldError::Memory(_) | WorldError::Failed) => return Err(Status::Memory),
     };
     match text_of(alloc, run.tally, run.bytes) {
         Ok(text) => Ok(text),
         Err(_) => Err(Status::Memory),
-    }
-}
-
-/// How a run ends that made no trace.
-fn status_of(error: WorldError) -> Status
-    ensures { IsGenUnwritten result }
-{
-    match error {
-        WorldError::BadStep { index } => Status::BadStep { index },
-        WorldError::Memory(_) | WorldError::Failed => Status::Memory,
     }
 }
 
@@ -86,6 +79,7 @@ pub fn run_command<K: Sink>(alloc: Global, start: u64, count: u32, sink: &mut K)
     ensures write_front { result ≡ Status.WriteFault →
         WritesSomeGen start count (K.written sink.old) (K.written sink.new) }
     ensures unwritten { (i : ℕ) → result ≡ Status.BadStep i → K.written sink.new ≡ K.written sink.old }
+    ensures bad { (i : ℕ) → result ≡ Status.BadStep i → IsFirstInvalid (steps_of start count) i }
     ensures later { K.faults sink.old ≤ K.faults sink.new }
 {
     match text_of_run(alloc, start, count) {

@@ -1,5 +1,6 @@
 //! A run of messages that are made by a rule.
-ghost use Rattle.std.specs.Prelude.{◌≡◌, ◌≤◌, IfOk};
+ghost use Rattle.std.specs.Prelude.{◌≡◌, ◌≤◌, ℕ, IfOk, IsErrOf};
+ghost use Rattle.amqp_session_world.specs.Turn.{IsFirstInvalid};
 ghost use Rattle.amqp_gen.specs.Run.{steps_of, IsGenRun};
 ghost use Rattle.amqp_gen.specs.Steps.{bytes_of};
 ghost use Rattle.amqp_gen.specs.Tally.{tallied};
@@ -63,9 +64,12 @@ fn counted(trace: Trace, bytes: u64) -> GenRun
 /// outcome is asked, before the next. The lengths of the bodies are made from `start` by a rule.
 pub fn run_gen(alloc: Global, start: u64, count: u32) -> Result<GenRun, WorldError>
     requires { count ≤ 10000 }
-    ensures { IfOk result (λ run. IsGenRun start count run) }
+    ensures made { IfOk result (λ run. IsGenRun start count run) }
+    ensures bad { (i : ℕ) → IsErrOf result (WorldError.BadStep i) → IsFirstInvalid (steps_of start count) i }
 {
     let (steps, bytes) = steps_of(alloc, start, count)?;
-    let trace = SessionWorld::run(alloc, steps.as_slice())?;
-    Ok(counted(trace, bytes))
+    match SessionWorld::run(alloc, steps.as_slice()) {
+        Ok(trace) => Ok(counted(trace, bytes)),
+        Err(error) => Err(error),
+    }
 }

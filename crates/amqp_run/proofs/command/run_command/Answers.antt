@@ -10,7 +10,7 @@ returns-then-is_decode g c =
     let old = c.args in
     let new = c.run_decode.new in
     let ran : Decodes c.run_decode.result (S.left old.source.now) (S.left new.source) (S.faults old.source.now) (S.faults new.source)
-        (K.written old.sink.now) (K.written new.sink) (K.faults old.sink.now) (K.faults new.sink) = record {
+    (K.written old.sink.now) (K.written new.sink) (K.faults old.sink.now) (K.faults new.sink) = record {
       done = r.done;
       bad_bytes = r.bad_bytes;
       no_hexadecimal = r.no_hexadecimal;
@@ -33,7 +33,7 @@ returns-in-Some g c =
     let old = c.args in
     let new = c.run_show.new in
     let ran : Shows c.in-Some.form c.run_show.result (S.left old.source.now) (S.left new.source) (S.faults old.source.now) (S.faults new.source)
-        (K.written old.sink.now) (K.written new.sink) (K.faults old.sink.now) (K.faults new.sink) = record {
+    (K.written old.sink.now) (K.written new.sink) (K.faults old.sink.now) (K.faults new.sink) = record {
       done = r.done;
       usage = r.usage;
       bad_script = r.bad_script;
@@ -57,7 +57,7 @@ returns g c =
     let old = c.args in
     let new = c.run_program.new in
     let ran : Answers old.words.now c.run_program.result (S.left old.source.now) (S.left new.source) (S.faults old.source.now) (S.faults new.source)
-        (K.written old.sink.now) (K.written new.sink) (K.faults old.sink.now) (K.faults new.sink) (new.source ≡ old.source.now) = record {
+    (K.written old.sink.now) (K.written new.sink) (K.faults old.sink.now) (K.faults new.sink) (new.source ≡ old.source.now) = record {
       done = r.done;
       usage = r.usage;
       bad_script = r.bad_script;
