@@ -323,6 +323,10 @@ left_on link a b c x y = record {
   closed = y.closed;
 }
 
+-- behind two runs
+pub left_after : {L : Type 0} (link : Ghosts L) (a b c d : End L) → RanOn link a b → RanOn link b c → Left link c d → Left link a d
+left_after link a b c d x y z = left_on link a c d (ran_on link a b c x y) z
+
 pub connected_by : {L : Type 0} (link : Ghosts L) (a b c d e : End L) (sender : ℕ) (message : Sendable) (n : ℕ) → RanOn link a b → RanOn link b c → SentAll link c sender message n d → Left link d e → ConnectedWith link a e message n
 connected_by link a b c d e sender message n entered attached sent left =
     record { sender = sender; between = d; sent = all_on link a c d sender message n (ran_on link a b c entered attached) sent; left = left }

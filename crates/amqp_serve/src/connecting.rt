@@ -160,7 +160,7 @@ fn close_connection<R: Wait, L: WaitLink, M: Moments>(
 }
 
 /// Closes the link, ends the session and closes the connection.
-#[tactic(auto, using(crate::proofs::Runs::ran_on, crate::proofs::Runs::left_on))]
+#[tactic(auto, using(crate::proofs::Runs::left_after))]
 pub fn leave<R: Wait, L: WaitLink, M: Moments>(
     rt: &R,
     end: &mut End<L>,
@@ -174,7 +174,8 @@ pub fn leave<R: Wait, L: WaitLink, M: Moments>(
 {
     settle(rt, end, moments, names.give(), close_link(link))?;
     settle(rt, end, moments, names.give(), end_session(session))?;
-    close_connection(rt, end, moments, names.give())
+    close_connection(rt, end, moments, names.give())?;
+    Ok(())
 }
 
 /// Opens the connection with ANONYMOUS and begins a session; the name of the session.

@@ -1,18 +1,23 @@
 -- What follows of runs in which messages are sent and received.
-use Rattle.std.proofs.Common.{◌≡◌, ◌∙◌, ℕ, ◌+◌, ◌<◌, length, take, get_or, Bool, true, false, if◌then◌else◌, List, [], ◌∷◌, ◌++◌, Option, Some, None, refl, sym, ap, subst, zero, suc, add-one, arith}
+use Rattle.std.proofs.Common.{◌≡◌, ◌∙◌, ℕ, ◌+◌, ◌<◌, ◌≤◌, length, take, get_or, Bool, true, false, if◌then◌else◌, List, [], ◌∷◌, ◌++◌, Option, Some, None, refl, sym, ap, subst, inl, inr, zero, suc, add-one, arith}
 use Rattle.std.proofs.lemmas.List.{take_more}
 use Rattle.list_laws.specs.Told.{Gains}
+use Rattle.amqp_wire.specs.Link.{Rose}
 use Rattle.amqp_wire.specs.declared.link.Link.{Ghosts}
 use Rattle.amqp_calls.specs.declared.reply.Reply.{Reply}
 use Rattle.amqp_end.specs.declared.end.End.{End}
 use Rattle.amqp_link_words.specs.declared.link_call.Sendable.{Sendable}
 use Rattle.amqp_served_calls.specs.Calls.{recv_call, accept_delivery_call, send_call, outcome_call, IsStringMessage}
+use Rattle.amqp_served.specs.Count.{WritesCount}
 use Rattle.amqp_serve.specs.Answers.{HasAnswer}
+use Rattle.amqp_serve.specs.Endings.{ServedAndTold}
 use Rattle.amqp_serve.specs.Ran.{Turn, Ran, told, Makes, RanOn, RanSilently, AskedNow, Settled, Left}
 use Rattle.amqp_serve.proofs.Runs.{told_append, ran_then, ran_none, ran_on, makes_before, makes_behind, has_before, has_behind, last_has}
 use Rattle.amqp_waiting.specs.Bodies.{line_in}
 use Rattle.amqp_waiting.specs.Commands.{WritesLines}
-use Rattle.amqp_waiting.specs.Delivered.{is_accepted, refusals, DeliveredOne, Delivered, GaveMessage, Gave, AcceptedBy, Got, GotAll, Received, SentAndLeft}
+use Rattle.amqp_waiting.specs.declared.receiving.ReceiveFailure.{ReceiveFailure}
+use Rattle.amqp_waiting.specs.declared.receiving.ReceiveFailure.TheVariants as failure
+use Rattle.amqp_waiting.specs.Delivered.{IsCause, is_accepted, refusals, DeliveredOne, Delivered, GaveMessage, Gave, AcceptedBy, Got, GotAll, Received, SentAndLeft}
 
 -- ---- messages that are sent
 
@@ -143,3 +148,19 @@ lines_in link a b receiver w v (suc n) x = (x.1, x.3.gave.reply, x.3.line, lines
 
 pub lines_of : {L : Type 0} (link : Ghosts L) (a b : End L) (w v : Option (List ℕ)) (n : ℕ) → Received link a b n w v → WritesLines n w v
 lines_of link a b w v n x = lines_in link a x.between x.receiver w v n x.got
+
+-- ---- why runs go no further
+
+rose_since : (a b c : ℕ) → a ≤ b → Rose b c → Rose a c
+rose_since a b c h (inl x) = inl (omega arith)
+rose_since a b c h (inr x) = inr x
+
+-- a cause that came behind others
+pub cause_since : (a b c : ℕ) (why : ReceiveFailure) → a ≤ b → IsCause b c why → IsCause a c why
+cause_since a b c failure.Sink h x = rose_since a b c h x
+cause_since a b c (failure.End why) h x = x
+
+-- ---- listeners
+
+pub count_of : {L : Type 0} (link : Ghosts L) (a b : End L) (w v : Option (List ℕ)) → ServedAndTold link a b w v → WritesCount w v
+count_of link a b w v x = record { count = x.count; wrote = x.wrote }

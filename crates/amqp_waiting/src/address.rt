@@ -49,6 +49,7 @@ impl From<AllocError> for AddressError {
 }
 
 /// The URL, where it is of the scheme `amqp` and names a host.
+#[tactic(auto, using(crate::proofs::Addresses::names_peer))]
 pub fn read_url(alloc: Global, text: &str) -> Result<Url, AddressError>
     ensures { IfOk result (λ url. NamesPeer text.now url) }
 {
@@ -57,10 +58,13 @@ pub fn read_url(alloc: Global, text: &str) -> Result<Url, AddressError>
         Err(ParseError::OutOfMemory) => return Err(AddressError::Memory),
         Err(_) => return Err(AddressError::Url),
     };
-    if url.scheme() != "amqp" || url.host_str().is_none() {
+    if url.scheme() != "amqp" {
         return Err(AddressError::Url);
     }
-    Ok(url)
+    match url.host_str() {
+        Some(_) => Ok(url),
+        None => Err(AddressError::Url),
+    }
 }
 
 /// A nonce of random bytes, in hexadecimal digits.
@@ -74,6 +78,7 @@ fn nonce<R: RandomSource>(rt: &R, alloc: Global) -> Result<Text, AddressError> {
 }
 
 /// PLAIN with the user and the password of the URL.
+#[tactic(auto, using(crate::proofs::Addresses::plain_by))]
 fn plain_of(alloc: Global, url: &Url) -> Result<Option<SaslProfile>, AddressError>
     ensures { IfOk result (λ p. IsPlain url.now p) }
 {
@@ -87,11 +92,13 @@ fn plain_of(alloc: Global, url: &Url) -> Result<Option<SaslProfile>, AddressErro
 fn mechanism_of(url: &Url, options: &Options) -> Mechanism
     ensures { result ≡ mechanism_for options.now.sasl url.now.username }
 {
-    match options.sasl {
-        Some(mechanism) => mechanism,
-        None if url.username().is_empty() => Mechanism::Anonymous,
-        None => Mechanism::Plain,
+    if let Some(mechanism) = options.sasl {
+        return mechanism;
     }
+    if url.username().is_empty() {
+        return Mechanism::Anonymous;
+    }
+    Mechanism::Plain
 }
 
 /// What the client authenticates with.
@@ -126,6 +133,7 @@ fn profile_by<R: RandomSource>(
 }
 
 /// SCRAM with the user and the password of the URL, and a new nonce.
+#[tactic(auto, using(crate::proofs::Addresses::scram_by))]
 fn scram_of<R: RandomSource>(
     rt: &R,
     alloc: Global,

@@ -49,6 +49,7 @@ fn ending_of_io(error: &io::Error) -> Ending
 }
 
 /// Accepts one connection and serves it.
+#[tactic(auto, using(crate::proofs::Deliveries::count_of))]
 pub fn serve<R: Net + Wait + AllocGlobal, K: Sink>(
     rt: &R,
     mut listener: SocketListener,
