@@ -1,9 +1,11 @@
 -- What follows of runs in which messages are sent and received.
 use Rattle.std.proofs.Common.{◌≡◌, ◌∙◌, ℕ, ◌+◌, ◌<◌, ◌≤◌, length, take, get_or, Bool, true, false, if◌then◌else◌, List, [], ◌∷◌, ◌++◌, Option, Some, None, refl, sym, ap, subst, inl, inr, zero, suc, add-one, arith}
 use Rattle.std.proofs.lemmas.List.{take_more}
+use Rattle.std.specs.Prelude.{IfSome, option_map}
 use Rattle.list_laws.specs.Told.{Gains}
 use Rattle.amqp_wire.specs.Link.{Rose}
 use Rattle.amqp_wire.specs.declared.link.Link.{Ghosts}
+use Rattle.amqp_calls.specs.declared.call.Call.{Call}
 use Rattle.amqp_calls.specs.declared.reply.Reply.{Reply}
 use Rattle.amqp_end.specs.declared.end.End.{End}
 use Rattle.amqp_link_words.specs.declared.link_call.Sendable.{Sendable}
@@ -12,7 +14,7 @@ use Rattle.amqp_served.specs.Count.{WritesCount}
 use Rattle.amqp_serve.specs.Answers.{HasAnswer}
 use Rattle.amqp_serve.specs.Endings.{ServedAndTold}
 use Rattle.amqp_serve.specs.Ran.{Turn, Ran, told, Makes, RanOn, RanSilently, AskedNow, Settled, Left}
-use Rattle.amqp_serve.proofs.Runs.{told_append, ran_then, ran_none, ran_on, makes_before, makes_behind, has_before, has_behind, last_has}
+use Rattle.amqp_serve.proofs.Runs.{told_append, ran_then, ran_none, ran_on, ran_asked_now, makes_before, makes_behind, has_before, has_behind, last_has}
 use Rattle.amqp_waiting.specs.Bodies.{line_in}
 use Rattle.amqp_waiting.specs.Commands.{WritesLines}
 use Rattle.amqp_waiting.specs.declared.receiving.ReceiveFailure.{ReceiveFailure}
@@ -21,16 +23,15 @@ use Rattle.amqp_waiting.specs.Delivered.{IsCause, is_accepted, refusals, Deliver
 
 -- ---- messages that are sent
 
-counted_as : (reply : Reply) (b : Bool) → is_accepted reply ≡ b → (if b then 0 else 1) ≡ refusals reply
-counted_as reply b is = ap (λ (c : Bool). if c then 0 else 1) (sym is)
+delivered_as : {L : Type 0} (link : Ghosts L) (a b : End L) (sender : ℕ) (text : List ℕ) (message : Sendable) (reply : Reply) (accepted : Bool) → IsStringMessage text message → Settled link a b sender message reply → accepted ≡ is_accepted reply → DeliveredOne link a b text (if accepted then 0 else 1)
+delivered_as link a b sender text message reply accepted is x answer =
+    record { sender = sender; message = message; is = is; outcome = reply; settled = x; counted = ap (λ (c : Bool). if c then 0 else 1) answer }
 
-pub delivered_accepted : {L : Type 0} (link : Ghosts L) (a b : End L) (sender : ℕ) (text : List ℕ) (message : Sendable) (reply : Reply) → IsStringMessage text message → Settled link a b sender message reply → is_accepted reply ≡ true → DeliveredOne link a b text 0
-delivered_accepted link a b sender text message reply is x answer =
-    record { sender = sender; message = message; is = is; outcome = reply; settled = x; counted = counted_as reply true answer }
-
-pub delivered_refused : {L : Type 0} (link : Ghosts L) (a b : End L) (sender : ℕ) (text : List ℕ) (message : Sendable) (reply : Reply) → IsStringMessage text message → Settled link a b sender message reply → is_accepted reply ≡ false → DeliveredOne link a b text 1
-delivered_refused link a b sender text message reply is x answer =
-    record { sender = sender; message = message; is = is; outcome = reply; settled = x; counted = counted_as reply false answer }
+-- with the message that was made for that text
+pub delivered_by : {L : Type 0} (link : Ghosts L) (a b : End L) (sender : ℕ) (given text : List ℕ) (found : Option Sendable) (message : Sendable) (reply : Reply) (accepted : Bool) → given ≡ text → IfSome found (IsStringMessage given) → found ≡ Some message → Settled link a b sender message reply → accepted ≡ is_accepted reply → DeliveredOne link a b text (if accepted then 0 else 1)
+delivered_by link a b sender given text found message reply accepted e is made x answer =
+    let of_given = subst (λ (m : Option Sendable). IfSome m (IsStringMessage given)) made is in
+    delivered_as link a b sender text message reply accepted (subst (λ (t : List ℕ). IsStringMessage t message) e of_given) x answer
 
 settled_behind : {L : Type 0} (link : Ghosts L) (a b c : End L) (sender : ℕ) (message : Sendable) (reply : Reply) → RanOn link a b → Settled link b c sender message reply → Settled link a c sender message reply
 settled_behind link a b c sender message reply x y = record {
@@ -81,6 +82,10 @@ unfolding Delivered
 delivered_on link a b c [] r x y = (ran_on link a b c x y.0, y.1)
 delivered_on link a b c (t ∷ ts) r x y = (y.0, y.1, y.2, one_behind link a b y.0 t y.1 x y.3, y.4, y.5)
 
+pub at_most_one : (b : Bool) → (if b then 0 else 1) ≤ 1
+at_most_one true = omega arith
+at_most_one false = omega arith
+
 pub sent_and_left : {L : Type 0} (link : Ghosts L) (a b c d e : End L) (texts : List (List ℕ)) (r : ℕ) → RanOn link a b → RanOn link b c → Delivered link c texts r d → Left link d e → SentAndLeft link a e texts r
 sent_and_left link a b c d e texts r x y z left =
     record { between = d; delivered = delivered_on link a c d texts r (ran_on link a b c x y) z; left = left }
@@ -96,6 +101,12 @@ gave_message link a b receiver name answer reply line x is has = record {
   answered = last_has name (told x.asked.turns) reply (sym x.asked.said ∙ is);
   is = has;
 }
+
+-- the same where there is a line, else an end ran
+pub gave_by : {L A : Type 0} (link : Ghosts L) (a b : End L) (receiver name : ℕ) (call : Call) (answer : Option Reply) (reply : Reply) (line : Option A) (text : A → List ℕ) → call ≡ recv_call receiver → AskedNow link a b name call answer → answer ≡ Some reply → IfSome line (λ v. line_in reply ≡ Some (text v)) → Gave link a b receiver name (option_map text line)
+gave_by link a b receiver name call answer reply None text e x is has = ran_asked_now link a b name call answer x
+gave_by link a b receiver name call answer reply (Some v) text e x is has =
+    gave_message link a b receiver name answer reply (text v) (subst (λ (k : Call). AskedNow link a b name k answer) e x) is has
 
 -- behind a run without messages
 pub gave_on : {L : Type 0} (link : Ghosts L) (a b c : End L) (receiver name : ℕ) (line : List ℕ) → RanOn link a b → GaveMessage link b c receiver name line → GaveMessage link a c receiver name line

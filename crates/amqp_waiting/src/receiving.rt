@@ -1,5 +1,5 @@
 //! `receive`: messages from an address.
-ghost use Rattle.std.specs.Prelude.{◌≡◌, ◌≤◌, ◌<◌, [], ◌∷◌, ◌++◌, true, option_map, flat_map, OnOk, IfOk, IfErr};
+ghost use Rattle.std.specs.Prelude.{◌≡◌, ◌≤◌, ◌<◌, [], ◌∷◌, ◌++◌, true, Some, option_map, flat_map, OnOk, IfOk, IfErr, IfSome};
 ghost use Rattle.list_laws.specs.Told.{Gains};
 ghost use Rattle.amqp_shown.specs.Bytes.{escaped};
 ghost use Rattle.amqp_serve.specs.Answers.{IsHonest};
@@ -164,8 +164,22 @@ fn write_line<K: Sink>(sink: &mut K, line: &[u8]) -> Result<(), ReceiveFailure>
     }
 }
 
+/// The line of a message, where the answer gives one. An error is a failure.
+fn message_line(alloc: Global, reply: Reply) -> Result<Option<Vec<u8>>, Failure>
+    ensures line { IfOk result (λ line. IfSome line (λ v. line_in reply ≡ Some v.items)) }
+    ensures honest { IfErr result IsHonest }
+{
+    if let Some(line) = line_of(alloc, &reply)? {
+        return Ok(Some(line));
+    }
+    if is_error(&reply) {
+        return Err(Failure::Answer(reply));
+    }
+    Ok(None)
+}
+
 /// Asks for a message; its line, where one is there.
-#[tactic(auto, using(crate::proofs::Deliveries::gave_message, amqp_serve::proofs::Runs::ran_asked_now))]
+#[tactic(auto, using(amqp_serve::proofs::Runs::ran_asked_now))]
 fn ask_line<L: WaitLink, M: Moments>(
     alloc: Global,
     end: &mut End<L>,
@@ -179,12 +193,27 @@ fn ask_line<L: WaitLink, M: Moments>(
     let Some(reply) = ask_now(end, moments, name, recv(link))? else {
         return Ok(None);
     };
-    if let Some(line) = line_of(alloc, &reply)? {
+    let line = message_line(alloc, reply)?;
+    Ok(line)
+}
+
+/// Asks for a message; its line, where one is there. Where none is, goes on until more has come.
+#[tactic(auto, using(amqp_serve::proofs::Runs::ran_on))]
+fn line_now<L: WaitLink, M: Moments>(
+    alloc: Global,
+    end: &mut End<L>,
+    moments: &mut M,
+    name: u64,
+    link: u64,
+) -> Result<Option<Vec<u8>>, Failure>
+    ensures gave { IfOk result (λ line. Gave L.Link end.old end.new link name (option_map (λ v. v.items) line)) }
+    ensures honest { IfErr result IsHonest }
+{
+    let reads = end.link_ref().reads();
+    if let Some(line) = ask_line(alloc, end, moments, name, link)? {
         return Ok(Some(line));
     }
-    if is_error(&reply) {
-        return Err(Failure::Answer(reply));
-    }
+    wait_since(end, moments, reads)?;
     Ok(None)
 }
 
@@ -210,11 +239,9 @@ fn next_line<R: Wait, L: WaitLink, M: Moments>(
 {
     for _ in rt.forever() {
         let name = names.give();
-        let reads = end.link_ref().reads();
-        if let Some(line) = ask_line(alloc, end, moments, name, link)? {
+        if let Some(line) = line_now(alloc, end, moments, name, link)? {
             return Ok(Given { name, line });
         }
-        wait_since(end, moments, reads)?;
     }
     unreachable!()
 }
@@ -297,7 +324,10 @@ fn receive_all<R: Wait + AllocGlobal, L: WaitLink, M: Moments, K: Sink>(
 {
     for came in 0..count {
         give_credit(rt, end, moments, names, link, came, count)?;
-        receive_one(rt, end, moments, names, link, sink)?;
+        match receive_one(rt, end, moments, names, link, sink) {
+            Ok(()) => {}
+            Err(failure) => return Err(failure),
+        }
     }
     Ok(())
 }

@@ -47,7 +47,6 @@ fn is_accepted(reply: &Reply) -> bool
 }
 
 /// Sends a message, and waits for its outcome; whether the peer has accepted it. Where it has not, that is told on standard error.
-#[tactic(auto, using(crate::proofs::Deliveries::delivered_accepted, crate::proofs::Deliveries::delivered_refused))]
 fn send_text<R: Wait + AllocGlobal + Eprint, L: WaitLink, M: Moments>(
     rt: &R,
     end: &mut End<L>,
