@@ -1,0 +1,4 @@
+pub mod Lived
+pub mod Hearing
+pub mod Naming
+pub mod Arriving
