@@ -24,9 +24,10 @@ use Rattle.end_lives.specs.Laws.{SenderPasses, ReceiverPasses, AreLed}
 use Rattle.world_lives.specs.Lived.{sessions_at, sessions_by, links_at, links_by, MomentOf}
 use Rattle.world_lives.specs.Hearing.{Listens, Speaks, read_before, written_before}
 
--- Both ends have attached a link by the same two Attaches, on that handle of the sender, and nothing was sent on it yet; the
--- sender does not detach; both ends have begun the receiver's session.
-pub record AreAttached (handle : ℕ) (t : SenderState) (x : Session) (ns : List Move) (y : Session) (u : ReceiverState) : Type 0 where
+-- Both ends have attached a link by the same two Attaches, on that handle of the sender, and nothing was sent on it
+-- yet; the sender does not detach; both ends have begun the receiver's session.
+pub record AreAttached (handle : ℕ) (t : SenderState) (x : Session) (ns : List Move) (y : Session) (u : ReceiverState)
+    : Type 0 where
   pub attached : is_attached t.link.phase ≡ true
   pub unsent : transfers t.link.output ≡ []
   pub holds : t.link.own.handle ≡ handle
@@ -41,9 +42,10 @@ pub record AreAttached (handle : ℕ) (t : SenderState) (x : Session) (ns : List
   pub sends_by : StandsBy mine theirs t.link
   pub receives_by : StandsBy theirs mine u.link
 
--- A sender of the one end and a receiver of the other, each from a moment at which both have attached the link and nothing
--- of it was on its way: their sessions face each other on the channel of the sender's, no other link writes on the handle,
--- and that leads to the receiver. What the receiver answers are the first of the messages that the sender has sent.
+-- A sender of the one end and a receiver of the other, each from a moment at which both have attached the link and
+-- nothing of it was on its way: their sessions face each other on the channel of the sender's, no other link writes
+-- on the handle, and that leads to the receiver. What the receiver answers are the first of the messages that the
+-- sender has sent.
 abbrev pub MessagesArrive : Type 0
 MessagesArrive =
     (e : Side) (steps : List Step) (entries : List Entry) (k : AreCarried steps entries) (c handle : ℕ)
@@ -54,7 +56,8 @@ MessagesArrive =
     (a : SenderPasses n v t x q.sessions (sessions_by q.since) (sessions_at (other e) k.made.view)
       q.links (links_by q.since) (links_at (other e) k.made.view) q.goes)
     → Listens c w y _ _ _ _ p → Speaks c v x _ _ _ _ q a.life
-    → on_handle handle (transfers_in (read_before c _ _ _ _ p)) ≡ on_handle handle (transfers_in (written_before c _ _ _ _ q))
+    → on_handle handle (transfers_in (read_before c _ _ _ _ p))
+      ≡ on_handle handle (transfers_in (written_before c _ _ _ _ q))
     → AreApart handle v n a.sender.log → on_handle handle (parts_told v q.links.output) ≡ []
     → AreLed handle w m p.links (links_by p.since) (links_at e k.made.view) p.goes.links_did
     → on_handle handle (inputs (own w p.sessions.incoming)) ≡ []

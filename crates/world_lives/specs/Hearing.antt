@@ -1,5 +1,5 @@
--- Which of the frames that a session of the one end writes a session of the other hears (OASIS AMQP 1.0, part 2, sections 2.2
--- and 2.5.1).
+-- Which of the frames that a session of the one end writes a session of the other hears (OASIS AMQP 1.0, part 2,
+-- sections 2.2 and 2.5.1).
 use Rattle.std.specs.Prelude.{◌≡◌, ℕ, Bool, false, List, [], ◌∷◌, ◌++◌, map, flat_map, Some, if◌then◌else◌}
 use Rattle.amqp_frames.specs.declared.body.FrameBody.{FrameBody}
 use Rattle.amqp_frames.specs.declared.body.FrameBody.TheVariants as b
@@ -44,7 +44,8 @@ pub record AreFirst (some all : List FrameBody) : Type 0 where
 -- ---- two sessions that face each other
 
 -- each session of an end is made under a name to which no channel leads
-pub record AreNamed (none : Links) (all : List Both) (last : Sessions) (end : Links) (p : Moment none all last end) : Type 0 where
+pub record AreNamed (none : Links) (all : List Both) (last : Sessions) (end : Links) (p : Moment none all last end)
+    : Type 0 where
   pub before : AreNewIn none_begun (sessions_by p.before) p.sessions p.came.sessions_did
   pub since : AreNewIn p.sessions (sessions_by p.since) last p.goes.sessions_did
 
@@ -56,25 +57,28 @@ pub record Listens (c n : ℕ) (y : EndpointState) (none : Links) (all : List Bo
   pub stands : endpoint_of n p.sessions ≡ Some y
   pub joined : IsJoined c y.session
 
--- a session of an end that stands at a moment on that channel, on which no other session of its end has written since
+-- a session of an end that stands at a moment on that channel, on which no other session of its end has written
+-- since
 pub record Speaks (c v : ℕ) (x : EndpointState) (none : Links) (all : List Both) (last : Sessions) (end : Links)
-    (q : Moment none all last end) (a : SessionLives v x (sessions_by q.since) q.sessions last q.goes.sessions_did) : Type 0 where
+    (q : Moment none all last end) (a : SessionLives v x (sessions_by q.since) q.sessions last q.goes.sessions_did)
+    : Type 0 where
   pub named : AreNamed none all last end q
   pub stands : endpoint_of v q.sessions ≡ Some x
   pub channel : x.session.channel ≡ c
   pub apart : AreApart c v a.log
 
 -- what was read on a channel up to a moment, and what was written on it, or is to be
-abbrev pub read_before : ℕ → (none : Links) (all : List Both) (last : Sessions) (end : Links) → Moment none all last end → List Framed
+abbrev pub read_before : ℕ → (none : Links) (all : List Both) (last : Sessions) (end : Links)
+    → Moment none all last end → List Framed
 read_before c none all last end p = on c (read_in (sessions_by p.before))
 
-abbrev pub written_before : ℕ → (none : Links) (all : List Both) (last : Sessions) (end : Links) → Moment none all last end
-    → List Framed
+abbrev pub written_before : ℕ → (none : Links) (all : List Both) (last : Sessions) (end : Links)
+    → Moment none all last end → List Framed
 written_before c none all last end q = on c (wrote_in (sessions_by q.before) ++ q.sessions.output)
 
--- Frames that were read and frames that were written before two moments, and frames that were heard and written since. Of
--- each kind, where nothing was on its way between the moments, those that were heard since are the first of those that were
--- written since, in order, as they are read again; and so it is with the Transfers on a handle.
+-- Frames that were read and frames that were written before two moments, and frames that were heard and written
+-- since. Of each kind, where nothing was on its way between the moments, those that were heard since are the first
+-- of those that were written since, in order, as they are read again; and so it is with the Transfers on a handle.
 pub record Hears (read_then written_then heard_since written_since : List Framed) : Type 0 where
   pub frames : (kind : FrameBody → Bool) → IsKind kind
       → are kind read_then ≡ map read_again_body (are kind written_then)
@@ -89,8 +93,8 @@ abbrev pub HearsFrom : ℕ → (none : Links) (all : List Both) (last : Sessions
 HearsFrom c none all last end p none' all' last' end' q heard_since written_since =
     Hears (read_before c none all last end p) (written_before c none' all' last' end' q) heard_since written_since
 
--- A session of the one end and a session of the other that face each other on a channel, each from a moment on: the one hears
--- what the other writes.
+-- A session of the one end and a session of the other that face each other on a channel, each from a moment on: the
+-- one hears what the other writes.
 abbrev pub SessionsHear : Type 0
 SessionsHear =
     (e : Side) (steps : List Step) (entries : List Entry) (k : AreCarried steps entries) (c : ℕ)

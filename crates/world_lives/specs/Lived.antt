@@ -14,7 +14,8 @@ use Rattle.amqp_links.specs.State.{State as Links, seen as linked, no_links}
 use Rattle.amqp_sessions.specs.State.{State as Sessions, seen, none_begun}
 use Rattle.amqp_end.specs.declared.end.End.{End}
 use Rattle.amqp_end.specs.Deeds as end
-use Rattle.amqp_session_world.specs.Turn.{View, Turned, IsTurnAt, IsTurn, Turns, AreMade, count_of, given, named, accepts}
+use Rattle.amqp_session_world.specs.Turn.{View, Turned, IsTurnAt, IsTurn, Turns, AreMade, accepts}
+use Rattle.amqp_session_world.specs.Turn.{count_of, given, named}
 use Rattle.amqp_session_world.specs.Carried.{life_in}
 use Rattle.link_lives.specs.Deeds as links
 use Rattle.session_lives.specs.Deeds as sessions
@@ -46,8 +47,8 @@ abbrev pub links_by : List Both → List links.Deed
 links_by xs = flat_map (λ (x : Both). x.links) xs
 
 -- in deeds of their end at that moment, of which it has the newest first
-abbrev pub both_in : {L : Type 0} (link : Ghosts L) (at : ℕ) (p : Peering L) (s : Sessions) (l : Links) (ds : List end.Deed)
-    (p' : Peering L) (s' : Sessions) (l' : Links) → end.Did link at p s l ds p' s' l' → List Both
+abbrev pub both_in : {L : Type 0} (link : Ghosts L) (at : ℕ) (p : Peering L) (s : Sessions) (l : Links)
+    (ds : List end.Deed) (p' : Peering L) (s' : Sessions) (l' : Links) → end.Did link at p s l ds p' s' l' → List Both
 both_in link at p s l [] p' s' l' h = []
 both_in link at p s l (d ∷ ds) p' s' l' h =
     both_in link at p s l ds h.0 h.1 h.2 h.3 ++ record { sessions = sessions_of d; links = links_of at d h.1 } ∷ []
@@ -57,8 +58,8 @@ abbrev pub both_turned : (near far : End Piped) (name at : ℕ) (act : Act) (nea
     → Turned near far name at act near' far' entry → List Both
 both_turned near far name at act near' far' entry t =
     let e = named name act (given near far (count_of act far)) in
-    both_in piping at e.connection (seen e.sessions) (linked e.links) t.goes.deeds t.ran.connection (seen t.ran.sessions)
-    (linked t.ran.links) t.goes.did
+    both_in piping at e.connection (seen e.sessions) (linked e.links) t.goes.deeds t.ran.connection
+    (seen t.ran.sessions) (linked t.ran.links) t.goes.did
 
 abbrev pub both_done_at : (e : Side) (name : ℕ) (old : View) (step : Step) (new : View) (entry : Entry)
     → IsTurnAt e name old step new entry → List Both
@@ -82,7 +83,8 @@ life e steps entries m = both_over e m.first steps m.view m.turns
 
 -- ---- moments
 
--- A moment of such a life: the sessions and the links of an end did some of it up to the moment, and the rest from it on.
+-- A moment of such a life: the sessions and the links of an end did some of it up to the moment, and the rest from
+-- it on.
 pub record Moment (none : Links) (all : List Both) (last : Sessions) (end : Links) : Type 0 where
   pub before : List Both
   pub since : List Both
@@ -94,13 +96,14 @@ pub record Moment (none : Links) (all : List Both) (last : Sessions) (end : Link
 
 -- a moment of an end that made steps from the start
 abbrev pub MomentOf : Side → (steps : List Step) (entries : List Entry) → AreMade steps entries → Type 0
-MomentOf e steps entries m = Moment (no_links (accepts e)) (life e steps entries m) (sessions_at e m.view) (links_at e m.view)
+MomentOf e steps entries m =
+    Moment (no_links (accepts e)) (life e steps entries m) (sessions_at e m.view) (links_at e m.view)
 
 -- ---- laws
 
--- From where no session was begun and no link attached, the sessions and the links of an end did all that together, one deed
--- after another, and are as they are behind the last step: what happens between its deeds leaves them alone. The deeds of
--- its sessions are those that its life has (`life_in`).
+-- From where no session was begun and no link attached, the sessions and the links of an end did all that together,
+-- one deed after another, and are as they are behind the last step: what happens between its deeds leaves them
+-- alone. The deeds of its sessions are those that its life has (`life_in`).
 pub record Goes (e : Side) (steps : List Step) (entries : List Entry) (m : AreMade steps entries) : Type 0 where
   pub did : Together none_begun (sessions_by (life e steps entries m)) (sessions_at e m.view)
       (no_links (accepts e)) (links_by (life e steps entries m)) (links_at e m.view)
@@ -110,7 +113,8 @@ abbrev pub LifeGoes : Type 0
 LifeGoes = (e : Side) (steps : List Step) (entries : List Entry) (m : AreMade steps entries) → Goes e steps entries m
 
 -- between any two deeds there is a moment
-pub record StopsAt (before since : List Both) (e : Side) (steps : List Step) (entries : List Entry) (m : AreMade steps entries) : Type 0 where
+pub record StopsAt (before since : List Both) (e : Side) (steps : List Step) (entries : List Entry)
+    (m : AreMade steps entries) : Type 0 where
   pub moment : MomentOf e steps entries m
   pub is_before : moment.before ≡ before
   pub is_since : moment.since ≡ since

@@ -42,11 +42,13 @@ pub record AreOnce (all : List Both) : Type 0 where
   pub made : IsDistinct nat_eq (made_in (sessions_by all))
   pub asked : IsDistinct nat_eq (asked_in (links_by all))
 
--- So each name of a session is new as it is used, and from no moment on is one made under the name of a session that stands
--- there, or is a call made under the name of a link that stands there.
-pub record AreNew (none : Links) (all : List Both) (last : Sessions) (end : Links) (p : Moment none all last end) : Type 0 where
+-- So each name of a session is new as it is used, and from no moment on is one made under the name of a session
+-- that stands there, or is a call made under the name of a link that stands there.
+pub record AreNew (none : Links) (all : List Both) (last : Sessions) (end : Links) (p : Moment none all last end)
+    : Type 0 where
   pub named : AreNamed none all last end p
-  pub sessions : (n : ℕ) (e : EndpointState) → endpoint_of n p.sessions ≡ Some e → sessions.AreOther n (sessions_by p.since)
+  pub sessions : (n : ℕ) (e : EndpointState) → endpoint_of n p.sessions ≡ Some e
+      → sessions.AreOther n (sessions_by p.since)
   pub links : (n : ℕ) (l : Called) → link_of n p.links ≡ Some l → links.AreOther n (links_by p.since)
 
 -- from the start, whether the end accepts links or attaches them
@@ -55,8 +57,8 @@ NamesAreNew =
     (accepts : Bool) (all : List Both) (last : Sessions) (end : Links) (p : Moment (no_links accepts) all last end)
     → AreOnce all → AreNew (no_links accepts) all last end p
 
--- So a sender that stands at a moment, whose call does not wait, passes on what it sends from that on: where its session stands
--- too, which both ends have begun.
+-- So a sender that stands at a moment, whose call does not wait, passes on what it sends from that on: where its
+-- session stands too, which both ends have begun.
 abbrev pub SendersGo : Type 0
 SendersGo =
     (accepts : Bool) (all : List Both) (last : Sessions) (end : Links) (p : Moment (no_links accepts) all last end)
