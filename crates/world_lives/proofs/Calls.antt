@@ -13,11 +13,14 @@ use Rattle.link_lives.specs.Lives.{Event}
 use Rattle.link_lives.specs.Logs.{own, Fate}
 use Rattle.link_lives.proofs.Tables.{flip}
 use Rattle.link_lives.proofs.Runs.{links_live}
-use Rattle.end_lives.proofs.Senders.{senders_pass}
+use Rattle.session_lives.specs.Channels.{AreApart}
+use Rattle.session_lives.specs.Laws.{SessionLives}
 use Rattle.end_lives.proofs.Receivers.{receivers_pass}
-use Rattle.world_lives.specs.Lived.{Both, links_by, Moment}
+use Rattle.world_lives.specs.Lived.{Both, sessions_by, links_by, Moment}
 use Rattle.world_lives.specs.Naming.{asked_of, asked_in, AreOnce, NamesAreNew, SendersGo, ReceiversGo}
 use Rattle.world_lives.proofs.Naming.{sessions_are_new}
+use Rattle.world_lives.proofs.Alone.{speaks_alone}
+use Rattle.world_lives.proofs.Senders.{sender_passes}
 
 -- a name is among those
 abbrev IsAmong : ℕ → List ℕ → Type 0
@@ -118,9 +121,16 @@ names_are_new accepts all last end p once =
 pub senders_go : SendersGo
 senders_go accepts all last end p n c t x once at is free stands mapped =
     let s = sessions_are_new (no_links accepts) all last end p once.made in
-    senders_pass n c t x p.sessions _ last p.links _ end p.goes s.keyed stands mapped (s.other c.session x stands) at is (links_are_new accepts all last end p once.asked n c at) free
+    let other = s.other c.session x stands in
+    let w = speaks_alone c.session x (sessions_by p.since) p.sessions last p.goes.sessions_did s.sound s.named.since stands other in
+    let k = sender_passes n c t x p.sessions (sessions_by p.since) last p.links (links_by p.since) end p.goes s.sound.keyed mapped other w.life at is (links_are_new accepts all last end p once.asked n c at) free in
+    record {
+      passes = k.passes;
+      alone = λ channel alone far.
+          subst (λ (z : SessionLives c.session x (sessions_by p.since) p.sessions last p.goes.sessions_did). AreApart channel c.session z.log) (sym k.same) (w.alone channel alone far);
+    }
 
 pub receivers_go : ReceiversGo
 receivers_go accepts all last end p n c u y once at is free stands =
     let s = sessions_are_new (no_links accepts) all last end p once.made in
-    receivers_pass n c u y p.sessions _ last p.links _ end p.goes s.keyed stands (s.other c.session y stands) at is (links_are_new accepts all last end p once.asked n c at) free
+    receivers_pass n c u y p.sessions _ last p.links _ end p.goes s.sound.keyed stands (s.other c.session y stands) at is (links_are_new accepts all last end p once.asked n c at) free

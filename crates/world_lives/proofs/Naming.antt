@@ -19,7 +19,7 @@ use Rattle.amqp_sessions.specs.Frames.{place_of, joined, changed, hearing_at, he
 use Rattle.amqp_sessions.specs.State.{State, none_begun, endpoint_of, with_endpoint, handed_out}
 use Rattle.amqp_links.specs.State.{State as Links}
 use Rattle.session_lives.specs.Deeds.{Deed, Begins, Awaits, Accepts, Refuses, Ends, HandsOut, Halts, Concludes, Hears, Writes, Frees, Gives, Takes, Lacks, Tells, IsDeed, Did, came_of, joining, IsOther, AreOther}
-use Rattle.session_lives.specs.Logs.{AreKeyed, own, share}
+use Rattle.session_lives.specs.Logs.{own, share}
 use Rattle.session_lives.specs.Sound.{AreSound, IsUnused, IsNewIn, AreNewIn}
 use Rattle.session_lives.proofs.Tables.{insert_other}
 use Rattle.session_lives.proofs.Deeds.{one_session_lives}
@@ -280,7 +280,7 @@ others n (Tells ∷ ds) far = (tt, others n ds far)
 -- the sessions of an end at a moment
 pub record NewSessions (none : Links) (all : List Both) (last : State) (end : Links) (p : Moment none all last end) : Type 0 where
   pub named : AreNamed none all last end p
-  pub keyed : AreKeyed p.sessions
+  pub sound : AreSound p.sessions
   pub other : (n : ℕ) (e : EndpointState) → endpoint_of n p.sessions ≡ Some e → AreOther n (sessions_by p.since)
 
 pub sessions_are_new : (none : Links) (all : List Both) (last : State) (end : Links) (p : Moment none all last end) → IsDistinct nat_eq (made_in (sessions_by all)) → NewSessions none all last end p
@@ -294,4 +294,4 @@ sessions_are_new none all last end p once =
     let e : since ≡ since ++ [] = sym (append-nil since) in
     let b = named_run (sessions_by p.since) [] p.sessions last p.goes.sessions_did a.sound
     (subst (λ (xs : List ℕ). IsDistinct nat_eq xs) e (distinct_later before since whole)) (subst (λ (xs : List ℕ). AreOf (IsFar xs) p.sessions) e a.far) in
-    record { named = record { before = a.new_names; since = b.new_names }; keyed = a.sound.keyed; other = λ n f at. others n (sessions_by p.since) (a.far.standing n f at) }
+    record { named = record { before = a.new_names; since = b.new_names }; sound = a.sound; other = λ n f at. others n (sessions_by p.since) (a.far.standing n f at) }

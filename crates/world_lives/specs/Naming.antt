@@ -12,11 +12,13 @@ use Rattle.amqp_sessions.specs.State.{State as Sessions, endpoint_of}
 use Rattle.link_lives.specs.Deeds as links
 use Rattle.link_lives.specs.Deeds.{Asks}
 use Rattle.link_lives.specs.Logs.{IsFree}
+use Rattle.session_lives.specs.Channels.{AreApart}
 use Rattle.session_lives.specs.Deeds as sessions
 use Rattle.session_lives.specs.Deeds.{Begins, Accepts}
 use Rattle.end_lives.specs.Laws.{SenderPasses, ReceiverPasses}
 use Rattle.world_lives.specs.Lived.{Both, sessions_by, links_by, Moment}
 use Rattle.world_lives.specs.Hearing.{AreNamed}
+use Rattle.world_lives.specs.Alone.{StandsAlone, AreElsewhere}
 
 -- the names under which deeds make sessions, in order
 abbrev pub made_of : sessions.Deed → List ℕ
@@ -57,15 +59,23 @@ NamesAreNew =
     (accepts : Bool) (all : List Both) (last : Sessions) (end : Links) (p : Moment (no_links accepts) all last end)
     → AreOnce all → AreNew (no_links accepts) all last end p
 
--- So a sender that stands at a moment, whose call does not wait, passes on what it sends from that on: where its
--- session stands too, which both ends have begun.
+-- A sender passes on what it sends from a moment on, and no other session has written on the channel of its own where
+-- that is alone on it.
+pub record SenderGoesOn (n : ℕ) (c : Called) (t : SenderState) (x : EndpointState) (none : Links) (all : List Both)
+    (last : Sessions) (end : Links) (p : Moment none all last end) : Type 0 where
+  pub passes : SenderPasses n c.session t x p.sessions (sessions_by p.since) last p.links (links_by p.since) end p.goes
+  pub alone : (channel : ℕ) → StandsAlone channel c.session p.sessions → AreElsewhere channel (sessions_by p.since)
+      → AreApart channel c.session passes.life.log
+
+-- So it is with a sender that stands at a moment, whose call does not wait, where its session stands too, which both ends
+-- have begun.
 abbrev pub SendersGo : Type 0
 SendersGo =
     (accepts : Bool) (all : List Both) (last : Sessions) (end : Links) (p : Moment (no_links accepts) all last end)
     (n : ℕ) (c : Called) (t : SenderState) (x : EndpointState)
     → AreOnce all → link_of n p.links ≡ Some c → c.side ≡ Sender t → IsFree n p.links
     → endpoint_of c.session p.sessions ≡ Some x → x.session.state ≡ Mapped
-    → SenderPasses n c.session t x p.sessions (sessions_by p.since) last p.links (links_by p.since) end p.goes
+    → SenderGoesOn n c t x (no_links accepts) all last end p
 
 -- and a receiver reads what its session hands over
 abbrev pub ReceiversGo : Type 0

@@ -1,4 +1,5 @@
 //! What the sessions and the links of two ends go through in a run of steps.
+ghost use Rattle.world_lives.specs.Alone.{SpeaksAlone};
 ghost use Rattle.world_lives.specs.Arriving.{MessagesArrive};
 ghost use Rattle.world_lives.specs.Hearing.{SessionsHear};
 ghost use Rattle.world_lives.specs.Lived.{LifeGoes, LifeStops};
@@ -24,8 +25,16 @@ pub fn names_are_new()
     ensures { NamesAreNew }
 {}
 
+/// The session that stands under a name goes through a life, as long as no session of that name is made
+/// (`one_of_all_lives` of session_lives), and on a channel on which no other stands, and none is made, no other has
+/// written.
+pub fn speaks_alone()
+    ensures { SpeaksAlone }
+{}
+
 /// So a sender that stands at a moment, with its session, which both ends have begun, passes on what it sends from
-/// that on, as `senders_pass` of end_lives says; no call that waits has its name.
+/// that on, as `senders_pass` of end_lives says, where no call that waits has its name; and where its session is alone
+/// on its channel, no other has written there.
 pub fn senders_go()
     ensures { SendersGo }
 {}
