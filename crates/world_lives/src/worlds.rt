@@ -1,6 +1,6 @@
 //! What the sessions and the links of two ends go through in a run of steps.
 ghost use Rattle.world_lives.specs.Alone.{SpeaksAlone};
-ghost use Rattle.world_lives.specs.Arriving.{MessagesArrive};
+ghost use Rattle.world_lives.specs.Arriving.{MessagesArrive, LinksCarry};
 ghost use Rattle.world_lives.specs.Hearing.{SessionsHear};
 ghost use Rattle.world_lives.specs.Lived.{LifeGoes, LifeStops};
 ghost use Rattle.world_lives.specs.Naming.{NamesAreNew, SendersGo, ReceiversGo};
@@ -58,4 +58,13 @@ pub fn sessions_hear()
 /// those of `messages_pass` of end_lives, but that the one session hears what the other writes, which follows here.
 pub fn messages_arrive()
     ensures { MessagesArrive }
+{}
+
+/// The same from what stands at the two moments, where names are used once: a sender and a receiver, each with its
+/// session, of which the sender's is alone on its channel, and the peer has begun the receiver's on that. They go on by
+/// moves; and what the receiver answers are the first of the messages that the sender has sent, in order and
+/// unchanged, where both have attached the link by the same two Attaches and nothing of it was on its way, the sender
+/// does not detach, no other link of its session writes on the handle, and that leads to the receiver alone.
+pub fn links_carry()
+    ensures { LinksCarry }
 {}
