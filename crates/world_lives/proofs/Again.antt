@@ -1,5 +1,5 @@
 -- What is read off frames, as they were written and as they are read again.
-use Rattle.std.specs.Prelude.{◌≡◌, ℕ, nat_eq, Bool, true, false, not, cond, List, [], ◌∷◌, ◌++◌, map, flat_map, filter, Option, Some, None, if◌then◌else◌, refl}
+use Rattle.std.specs.Prelude.{◌≡◌, ℕ, nat_eq, Bool, true, false, not, cond, List, [], ◌∷◌, ◌++◌, map, flat_map, Option, Some, None, if◌then◌else◌, refl}
 use Rattle.std.proofs.Common.{sym, ◌∙◌, ap}
 use Rattle.std.proofs.lemmas.Grind.{flat_map-append}
 use Rattle.amqp_frames.specs.declared.body.FrameBody.{FrameBody}
@@ -8,12 +8,12 @@ use Rattle.amqp_frames.specs.Body.{read_again_body}
 use Rattle.amqp_performatives.specs.declared.begin.Begin.{Begin}
 use Rattle.amqp_transport.specs.declared.frames.Frame.{Frame}
 use Rattle.amqp_transport.specs.Kinds.{amqp_again}
-use Rattle.amqp_peer.specs.Frames.{asks_by, asks, others_of}
+use Rattle.amqp_peer.specs.Frames.{asks, others_of}
 use Rattle.amqp_session.specs.State.{Framed}
 use Rattle.amqp_sessions.specs.Frames.{answered_channel}
 use Rattle.amqp_end.specs.Deeds.{framed_of}
 use Rattle.session_lives.specs.Channels.{on_if, on}
-use Rattle.session_lives.specs.Fronts.{unless_answer, other_in, others}
+use Rattle.session_lives.specs.Fronts.{unless_answer, others}
 
 -- what is read off frames, in order
 abbrev pub said : {X : Type 0} → (FrameBody → List X) → List Framed → List X

@@ -15,10 +15,10 @@ use Rattle.amqp_sessions.specs.Parts.{EndpointState, idle}
 use Rattle.amqp_sessions.specs.Calls.{settings, entered, begun, accepted}
 use Rattle.amqp_sessions.specs.Frames.{heard, heard_all, heard_early_at}
 use Rattle.amqp_sessions.specs.State.{State, endpoint_of}
-use Rattle.session_laws.specs.Holding.{after_all, handed_all}
+use Rattle.session_laws.specs.Holding.{handed_all}
 use Rattle.session_lives.specs.Channels.{AllOn, on_if, on, AreApart}
 use Rattle.session_lives.specs.Deeds.{Deed, Begins, Awaits, Accepts, Refuses, Ends, HandsOut, Halts, Concludes, Hears, Writes, Frees, Gives, Takes, Lacks, Tells, IsDeed, Did, wrote_of, wrote_in, gave_of, gave_in, hears_by, hears_all, early_at, joining, came_of, came_in, IsOther, AreOther}
-use Rattle.session_lives.specs.Laws.{IsBehind, SessionLives}
+use Rattle.session_lives.specs.Laws.{IsBehind}
 use Rattle.session_lives.specs.Lives.{moves, Share, nothing, both, Lives}
 use Rattle.session_lives.specs.Logs.{own, Came, share, Fate}
 use Rattle.session_lives.specs.Sound.{AreSound, IsUnused, IsNewIn, AreNewIn}

@@ -17,7 +17,7 @@ use Rattle.session_lives.specs.Channels.{AreApart}
 use Rattle.session_lives.specs.Laws.{SessionLives}
 use Rattle.end_lives.proofs.Receivers.{receivers_pass}
 use Rattle.world_lives.specs.Lived.{Both, sessions_by, links_by, Moment}
-use Rattle.world_lives.specs.Naming.{asked_of, asked_in, AreOnce, NamesAreNew, SendersGo, ReceiversGo}
+use Rattle.world_lives.specs.Naming.{asked_of, asked_in, NamesAreNew, SendersGo, ReceiversGo}
 use Rattle.world_lives.proofs.Naming.{sessions_are_new}
 use Rattle.world_lives.proofs.Alone.{speaks_alone}
 use Rattle.world_lives.proofs.Senders.{sender_passes}

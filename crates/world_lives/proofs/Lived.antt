@@ -19,7 +19,7 @@ use Rattle.amqp_session_world.specs.Lives.{Life, unlived, lived_if, done_at, don
 use Rattle.amqp_session_world.specs.Carried.{life_in}
 use Rattle.session_lives.specs.Deeds as sessions
 use Rattle.end_lives.specs.Ends.{sessions_in}
-use Rattle.world_lives.specs.Lived.{Both, sessions_by, links_by, end_at, sessions_at, links_at, both_turned, both_done_at, both_done, both_over, life, Goes, LifeGoes, StopsAt, LifeStops}
+use Rattle.world_lives.specs.Lived.{Both, sessions_by, end_at, sessions_at, links_at, both_turned, both_done_at, both_done, both_over, life, LifeGoes, LifeStops}
 use Rattle.world_lives.proofs.Joins.{Run, run_as, run_then, run_together, run_halves, end_run, end_sessions, sessions_by_more, newest_first}
 
 -- ---- a name that is used leaves both alone
