@@ -1,0 +1,10 @@
+pub mod Joins
+pub mod Lived
+pub mod Carried
+pub mod Again
+pub mod Hearing
+pub mod Alone
+pub mod Senders
+pub mod Naming
+pub mod Calls
+pub mod Arriving
