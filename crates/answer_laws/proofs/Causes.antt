@@ -1,15 +1,14 @@
 -- Replies in a history, and the calls that they answer.
-use Rattle.std.specs.Prelude.{◌==◌, All, ◌⊎◌}
-use Rattle.std.proofs.Common.{◌≡◌, inl, inr, ℕ, Bool, true, false, cond, List, [], ◌∷◌, ◌++◌, refl, sym, ap, ◌∙◌, subst, arith}
-use Rattle.std.proofs.lemmas.Bool.{cases_Bool, eq-eqb}
+use Rattle.std.specs.Prelude.{◌==◌, All}
+use Rattle.std.proofs.Common.{◌≡◌, inl, inr, ℕ, Bool, true, false, cond, List, [], ◌∷◌, ◌++◌, refl, sym, ap, subst}
+use Rattle.std.proofs.lemmas.Bool.{eq-eqb}
 use Rattle.std.proofs.lemmas.List.Elements.{All-nil, All-cons, All-head, All-tail, All-push, All-weaker, All-filter}
 use Rattle.amqp_words.specs.declared.call.Call.{Call}
 use Rattle.amqp_words.specs.declared.open_error.OpenError.{OpenError}
 use Rattle.amqp_words.specs.declared.reply.NamedReply.{NamedReply}
-use Rattle.amqp_words.specs.declared.reply.Reply.{Reply}
 use Rattle.amqp_peer.specs.Causes.{AllCaused}
 use Rattle.amqp_peer.specs.History.{Local, Made, Polled, AtLink, Exchanged, Got, Put, Replied, replied_in}
-use Rattle.amqp_peer.specs.Replies.{pending, connection, open_failed, answered, IsCloseEnd, IsOpenRefusal, AreOpening, AreClosing, AreReplies}
+use Rattle.amqp_peer.specs.Replies.{pending, connection, open_failed, answered, IsOpenRefusal, AreOpening, AreClosing, AreReplies}
 use Rattle.answer_laws.specs.Answers.{replies_to, AreFirst, IsCausedIn}
 
 -- ---- each reply has its cause

@@ -1,8 +1,7 @@
 -- What filters keep.
-use Rattle.std.specs.Prelude.{◌==◌, not, filter, filter_map, nat_lt, ◌&&◌}
-use Rattle.std.specs.List.Sorted.{ties}
+use Rattle.std.specs.Prelude.{◌==◌, not, filter, ◌&&◌}
 use Rattle.std.specs.Ordering.{nat_cmp, is_lt}
-use Rattle.std.proofs.Common.{◌≡◌, ◌⊎◌, inl, inr, ℕ, Bool, true, false, cond, List, [], ◌∷◌, ◌++◌, refl, sym, ap, ◌∙◌, subst, arith}
+use Rattle.std.proofs.Common.{◌≡◌, ℕ, Bool, true, false, cond, List, [], ◌∷◌, refl, ap, ◌∙◌, arith}
 use Rattle.std.proofs.lemmas.Bool.Decides.{nat_tests}
 
 -- one element, of which the tests answer this

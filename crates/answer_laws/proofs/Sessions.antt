@@ -1,7 +1,7 @@
 -- Sessions answer calls for sessions alone.
-use Rattle.std.specs.Prelude.{nat_eq, All}
-use Rattle.std.specs.Map.{lookup, set_value}
-use Rattle.std.proofs.Common.{◌≡◌, ℕ, Bool, true, false, List, [], ◌∷◌, ◌++◌, Option, Some, None, sym, subst}
+use Rattle.std.specs.Prelude.{nat_eq}
+use Rattle.std.specs.Map.{lookup}
+use Rattle.std.proofs.Common.{◌≡◌, ℕ, Bool, true, false, List, [], ◌∷◌, Option, Some, None, sym, subst}
 use Rattle.std.proofs.lemmas.List.Elements.{All-nil, All-push}
 use Rattle.indexmap.specs.IndexMap.{swap_remove_entry}
 use Rattle.amqp_wire.specs.declared.link.Link.{Ghosts}
@@ -28,10 +28,9 @@ use Rattle.amqp_sessions.specs.declared.endpoint.Change.{Change}
 use Rattle.amqp_sessions.specs.declared.endpoint.Change.TheVariants.{Same, Begun, Refused, Gone, Answered}
 use Rattle.amqp_sessions.specs.declared.sessions.Waiting.{Waiting}
 use Rattle.amqp_sessions.specs.declared.sessions.Waiting.TheVariants.{Begin, Accept}
-use Rattle.amqp_sessions.specs.Calls as call
-use Rattle.amqp_sessions.specs.Calls.{settings, entered, begun, awaiting, accepted, left_in, left_at, left, end_told, end_at, ended}
+use Rattle.amqp_sessions.specs.Calls.{settings, entered, accepted, left_in, left_at, left, end_told, end_at}
 use Rattle.amqp_sessions.specs.Endpoint.{hearing, change_of, having_heard, having_written, having_refused, asking_end, having_asked}
-use Rattle.amqp_sessions.specs.Frames.{place_of, joined, refused, freed_at, freed_own, freed, end_reply, concluding_for, concluding, changed, hearing_at, kept_at, kept, heard_by, heard, heard_all, heard_early_at, heard_early, written_at, written, refusing_at, refusing}
+use Rattle.amqp_sessions.specs.Frames.{place_of, joined, refused, freed_at, freed_own, freed, end_reply, concluding_for, concluding, changed, hearing_at, kept_at, heard_by, heard, heard_all, heard_early_at, written_at, written, refusing_at, refusing}
 use Rattle.amqp_sessions.specs.Parts.{EndpointState}
 use Rattle.amqp_sessions.specs.State.{State, endpoint_of, with_endpoint, let_go, answering, handing, handed_out}
 use Rattle.amqp_sessions.specs.Stops.{halted, finished, end_answered, ends_answered, ends_concluded, begin_concluded, concluded}

@@ -6,7 +6,7 @@ use Rattle.amqp_words.specs.declared.reply.NamedReply.{NamedReply as ConnectionR
 use Rattle.amqp_calls.specs.declared.reply.NamedReply.{NamedReply}
 use Rattle.amqp_links.specs.State.{State as Links}
 use Rattle.amqp_peer.specs.History.{Local, Made, Polled, replied_in}
-use Rattle.amqp_peer.specs.Passing.{IsHeldAlone, freed_in}
+use Rattle.amqp_peer.specs.Passing.{IsHeldAlone}
 use Rattle.amqp_peer.specs.Peering.{Peering}
 use Rattle.amqp_peer.proofs.Laws.{replied_in-append}
 use Rattle.amqp_sessions.specs.State.{State}

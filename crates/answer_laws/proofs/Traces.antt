@@ -1,6 +1,6 @@
 -- The answers of the connections of two ends, step after step.
 use Rattle.std.specs.Prelude.{All, slice_get}
-use Rattle.std.proofs.Common.{◌≡◌, ◌+◌, ℕ, zero, suc, Bool, true, false, List, [], ◌∷◌, ◌++◌, if◌then◌else◌, length, Option, Some, refl, sym, ap, ◌∙◌, subst, arith}
+use Rattle.std.proofs.Common.{◌≡◌, ◌+◌, ℕ, zero, suc, Bool, true, false, List, [], ◌∷◌, ◌++◌, if◌then◌else◌, length, Some, refl, sym, subst, arith}
 use Rattle.std.proofs.lemmas.List.Elements.{All-nil, All-cons, All-append, All-weaker}
 use Rattle.amqp_wire.specs.Piped.{Piped}
 use Rattle.amqp_words.specs.declared.call.Call.{Call as ConnectionCall}
@@ -14,7 +14,7 @@ use Rattle.amqp_calls.specs.declared.step.Act.TheVariants.{Take, TakeAll, Call}
 use Rattle.amqp_calls.specs.declared.step.Step.{Step}
 use Rattle.amqp_calls.specs.declared.trace.Entry.{Entry}
 use Rattle.amqp_links.specs.State.{seen as linked}
-use Rattle.amqp_peer.specs.History.{Local, Polled, made_in, replied_in}
+use Rattle.amqp_peer.specs.History.{Polled, made_in, replied_in}
 use Rattle.amqp_peer.specs.Peering.{Peering}
 use Rattle.amqp_sessions.specs.declared.sessions.Sessions.{Sessions}
 use Rattle.amqp_sessions.specs.State.{State, seen}
@@ -154,6 +154,8 @@ answered e steps near wrote answers l m c k =
     let first : (name : ℕ) → AreFirst (replies_to name (of_connections answers)) (replies_to name (replied_in l.h)) = λ name. (replies_to name near.connection.replies, told name) in
     let calls : All (λ (x : ℕ × ConnectionCall). IsOnConnection e steps x.0) (made_in l.h) = subst (λ (u : List (ℕ × ConnectionCall)). All (λ (x : ℕ × ConnectionCall). IsOnConnection e steps x.0) u) (sym c.calls_are) (whole_calls e steps) in
     record {
+      calls_are = c.calls_are;
+      causes = c.promises.causes;
       first = first;
       caused = all_told (λ (r : ConnectionReply). IsCausedIn l.h r) (of_connections answers) (replied_in l.h) first (all_caused l.h c.promises.causes);
       called = all_told (λ (r : ConnectionReply). IsOnConnection e steps r.name) (of_connections answers) (replied_in l.h) first

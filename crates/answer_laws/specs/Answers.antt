@@ -9,8 +9,9 @@ use Rattle.amqp_calls.specs.declared.reply.Reply.{Reply}
 use Rattle.amqp_calls.specs.declared.reply.Reply.TheVariants.{Connection, Session, Link}
 use Rattle.amqp_calls.specs.declared.step.Act.TheVariants.{Call}
 use Rattle.amqp_calls.specs.declared.step.Step.{Step}
-use Rattle.amqp_peer.specs.Causes.{HasCause}
-use Rattle.amqp_peer.specs.History.{Local, Replied, replied_in}
+use Rattle.amqp_peer.specs.Causes.{HasCause, AllCaused}
+use Rattle.amqp_peer.specs.History.{Local, Replied, made_in, replied_in}
+use Rattle.amqp_session_world.specs.Lives.{calls_at}
 
 -- an answer to a call for a session
 abbrev pub IsOfSession : Reply → Type 0
@@ -53,7 +54,7 @@ pub record IsCausedIn (h : List Local) (r : ConnectionReply) : Type 0 where
   pub split : h ≡ later ++ Replied r ∷ earlier
   pub cause : HasCause earlier r.reply
 
--- the call of that name is one on a connection, and this end makes it; the name of a call is the position of its step
+-- the call of that name, which is the position of its step, is one on a connection, and this end makes it
 pub record IsOnConnection (e : Side) (steps : List Step) (name : ℕ) : Type 0 where
   pub step : Step
   pub at : slice_get steps name ≡ Some step
@@ -61,10 +62,13 @@ pub record IsOnConnection (e : Side) (steps : List Step) (name : ℕ) : Type 0 w
   pub call : ConnectionCall
   pub makes : step.act ≡ Call (on.Connection call)
 
--- Of the answers of an end in these steps, those of its connection: to each call, they are the first of the replies to it
--- in the history of the connection, in order; each of them has its cause there in what happened before it, and answers
--- a call that this end makes on its connection.
+-- Of the answers of an end in these steps, those of its connection, and the history of that: its calls are those that
+-- the end makes on it, and each of its replies has its cause in what happened before it. The answers to each call are
+-- the first of its replies to that call, in order. So each stands there with its cause, and is to a call on the
+-- connection.
 pub record AreAnswered (e : Side) (steps : List Step) (answers : List NamedReply) (h : List Local) : Type 0 where
+  pub calls_are : made_in h ≡ calls_at e 0 steps
+  pub causes : AllCaused h
   pub first : (name : ℕ) → AreFirst (replies_to name (of_connections answers)) (replies_to name (replied_in h))
   pub caused : All (λ (r : ConnectionReply). IsCausedIn h r) (of_connections answers)
   pub called : All (λ (r : ConnectionReply). IsOnConnection e steps r.name) (of_connections answers)
