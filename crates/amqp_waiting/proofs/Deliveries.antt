@@ -1,7 +1,7 @@
 -- What follows of runs in which messages are sent and received.
 use Rattle.std.proofs.Common.{◌≡◌, ◌∙◌, ℕ, ◌+◌, ◌<◌, ◌≤◌, length, take, get_or, Bool, true, false, if◌then◌else◌, List, [], ◌∷◌, ◌++◌, Option, Some, None, refl, sym, ap, subst, inl, inr, zero, suc, add-one, arith}
 use Rattle.std.proofs.lemmas.List.{take_more}
-use Rattle.std.specs.Prelude.{IfSome, option_map}
+use Rattle.std.specs.Prelude.{IfSome}
 use Rattle.list_laws.specs.Told.{Gains}
 use Rattle.amqp_wire.specs.Link.{Rose}
 use Rattle.amqp_wire.specs.declared.link.Link.{Ghosts}
@@ -19,7 +19,7 @@ use Rattle.amqp_waiting.specs.Bodies.{line_in}
 use Rattle.amqp_waiting.specs.Commands.{WritesLines}
 use Rattle.amqp_waiting.specs.declared.receiving.ReceiveFailure.{ReceiveFailure}
 use Rattle.amqp_waiting.specs.declared.receiving.ReceiveFailure.TheVariants as failure
-use Rattle.amqp_waiting.specs.Delivered.{IsCause, is_accepted, refusals, DeliveredOne, Delivered, GaveMessage, Gave, AcceptedBy, Got, GotAll, Received, SentAndLeft}
+use Rattle.amqp_waiting.specs.Delivered.{IsCause, is_accepted, refusals, DeliveredOne, Delivered, GaveMessage, Gave, IsLine, AcceptedBy, Got, GotAll, Received, SentAndLeft}
 
 -- ---- messages that are sent
 
@@ -103,10 +103,10 @@ gave_message link a b receiver name answer reply line x is has = record {
 }
 
 -- the same where there is a line, else an end ran
-pub gave_by : {L A : Type 0} (link : Ghosts L) (a b : End L) (receiver name : ℕ) (call : Call) (answer : Option Reply) (reply : Reply) (line : Option A) (text : A → List ℕ) → call ≡ recv_call receiver → AskedNow link a b name call answer → answer ≡ Some reply → IfSome line (λ v. line_in reply ≡ Some (text v)) → Gave link a b receiver name (option_map text line)
-gave_by link a b receiver name call answer reply None text e x is has = ran_asked_now link a b name call answer x
-gave_by link a b receiver name call answer reply (Some v) text e x is has =
-    gave_message link a b receiver name answer reply (text v) (subst (λ (k : Call). AskedNow link a b name k answer) e x) is has
+pub gave_by : {L : Type 0} (link : Ghosts L) (a b : End L) (receiver name : ℕ) (call : Call) (answer : Option Reply) (reply : Reply) (line : List ℕ) (found : Bool) → call ≡ recv_call receiver → AskedNow link a b name call answer → answer ≡ Some reply → IsLine reply line found → Gave link a b receiver name line found
+gave_by link a b receiver name call answer reply line false e x is has = ran_asked_now link a b name call answer x
+gave_by link a b receiver name call answer reply line true e x is has =
+    gave_message link a b receiver name answer reply line (subst (λ (k : Call). AskedNow link a b name k answer) e x) is has
 
 -- behind a run without messages
 pub gave_on : {L : Type 0} (link : Ghosts L) (a b c : End L) (receiver name : ℕ) (line : List ℕ) → RanOn link a b → GaveMessage link b c receiver name line → GaveMessage link a c receiver name line

@@ -1,5 +1,5 @@
 -- What clients do that send messages and receive them.
-use Rattle.std.specs.Prelude.{◌≡◌, ◌+◌, ℕ, zero, suc, Bool, true, false, if◌then◌else◌, List, [], ◌∷◌, Option, Some, None}
+use Rattle.std.specs.Prelude.{◌≡◌, ◌+◌, ℕ, zero, suc, Bool, true, false, if◌then◌else◌, List, [], ◌∷◌, Option, Some, None, ⊤}
 use Rattle.list_laws.specs.Told.{Gains}
 use Rattle.amqp_wire.specs.declared.link.Link.{Ghosts}
 use Rattle.amqp_calls.specs.declared.reply.Reply.{Reply}
@@ -61,9 +61,14 @@ pub record GaveMessage {L : Type 0} (link : Ghosts L) (old new : End L) (receive
   pub is : line_in reply ≡ Some line
 
 -- the same where there is a line, else an end ran
-abbrev pub Gave : {L : Type 0} → Ghosts L → End L → End L → ℕ → ℕ → Option (List ℕ) → Type 0
-Gave link a b receiver name (Some line) = GaveMessage link a b receiver name line
-Gave link a b receiver name None = RanOn link a b
+abbrev pub Gave : {L : Type 0} → Ghosts L → End L → End L → ℕ → ℕ → List ℕ → Bool → Type 0
+Gave link a b receiver name line true = GaveMessage link a b receiver name line
+Gave link a b receiver name line false = RanOn link a b
+
+-- the line of the message that an answer gives, where it gives one
+abbrev pub IsLine : Reply → List ℕ → Bool → Type 0
+IsLine reply line true = line_in reply ≡ Some line
+IsLine reply line false = ⊤
 
 -- a call has accepted what that call gave
 pub record AcceptedBy {L : Type 0} (link : Ghosts L) (old new : End L) (receiver delivery : ℕ) : Type 0 where

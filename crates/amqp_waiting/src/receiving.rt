@@ -1,11 +1,11 @@
 //! `receive`: messages from an address.
-ghost use Rattle.std.specs.Prelude.{◌≡◌, ◌≤◌, ◌<◌, [], ◌∷◌, ◌++◌, true, Some, option_map, flat_map, OnOk, IfOk, IfErr, IfSome};
+ghost use Rattle.std.specs.Prelude.{◌≡◌, ◌≤◌, ◌<◌, [], ◌∷◌, ◌++◌, true, option_map, flat_map, OnOk, IfOk, IfErr};
 ghost use Rattle.list_laws.specs.Told.{Gains};
 ghost use Rattle.amqp_shown.specs.Bytes.{escaped};
 ghost use Rattle.amqp_serve.specs.Answers.{IsHonest};
 ghost use Rattle.amqp_serve.specs.Ran.{RanOn};
 ghost use Rattle.amqp_waiting.specs.Bodies.{value_line, body_text, link_line, line_in};
-ghost use Rattle.amqp_waiting.specs.Delivered.{Gave, GaveMessage, AcceptedBy, Got, GotAll, Received, IsCause, failure_in};
+ghost use Rattle.amqp_waiting.specs.Delivered.{Gave, GaveMessage, IsLine, AcceptedBy, Got, GotAll, Received, IsCause, failure_in};
 
 use crate::session::enter;
 use amqp_calls::{LinkReply, Reply};
@@ -164,21 +164,22 @@ fn write_line<K: Sink>(sink: &mut K, line: &[u8]) -> Result<(), ReceiveFailure>
     }
 }
 
-/// The line of a message, where the answer gives one. An error is a failure.
-fn message_line(alloc: Global, reply: Reply) -> Result<Option<Vec<u8>>, Failure>
-    ensures line { IfOk result (λ line. IfSome line (λ v. line_in reply ≡ Some v.items)) }
+/// Puts the line of a message there, where the answer gives one; whether it does. An error is a failure.
+fn take_line(alloc: Global, reply: Reply, line: &mut Vec<u8>) -> Result<bool, Failure>
+    ensures line { IfOk result (λ found. IsLine reply line.new.items found) }
     ensures honest { IfErr result IsHonest }
 {
-    if let Some(line) = line_of(alloc, &reply)? {
-        return Ok(Some(line));
+    if let Some(found) = line_of(alloc, &reply)? {
+        *line = found;
+        return Ok(true);
     }
     if is_error(&reply) {
         return Err(Failure::Answer(reply));
     }
-    Ok(None)
+    Ok(false)
 }
 
-/// Asks for a message; its line, where one is there.
+/// Asks for a message, and puts its line there; whether one is there.
 #[tactic(auto, using(amqp_serve::proofs::Runs::ran_asked_now))]
 fn ask_line<L: WaitLink, M: Moments>(
     alloc: Global,
@@ -186,18 +187,19 @@ fn ask_line<L: WaitLink, M: Moments>(
     moments: &mut M,
     name: u64,
     link: u64,
-) -> Result<Option<Vec<u8>>, Failure>
-    ensures gave { IfOk result (λ line. Gave L.Link end.old end.new link name (option_map (λ v. v.items) line)) }
+    line: &mut Vec<u8>,
+) -> Result<bool, Failure>
+    ensures gave { IfOk result (λ found. Gave L.Link end.old end.new link name line.new.items found) }
     ensures honest { IfErr result IsHonest }
 {
     let Some(reply) = ask_now(end, moments, name, recv(link))? else {
-        return Ok(None);
+        return Ok(false);
     };
-    let line = message_line(alloc, reply)?;
-    Ok(line)
+    let found = take_line(alloc, reply, line)?;
+    Ok(found)
 }
 
-/// Asks for a message; its line, where one is there. Where none is, goes on until more has come.
+/// Asks for a message, and puts its line there; whether one is there. Where none is, goes on until more has come.
 #[tactic(auto, using(amqp_serve::proofs::Runs::ran_on))]
 fn line_now<L: WaitLink, M: Moments>(
     alloc: Global,
@@ -205,16 +207,17 @@ fn line_now<L: WaitLink, M: Moments>(
     moments: &mut M,
     name: u64,
     link: u64,
-) -> Result<Option<Vec<u8>>, Failure>
-    ensures gave { IfOk result (λ line. Gave L.Link end.old end.new link name (option_map (λ v. v.items) line)) }
+    line: &mut Vec<u8>,
+) -> Result<bool, Failure>
+    ensures gave { IfOk result (λ found. Gave L.Link end.old end.new link name line.new.items found) }
     ensures honest { IfErr result IsHonest }
 {
     let reads = end.link_ref().reads();
-    if let Some(line) = ask_line(alloc, end, moments, name, link)? {
-        return Ok(Some(line));
+    if ask_line(alloc, end, moments, name, link, line)? {
+        return Ok(true);
     }
     wait_since(end, moments, reads)?;
-    Ok(None)
+    Ok(false)
 }
 
 /// The line of a message, and the name of the call that gave it.
@@ -237,9 +240,10 @@ fn next_line<R: Wait, L: WaitLink, M: Moments>(
     ensures gave { IfOk result (λ given. GaveMessage L.Link end.old end.new link given.name given.line.items) }
     ensures honest { IfErr result IsHonest }
 {
+    let mut line = Vec::new(alloc);
     for _ in rt.forever() {
         let name = names.give();
-        if let Some(line) = line_now(alloc, end, moments, name, link)? {
+        if line_now(alloc, end, moments, name, link, &mut line)? {
             return Ok(Given { name, line });
         }
     }
