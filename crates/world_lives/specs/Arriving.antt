@@ -59,13 +59,13 @@ MessagesArrive =
     (e : Side) (steps : List Step) (entries : List Entry) (k : AreCarried steps entries) (c handle : ℕ)
     (p : MomentOf e steps entries k.made) (m w : ℕ) (u : ReceiverState) (y : EndpointState)
     (b : ReceiverPasses m w u y p.sessions (sessions_by p.since) (sessions_at e k.made.view)
-      p.links (links_by p.since) (links_at e k.made.view) p.goes)
+    p.links (links_by p.since) (links_at e k.made.view) p.goes)
     (q : MomentOf (other e) steps entries k.made) (n v : ℕ) (t : SenderState) (x : EndpointState)
     (a : SenderPasses n v t x q.sessions (sessions_by q.since) (sessions_at (other e) k.made.view)
-      q.links (links_by q.since) (links_at (other e) k.made.view) q.goes)
+    q.links (links_by q.since) (links_at (other e) k.made.view) q.goes)
     → Listens c w y _ _ _ _ p → Speaks c v x _ _ _ _ q a.life
     → on_handle handle (transfers_in (read_before c _ _ _ _ p))
-      ≡ on_handle handle (transfers_in (written_before c _ _ _ _ q))
+    ≡ on_handle handle (transfers_in (written_before c _ _ _ _ q))
     → AreApart handle v n a.sender.log → on_handle handle (parts_told v q.links.output) ≡ []
     → AreLed handle w m p.links (links_by p.since) (links_at e k.made.view) p.goes.links_did
     → on_handle handle (inputs (own w p.sessions.incoming)) ≡ []
@@ -110,7 +110,7 @@ pub record Carries (c handle m n : ℕ) (d l : Called) (u : ReceiverState) (t : 
   pub sends : SenderPasses n l.session t x q.sessions (sessions_by q.since) last' q.links (links_by q.since) end'
       q.goes
   pub arrive : on_handle handle (transfers_in (read_before c none all last end p))
-        ≡ on_handle handle (transfers_in (written_before c none' all' last' end' q))
+      ≡ on_handle handle (transfers_in (written_before c none' all' last' end' q))
       → AreApart handle l.session n sends.sender.log → on_handle handle (parts_told l.session q.links.output) ≡ []
       → AreLed handle d.session m p.links (links_by p.since) end p.goes.links_did
       → on_handle handle (inputs (own d.session p.sessions.incoming)) ≡ []
