@@ -228,7 +228,7 @@ struct Given {
 }
 
 /// Waits for the next message.
-#[tactic(auto, using(amqp_serve::proofs::Runs::ran_none, amqp_serve::proofs::Runs::ran_on))]
+#[tactic(auto, using(amqp_serve::proofs::Runs::ran_none, amqp_serve::proofs::Runs::ran_on, crate::proofs::Deliveries::gave_on))]
 fn next_line<R: Wait, L: WaitLink, M: Moments>(
     rt: &R,
     alloc: Global,
@@ -270,6 +270,7 @@ fn accept<L: WaitLink, M: Moments>(
 }
 
 /// Waits for the next message, writes its line, and accepts it.
+#[tactic(auto, using(crate::proofs::Deliveries::got_by))]
 fn receive_one<R: Wait + AllocGlobal, L: WaitLink, M: Moments, K: Sink>(
     rt: &R,
     end: &mut End<L>,
@@ -311,7 +312,7 @@ fn give_credit<R: Wait, L: WaitLink, M: Moments>(
 }
 
 /// Receives so many messages.
-#[tactic(auto, using(crate::proofs::Deliveries::got_none))]
+#[tactic(auto, using(crate::proofs::Deliveries::got_none, crate::proofs::Deliveries::got_more))]
 fn receive_all<R: Wait + AllocGlobal, L: WaitLink, M: Moments, K: Sink>(
     rt: &R,
     end: &mut End<L>,

@@ -3,7 +3,7 @@ ghost use Rattle.std.specs.Prelude.{◌≡◌, ◌≤◌, ◌↔◌};
 ghost use Rattle.amqp_served.specs.Count.{IsUnwritten, WritesCount};
 ghost use Rattle.amqp_serve.specs.Endings.{IsFailure};
 ghost use Rattle.amqp_waiting_words.specs.Command.{asked};
-ghost use Rattle.amqp_waiting.specs.Commands.{HasWritten, HasUrl, IsQuiet, WritesLines};
+ghost use Rattle.amqp_waiting.specs.Commands.{HasWritten, HasUrl, IsQuiet, WritesLines, listened};
 ghost use Rattle.amqp_waiting.specs.Peers.{IsMisuse};
 
 use crate::address::{AddressError, connect_to, host_of, profile, read_url};
@@ -50,13 +50,12 @@ fn ending_of_io(error: &io::Error) -> Ending
 
 /// Accepts one connection and serves it.
 #[tactic(auto, using(crate::proofs::Deliveries::count_of))]
-pub fn serve<R: Net + Wait + AllocGlobal, K: Sink>(
+fn serve_one<R: Net + Wait + AllocGlobal, K: Sink>(
     rt: &R,
     mut listener: SocketListener,
     sink: &mut K,
 ) -> Ending
     ensures done { result ≡ Ending.Done → WritesCount (K.written sink.old) (K.written sink.new) }
-    ensures usage { ¬ (result ≡ Ending.Usage) }
     ensures unwritten { IsUnwritten result → K.written sink.new ≡ K.written sink.old }
     ensures later { K.faults sink.old ≤ K.faults sink.new }
 {
@@ -68,6 +67,35 @@ pub fn serve<R: Net + Wait + AllocGlobal, K: Sink>(
         Ok(mut end) => serve_on(rt, &mut end, sink),
         Err(_) => Ending::Memory,
     }
+}
+
+/// How `listen` ends whose connection was served so: its words are a command.
+fn listened(ending: Ending) -> Ending
+    ensures { result ≡ listened ending }
+{
+    match ending {
+        Ending::Done => Ending::Done,
+        Ending::Usage => Ending::PeerFault,
+        Ending::Memory => Ending::Memory,
+        Ending::ReadFault => Ending::ReadFault,
+        Ending::WriteFault => Ending::WriteFault,
+        Ending::PeerFault => Ending::PeerFault,
+        Ending::TimedOut => Ending::TimedOut,
+    }
+}
+
+/// The same, which never ends with `Usage`.
+pub fn serve<R: Net + Wait + AllocGlobal, K: Sink>(
+    rt: &R,
+    listener: SocketListener,
+    sink: &mut K,
+) -> Ending
+    ensures done { result ≡ Ending.Done → WritesCount (K.written sink.old) (K.written sink.new) }
+    ensures usage { ¬ (result ≡ Ending.Usage) }
+    ensures unwritten { IsUnwritten result → K.written sink.new ≡ K.written sink.old }
+    ensures later { K.faults sink.old ≤ K.faults sink.new }
+{
+    listened(serve_one(rt, listener, sink))
 }
 
 fn listen<R: Net + Wait + AllocGlobal, K: Sink>(rt: &R, port: u16, sink: &mut K) -> Ending
