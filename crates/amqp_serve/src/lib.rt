@@ -11,5 +11,3 @@ pub mod asking;
 pub mod connecting;
 pub mod failure;
 pub mod serving;
-#[cfg(test)]
-mod tests;
