@@ -29,12 +29,7 @@ pub struct LaterPipe {
 
 impl LaterPipe {
     /// A link with these pieces to come, of which the calls of these numbers fail.
-    pub fn new(
-        alloc: Global,
-        later: VecDeque<Vec<u8>>,
-        ends: bool,
-        failing: Vec<u64>,
-    ) -> Self {
+    pub fn new(alloc: Global, later: VecDeque<Vec<u8>>, ends: bool, failing: Vec<u64>) -> Self {
         LaterPipe {
             pipe: Pipe::new(alloc),
             later,

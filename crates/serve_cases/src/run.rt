@@ -116,12 +116,7 @@ fn served<R: Wait + AllocGlobal>(rt: &R, link: LaterPipe) -> Result<Vec<u8>, Cas
     };
     let mut sink = MemorySink::new(rt.alloc(), &[])?;
     let ending = serve_on(rt, &mut end, &mut sink);
-    text_of(
-        rt.alloc(),
-        ending,
-        sink.written(),
-        end.link_ref().output(),
-    )
+    text_of(rt.alloc(), ending, sink.written(), end.link_ref().output())
 }
 
 /// What a client comes to that sends so many messages.
