@@ -38,7 +38,6 @@ def forget(crate):
 def crates_of(folder):
     """The crates of a clone, lowest first."""
     os.chdir(os.path.realpath(folder))
-    _stamps.clear()
     rtlib.Crate.stamp, rtlib.Crate.__init__ = stamp, make
     rtlib.guarded()
     return sorted(rtlib.crates_below(os.getcwd()), key=lambda it: len(it.below()))
