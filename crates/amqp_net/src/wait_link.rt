@@ -1,5 +1,5 @@
 //! Links that can be waited for.
-ghost use Rattle.std.specs.Prelude.{◌≡◌, ◌<◌, false, IfSome};
+ghost use Rattle.std.specs.Prelude.{◌≡◌, ◌<◌, false, IfSome, IfNone};
 ghost use Rattle.amqp_wire.specs.Link.{HasCause};
 
 use amqp_wire::link::Link;
@@ -28,9 +28,10 @@ pub trait WaitLink: Link {
     /// them.
     fn reads(&self) -> u64;
 
-    /// The first fault of the link, where it has one. It has one only where its count is above 0.
+    /// The first fault of the link: it has one exactly where its count is above 0.
     fn fault(&self) -> Option<LinkFault>
-        ensures { IfSome result (λ _. 0 < Self.faults self.now) };
+        ensures some { IfSome result (λ _. 0 < Self.faults self.now) }
+        ensures none { IfNone result (Self.faults self.now ≡ 0) };
 }
 
 impl WaitLink for Pipe {

@@ -1,4 +1,4 @@
 pub mod Script
-pub mod Program
+pub mod Asked
 pub mod Show
-pub mod Command
+pub mod Program

@@ -13,12 +13,12 @@
 
 ghost use Rattle.std.specs.Prelude.{◌≤◌, ◌<◌, IfSome};
 
-pub mod command;
 pub mod program;
+pub mod request;
 pub mod script;
 pub mod show;
 
-use crate::command::{CommandEnd, run_command};
+use crate::program::{ProgramEnd, run_program};
 use amqp_decoder::ending::Ending;
 use amqp_disposers::{Ending as DisposersEnding, OpenGate, run_disposers};
 use amqp_gen::{asked, run_command as run_gen_command};
@@ -35,6 +35,7 @@ use std::random::RandomSource;
 use std::rt::{Env, Runtime};
 use std::sync::Wait;
 use std::thread::Threads;
+use std::io::IsTerminal;
 use std::{env, fmt, io};
 
 const HELP: &str = "amqp_run world < SCRIPT
@@ -73,6 +74,8 @@ amqp_run send [--sasl MECHANISM] [--timeout SECONDS] URL ADDRESS MESSAGE..
     scram-sha-256, scram-sha-512, anonymous or none
 amqp_run receive [--sasl MECHANISM] [--timeout SECONDS] URL ADDRESS COUNT
     receives COUNT messages (at most 10000), a line each
+    (on a terminal, send and receive tell on standard error once a second how
+    many messages have passed, where they take longer than that)
 amqp_run --help | --version
 
 A run that does not write its whole text says why on standard error, and ends
@@ -178,12 +181,13 @@ fn by_ticket(words: &[Text]) -> (&[Text], bool) {
 fn run(
     rt: &(impl Runtime + AllocGlobal + Threads + Wait + Net + RandomSource + Sync),
     words: &[Text],
+    is_shown: bool,
 ) -> End {
     let mut source = StandardInput::new(rt.reader());
     let mut sink = StandardOutput::new(io::writer(rt));
     if is_waiting_word(words) {
         return match read_waiting(words) {
-            Some(command) => End::Waiting(run_waiting(rt, &command, &mut sink)),
+            Some(command) => End::Waiting(run_waiting(rt, &command, is_shown, &mut sink)),
             None => End::Waiting(WaitingEnding::Usage),
         };
     }
@@ -209,9 +213,9 @@ fn run(
     if let Some((start, count)) = asked(words) {
         return End::Program(run_gen_command(rt.alloc(), start, count, &mut sink));
     }
-    match run_command(rt.alloc(), words, &mut source, &mut sink) {
-        CommandEnd::Program(status) => End::Program(status),
-        CommandEnd::Decoder(ending) => End::Decoder(ending),
+    match run_program(rt.alloc(), words, &mut source, &mut sink) {
+        ProgramEnd::Program(status) => End::Program(status),
+        ProgramEnd::Decoder(ending) => End::Decoder(ending),
     }
 }
 
@@ -225,7 +229,7 @@ fn status_of(error: io::Error) -> Status {
 
 fn main(rt: HostRuntime) -> ExitCode {
     let end = match read_words(&rt) {
-        Ok(words) => run(&rt, words.as_slice()),
+        Ok(words) => run(&rt, words.as_slice(), rt.stderr().is_terminal()),
         Err(error) => End::Program(status_of(error)),
     };
     let code = end.exit_code();

@@ -2,10 +2,10 @@
 ghost use Rattle.std.specs.Prelude.{◌≡◌, ◌≤◌, ◌⊎◌, ℕ, IfOk};
 ghost use Rattle.amqp_wire.specs.Link.{Rose};
 ghost use Rattle.amqp_streams.specs.Streams.{ReadsUpTo};
-ghost use Rattle.amqp_run.specs.Program.{WritesAll, WritesSome, HasBadLine, HasBadStep, IsUnwritten};
+ghost use Rattle.amqp_run.specs.Asked.{WritesAll, WritesSome, HasBadLine, HasBadStep, IsUnwritten};
 ghost use Rattle.amqp_run.specs.Show.{form_in, IsFormed, IsShownText};
 
-use crate::program::LONGEST_SCRIPT;
+use crate::request::LONGEST_SCRIPT;
 use crate::script::steps_of;
 use amqp_script::ScriptError;
 use amqp_script::script::words::is_text;

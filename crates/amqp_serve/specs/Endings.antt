@@ -20,6 +20,10 @@ IsFailure _ = Unit {0}
 abbrev pub HasFault : {L : Type 0} → Ghosts L → End L → Type 0
 HasFault {L} link e = (d : L) → 0 < link.faults (link_of d e.connection)
 
+-- the link of an end has counted none
+abbrev pub IsSound : {L : Type 0} → Ghosts L → End L → Type 0
+IsSound {L} link e = (d : L) → link.faults (link_of d e.connection) ≡ 0
+
 -- an end was served until its peer had closed the connection without an error; so many messages came in its answers, and of each it has
 -- called an accept before
 pub record WasServed {L : Type 0} (link : Ghosts L) (old new : End L) (count : ℕ) : Type 0 where

@@ -118,6 +118,9 @@ pub fn go_on_since<L: WaitLink, M: Moments>(
     if end.link_ref().reads() == reads {
         return go_on(end, moments);
     }
+    if moments.is_over() {
+        return Err(Failure::TimedOut);
+    }
     Ok(())
 }
 

@@ -1,13 +1,13 @@
 //! A client that sends messages.
 ghost use Rattle.std.specs.Prelude.{◌≡◌, codes, OnOk, IfOk, IfErr};
 ghost use Rattle.amqp_serve.specs.Answers.{IsHonest};
-ghost use Rattle.amqp_serve.specs.Endings.{HasFault};
+ghost use Rattle.amqp_serve.specs.Endings.{IsSound, HasFault};
 ghost use Rattle.amqp_serve.specs.Ran.{RanOn, Tried, SentBy, Settled, SentAll, Left, ConnectedWith, Connected};
 ghost use Rattle.amqp_served_calls.specs.Calls.{send_call};
 
 use crate::answers::{is_closing, is_outcome, is_sent};
 use crate::asking::{ask, ask_now, forget, go_on_since, granted};
-use crate::failure::{Failure, ending_of};
+use crate::failure::{Failure, ending_done, ending_of};
 use amqp_calls::{Call, Reply, Sendable};
 use amqp_end::End;
 use amqp_net::WaitLink;
@@ -278,11 +278,12 @@ pub fn connect_on<R: Wait + AllocGlobal, L: WaitLink>(
     count: u32,
 ) -> Ending
     ensures done { result ≡ Ending.Done → Connected L.Link end.old end.new (codes "m") count }
+    ensures sound { result ≡ Ending.Done → IsSound L.Link end.new }
     ensures usage { ¬ (result ≡ Ending.Usage) }
     ensures read_fault { result ≡ Ending.ReadFault → HasFault L.Link end.new }
 {
     match connect_with_m(rt, end, count) {
-        Ok(()) => Ending::Done,
+        Ok(()) => ending_done(end),
         Err(failure) => ending_of(end, &failure),
     }
 }

@@ -1,6 +1,6 @@
 //! Why a run over a link goes no further.
-ghost use Rattle.std.specs.Prelude.{◌≡◌, ◌↔◌, ◌⊎◌};
-ghost use Rattle.amqp_serve.specs.Endings.{IsFailure, HasFault};
+ghost use Rattle.std.specs.Prelude.{◌≡◌, ◌↔◌, ◌⊎◌, OnOk, IfErr};
+ghost use Rattle.amqp_serve.specs.Endings.{IsFailure, IsSound, HasFault};
 
 use amqp_calls::Reply;
 use amqp_end::End;
@@ -48,17 +48,43 @@ impl Drop for Failure {
     }
 }
 
-/// How a run ends that the peer or the link has ended: by the link's fault, where it has one.
+/// How a run ends by a fault of the link, where that has one.
+pub(crate) fn check_link<L: WaitLink>(end: &End<L>) -> Result<(), Ending>
+    ensures sound { OnOk result (IsSound L.Link end.now) }
+    ensures failure { IfErr result IsFailure }
+    ensures fault { IfErr result (λ _. HasFault L.Link end.now) }
+    ensures memory { IfErr result (λ ending. ¬ (ending ≡ Ending.Memory)) }
+    ensures timed_out { IfErr result (λ ending. ¬ (ending ≡ Ending.TimedOut)) }
+{
+    match end.link_ref().fault() {
+        Some(LinkFault::Reading) => Err(Ending::ReadFault),
+        Some(LinkFault::Writing) => Err(Ending::WriteFault),
+        None => Ok(()),
+    }
+}
+
+/// How a run ends that has done all: by a fault of the link, where that has one.
+pub fn ending_done<L: WaitLink>(end: &End<L>) -> Ending
+    ensures sound { (result ≡ Ending.Done) → IsSound L.Link end.now }
+    ensures fault { (result ≡ Ending.Done) ⊎ HasFault L.Link end.now }
+    ensures usage { ¬ (result ≡ Ending.Usage) }
+{
+    match check_link(end) {
+        Ok(()) => Ending::Done,
+        Err(ending) => ending,
+    }
+}
+
+/// How a run ends that the peer or the link has ended: by a fault of the link, where that has one.
 fn ending_of_link<L: WaitLink>(end: &End<L>) -> Ending
     ensures failure { IsFailure result }
     ensures fault { (result ≡ Ending.PeerFault) ⊎ HasFault L.Link end.now }
     ensures memory { ¬ (result ≡ Ending.Memory) }
     ensures timed_out { ¬ (result ≡ Ending.TimedOut) }
 {
-    match end.link_ref().fault() {
-        Some(LinkFault::Reading) => Ending::ReadFault,
-        Some(LinkFault::Writing) => Ending::WriteFault,
-        None => Ending::PeerFault,
+    match check_link(end) {
+        Ok(()) => Ending::PeerFault,
+        Err(ending) => ending,
     }
 }
 

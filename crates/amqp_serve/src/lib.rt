@@ -3,7 +3,7 @@
 
 pub use answers::{AnswerKind, kind_of};
 pub use connecting::connect_on;
-pub use failure::{Failure, ending_of};
+pub use failure::{Failure, ending_done, ending_of};
 pub use serving::serve_on;
 
 pub mod answers;

@@ -1,16 +1,16 @@
 //! A listener that accepts every message.
 ghost use Rattle.std.specs.Prelude.{◌≡◌, ◌≤◌, ◌↔◌, Some, OnOk, IfOk, IfErr, IfSome, IsTrue};
 ghost use Rattle.amqp_end.specs.Asks.{MayAsk};
-ghost use Rattle.amqp_served.specs.Count.{IsUnwritten};
+ghost use Rattle.amqp_served.specs.Count.{count_text, IsUnwritten};
 ghost use Rattle.amqp_served_news.specs.News.{news_of_lem};
 ghost use Rattle.amqp_served.specs.Served.{counted};
 ghost use Rattle.amqp_serve.specs.Acts.{call_for};
 ghost use Rattle.amqp_serve.specs.Answers.{counted_all};
-ghost use Rattle.amqp_serve.specs.Endings.{HasFault, IsFailure, WasServed, ServedAndTold, Lined};
+ghost use Rattle.amqp_serve.specs.Endings.{HasFault, IsFailure, IsSound, WasServed, ServedAndTold, Lined};
 ghost use Rattle.amqp_serve.specs.Ran.{Called, Heard, IsClosed, RanSilently};
 
 use crate::asking::{forget, go_on, let_go, take_replies};
-use crate::failure::{Failure, ending_of};
+use crate::failure::{Failure, check_link, ending_of};
 use amqp_calls::{Call, NamedReply};
 use amqp_end::End;
 use amqp_frames::ConnectionStopReason;
@@ -263,17 +263,29 @@ fn serve_all<R: Wait + AllocGlobal, L: WaitLink>(rt: &R, end: &mut End<L>) -> Re
     unreachable!()
 }
 
+/// The line of how many messages came, where the link has counted no fault.
+fn line_for<L: WaitLink>(alloc: Global, end: &End<L>, count: u64) -> Result<Vec<u8>, Ending>
+    ensures line { IfOk result (λ text. text.items ≡ count_text count) }
+    ensures sound { OnOk result (IsSound L.Link end.now) }
+    ensures failure { IfErr result IsFailure }
+    ensures read_fault { IfErr result (λ ending. ending ≡ Ending.ReadFault → HasFault L.Link end.now) }
+{
+    check_link(end)?;
+    match count_line(alloc, count) {
+        Ok(line) => Ok(line),
+        Err(_) => Err(Ending::Memory),
+    }
+}
+
 /// Serves the connection; the line of how many messages came, or how the run ends that has none.
 fn line_of<R: Wait + AllocGlobal, L: WaitLink>(rt: &R, end: &mut End<L>) -> Result<Vec<u8>, Ending>
     ensures line { IfOk result (λ text. Lined L.Link end.old end.new text.items) }
+    ensures sound { OnOk result (IsSound L.Link end.new) }
     ensures failure { IfErr result IsFailure }
     ensures read_fault { IfErr result (λ ending. ending ≡ Ending.ReadFault → HasFault L.Link end.new) }
 {
     match serve_all(rt, end) {
-        Ok(count) => match count_line(rt.alloc(), count) {
-            Ok(line) => Ok(line),
-            Err(_) => Err(Ending::Memory),
-        },
+        Ok(count) => line_for(rt.alloc(), end, count),
         Err(failure) => Err(ending_of(end, &failure)),
     }
 }
@@ -286,6 +298,8 @@ pub fn serve_on<R: Wait + AllocGlobal, L: WaitLink, K: Sink>(
     sink: &mut K,
 ) -> Ending
     ensures done { result ≡ Ending.Done → ServedAndTold L.Link end.old end.new (K.written sink.old) (K.written sink.new) }
+    ensures sound { result ≡ Ending.Done → IsSound L.Link end.new }
+    ensures usage { ¬ (result ≡ Ending.Usage) }
     ensures unwritten { IsUnwritten result → K.written sink.new ≡ K.written sink.old }
     ensures read_fault { result ≡ Ending.ReadFault → HasFault L.Link end.new }
     ensures later { K.faults sink.old ≤ K.faults sink.new }

@@ -10,15 +10,13 @@ use Rattle.amqp_calls.specs.declared.reply.Reply.{Reply}
 use Rattle.amqp_end.specs.declared.end.End.{End}
 use Rattle.amqp_link_words.specs.declared.link_call.Sendable.{Sendable}
 use Rattle.amqp_served_calls.specs.Calls.{recv_call, accept_delivery_call, send_call, outcome_call, IsStringMessage}
-use Rattle.amqp_served.specs.Count.{WritesCount, IsUnwritten}
-use Rattle.amqp_served.specs.declared.ending.Ending.{Ending}
-use Rattle.amqp_served.specs.declared.ending.Ending.TheVariants as ending
+use Rattle.amqp_served.specs.Count.{WritesCount}
 use Rattle.amqp_serve.specs.Answers.{HasAnswer}
 use Rattle.amqp_serve.specs.Endings.{ServedAndTold}
 use Rattle.amqp_serve.specs.Ran.{Turn, Ran, told, Makes, RanOn, RanSilently, AskedNow, Settled, Left}
 use Rattle.amqp_serve.proofs.Runs.{told_append, ran_then, ran_none, ran_on, ran_asked_now, makes_before, makes_behind, has_before, has_behind, last_has}
 use Rattle.amqp_waiting.specs.Bodies.{line_in}
-use Rattle.amqp_waiting.specs.Commands.{WritesLines, listened}
+use Rattle.amqp_waiting.specs.Commands.{WritesLines}
 use Rattle.amqp_waiting.specs.declared.receiving.ReceiveFailure.{ReceiveFailure}
 use Rattle.amqp_waiting.specs.declared.receiving.ReceiveFailure.TheVariants as failure
 use Rattle.amqp_waiting.specs.Delivered.{IsCause, is_accepted, refusals, DeliveredOne, Delivered, GaveMessage, Gave, IsLine, AcceptedBy, Got, GotAll, Received, SentAndLeft}
@@ -177,30 +175,3 @@ cause_since a b c (failure.End why) h x = x
 
 pub count_of : {L : Type 0} (link : Ghosts L) (a b : End L) (w v : Option (List ℕ)) → ServedAndTold link a b w v → WritesCount w v
 count_of link a b w v x = record { count = x.count; wrote = x.wrote }
-
-pub listened_done : (e : Ending) → listened e ≡ ending.Done → e ≡ ending.Done
-listened_done ending.Done x = x
-listened_done ending.Usage x = (cc)
-listened_done ending.Memory x = x
-listened_done ending.ReadFault x = x
-listened_done ending.WriteFault x = x
-listened_done ending.PeerFault x = x
-listened_done ending.TimedOut x = x
-
-pub listened_never : (e : Ending) → listened e ≡ ending.Usage → ⊥
-listened_never ending.Done x = (cc)
-listened_never ending.Usage x = (cc)
-listened_never ending.Memory x = (cc)
-listened_never ending.ReadFault x = (cc)
-listened_never ending.WriteFault x = (cc)
-listened_never ending.PeerFault x = (cc)
-listened_never ending.TimedOut x = (cc)
-
-pub listened_unwritten : (e : Ending) → IsUnwritten (listened e) → IsUnwritten e
-listened_unwritten ending.Done x = x
-listened_unwritten ending.Usage x = x
-listened_unwritten ending.Memory x = x
-listened_unwritten ending.ReadFault x = x
-listened_unwritten ending.WriteFault x = x
-listened_unwritten ending.PeerFault x = x
-listened_unwritten ending.TimedOut x = x

@@ -3,8 +3,6 @@ use Rattle.std.specs.Prelude.{◌≡◌, ℕ, zero, suc, List, Option, Some}
 use Rattle.list_laws.specs.Told.{Gains}
 use Rattle.amqp_calls.specs.declared.reply.Reply.{Reply}
 use Rattle.amqp_served.specs.Count.{WritesCount}
-use Rattle.amqp_served.specs.declared.ending.Ending.{Ending}
-use Rattle.amqp_served.specs.declared.ending.Ending.TheVariants.{Done, Usage, Memory, ReadFault, WriteFault, PeerFault, TimedOut}
 use Rattle.amqp_waiting_words.specs.Command.{Asked, listens, connects, sends, receives}
 use Rattle.amqp_waiting.specs.Bodies.{line_in}
 
@@ -33,13 +31,3 @@ HasUrl (listens port) = ⊥
 HasUrl (connects port count) = ⊥
 HasUrl (sends url address messages options) = Unit {0}
 HasUrl (receives url address count options) = Unit {0}
-
--- how `listen` ends whose connection was served so: its words are a command
-abbrev pub listened : Ending → Ending
-listened Done = Done
-listened Usage = PeerFault
-listened Memory = Memory
-listened ReadFault = ReadFault
-listened WriteFault = WriteFault
-listened PeerFault = PeerFault
-listened TimedOut = TimedOut

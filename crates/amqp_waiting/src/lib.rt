@@ -4,6 +4,7 @@
 pub use run::run_waiting;
 
 mod address;
+mod progress;
 mod receiving;
 mod report;
 pub mod run;

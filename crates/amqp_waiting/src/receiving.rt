@@ -7,6 +7,7 @@ ghost use Rattle.amqp_serve.specs.Ran.{RanOn};
 ghost use Rattle.amqp_waiting.specs.Bodies.{value_line, body_text, link_line, line_in};
 ghost use Rattle.amqp_waiting.specs.Delivered.{Gave, GaveMessage, IsLine, AcceptedBy, Got, GotAll, Received, IsCause, failure_in};
 
+use crate::progress::Progress;
 use crate::session::enter;
 use amqp_calls::{LinkReply, Reply};
 use amqp_data::Value;
@@ -271,7 +272,7 @@ fn accept<L: WaitLink, M: Moments>(
 
 /// Waits for the next message, writes its line, and accepts it.
 #[tactic(auto, using(crate::proofs::Deliveries::got_by))]
-fn receive_one<R: Wait + AllocGlobal, L: WaitLink, M: Moments, K: Sink>(
+fn receive_one<R: Wait + AllocGlobal, L: WaitLink, M: Progress, K: Sink>(
     rt: &R,
     end: &mut End<L>,
     moments: &mut M,
@@ -284,8 +285,10 @@ fn receive_one<R: Wait + AllocGlobal, L: WaitLink, M: Moments, K: Sink>(
     ensures cause { IfErr result (IsCause (K.faults sink.old) (K.faults sink.new)) }
 {
     let given = next_line(rt, rt.alloc(), end, moments, names, link)?;
+    moments.clear();
     write_line(sink, given.line.as_slice())?;
     accept(rt.alloc(), end, moments, names.give(), link, given.name)?;
+    moments.count();
     Ok(())
 }
 
@@ -313,7 +316,7 @@ fn give_credit<R: Wait, L: WaitLink, M: Moments>(
 
 /// Receives so many messages.
 #[tactic(auto, using(crate::proofs::Deliveries::got_none, crate::proofs::Deliveries::got_more))]
-fn receive_all<R: Wait + AllocGlobal, L: WaitLink, M: Moments, K: Sink>(
+fn receive_all<R: Wait + AllocGlobal, L: WaitLink, M: Progress, K: Sink>(
     rt: &R,
     end: &mut End<L>,
     moments: &mut M,
@@ -356,7 +359,7 @@ fn attach<R: Wait + AllocGlobal, L: WaitLink, M: Moments>(
 
 /// Opens the connection, receives so many messages, each of which is written as a line and then accepted, and closes it.
 #[tactic(auto, using(crate::proofs::Deliveries::received_by))]
-pub fn receive_on<R: Wait + AllocGlobal, L: WaitLink, M: Moments, K: Sink>(
+pub fn receive_on<R: Wait + AllocGlobal, L: WaitLink, M: Progress, K: Sink>(
     rt: &R,
     end: &mut End<L>,
     moments: &mut M,

@@ -3,16 +3,17 @@ ghost use Rattle.std.specs.Prelude.{◌≡◌, ◌≤◌, ◌↔◌};
 ghost use Rattle.amqp_served.specs.Count.{IsUnwritten, WritesCount};
 ghost use Rattle.amqp_serve.specs.Endings.{IsFailure};
 ghost use Rattle.amqp_waiting_words.specs.Command.{asked};
-ghost use Rattle.amqp_waiting.specs.Commands.{HasWritten, HasUrl, IsQuiet, WritesLines, listened};
+ghost use Rattle.amqp_waiting.specs.Commands.{HasWritten, HasUrl, IsQuiet, WritesLines};
 ghost use Rattle.amqp_waiting.specs.Peers.{IsMisuse};
 
 use crate::address::{AddressError, connect_to, host_of, profile, read_url};
+use crate::progress::{Counted, Progress};
 use crate::receiving::{ReceiveFailure, receive_on};
 use crate::report::report_failure;
 use crate::sending::send_on;
 use amqp_end::End;
 use amqp_net::{SocketLink, SocketListener};
-use amqp_serve::{Failure, connect_on, ending_of, serve_on};
+use amqp_serve::{Failure, connect_on, ending_done, ending_of, serve_on};
 use amqp_served::{Clocked, Ending};
 use amqp_text::Text;
 use amqp_waiting_words::{Command, Options};
@@ -50,12 +51,13 @@ fn ending_of_io(error: &io::Error) -> Ending
 
 /// Accepts one connection and serves it.
 #[tactic(auto, using(crate::proofs::Deliveries::count_of))]
-fn serve_one<R: Net + Wait + AllocGlobal, K: Sink>(
+pub fn serve<R: Net + Wait + AllocGlobal, K: Sink>(
     rt: &R,
     mut listener: SocketListener,
     sink: &mut K,
 ) -> Ending
     ensures done { result ≡ Ending.Done → WritesCount (K.written sink.old) (K.written sink.new) }
+    ensures usage { ¬ (result ≡ Ending.Usage) }
     ensures unwritten { IsUnwritten result → K.written sink.new ≡ K.written sink.old }
     ensures later { K.faults sink.old ≤ K.faults sink.new }
 {
@@ -67,35 +69,6 @@ fn serve_one<R: Net + Wait + AllocGlobal, K: Sink>(
         Ok(mut end) => serve_on(rt, &mut end, sink),
         Err(_) => Ending::Memory,
     }
-}
-
-/// How `listen` ends whose connection was served so: its words are a command.
-fn listened(ending: Ending) -> Ending
-    ensures { result ≡ listened ending }
-{
-    match ending {
-        Ending::Done => Ending::Done,
-        Ending::Usage => Ending::PeerFault,
-        Ending::Memory => Ending::Memory,
-        Ending::ReadFault => Ending::ReadFault,
-        Ending::WriteFault => Ending::WriteFault,
-        Ending::PeerFault => Ending::PeerFault,
-        Ending::TimedOut => Ending::TimedOut,
-    }
-}
-
-/// The same, which never ends with `Usage`.
-pub fn serve<R: Net + Wait + AllocGlobal, K: Sink>(
-    rt: &R,
-    listener: SocketListener,
-    sink: &mut K,
-) -> Ending
-    ensures done { result ≡ Ending.Done → WritesCount (K.written sink.old) (K.written sink.new) }
-    ensures usage { ¬ (result ≡ Ending.Usage) }
-    ensures unwritten { IsUnwritten result → K.written sink.new ≡ K.written sink.old }
-    ensures later { K.faults sink.old ≤ K.faults sink.new }
-{
-    listened(serve_one(rt, listener, sink))
 }
 
 fn listen<R: Net + Wait + AllocGlobal, K: Sink>(rt: &R, port: u16, sink: &mut K) -> Ending
@@ -126,9 +99,9 @@ pub fn connect<R: Net + Wait + AllocGlobal>(rt: &R, port: u16, count: u32) -> En
 }
 
 /// A client over a socket to the peer of a URL, with what it is to say of itself.
-struct Dialled<'a, R: Clock> {
+struct Dialled<'a, R: Clock + Eprint> {
     end: End<SocketLink>,
-    clock: Clocked<'a, R>,
+    moments: Counted<'a, R>,
     host: Option<Text>,
     sasl: Option<SaslProfile>,
 }
@@ -145,10 +118,11 @@ fn ending_of_address(error: &AddressError) -> Ending
     }
 }
 
-fn dial<'a, R: Net + AllocGlobal + Clock + RandomSource>(
+fn dial<'a, R: Net + AllocGlobal + Clock + RandomSource + Eprint>(
     rt: &'a R,
     url: &str,
     options: &Options,
+    is_shown: bool,
 ) -> Result<Dialled<'a, R>, AddressError> {
     let alloc = rt.alloc();
     let url = read_url(alloc, url)?;
@@ -163,7 +137,7 @@ fn dial<'a, R: Net + AllocGlobal + Clock + RandomSource>(
     match End::client(alloc, link) {
         Ok(end) => Ok(Dialled {
             end,
-            clock,
+            moments: Counted::new(rt, clock, is_shown),
             host,
             sasl,
         }),
@@ -189,21 +163,24 @@ fn send<R: Net + Wait + AllocGlobal + Clock + RandomSource + Eprint>(
     address: &str,
     messages: &[Text],
     options: &Options,
+    is_shown: bool,
 ) -> Ending {
     let Dialled {
         mut end,
-        mut clock,
+        mut moments,
         host,
         sasl,
-    } = match dial(rt, url, options) {
+    } = match dial(rt, url, options, is_shown) {
         Ok(dialled) => dialled,
         Err(error) => {
             let _ = eprintln!(rt; "send: {error}");
             return ending_of_address(&error);
         }
     };
-    match send_on(rt, &mut end, &mut clock, host, sasl, address, messages) {
-        Ok(0) => Ending::Done,
+    let sent = send_on(rt, &mut end, &mut moments, host, sasl, address, messages);
+    moments.clear();
+    match sent {
+        Ok(0) => ending_done(&end),
         Ok(_) => Ending::PeerFault,
         Err(failure) => fail(rt, &end, "send", failure),
     }
@@ -216,6 +193,7 @@ fn receive<R: Net + Wait + AllocGlobal + Clock + RandomSource + Eprint, K: Sink>
     address: &str,
     count: u32,
     options: &Options,
+    is_shown: bool,
     sink: &mut K,
 ) -> Ending
     ensures done { result ≡ Ending.Done → WritesLines count (K.written sink.old) (K.written sink.new) }
@@ -223,18 +201,20 @@ fn receive<R: Net + Wait + AllocGlobal + Clock + RandomSource + Eprint, K: Sink>
 {
     let Dialled {
         mut end,
-        mut clock,
+        mut moments,
         host,
         sasl,
-    } = match dial(rt, url, options) {
+    } = match dial(rt, url, options, is_shown) {
         Ok(dialled) => dialled,
         Err(error) => {
             let _ = eprintln!(rt; "receive: {error}");
             return ending_of_address(&error);
         }
     };
-    match receive_on(rt, &mut end, &mut clock, host, sasl, address, count, sink) {
-        Ok(()) => Ending::Done,
+    let received = receive_on(rt, &mut end, &mut moments, host, sasl, address, count, sink);
+    moments.clear();
+    match received {
+        Ok(()) => ending_done(&end),
         Err(failure) => fail_receive(rt, &end, failure),
     }
 }
@@ -252,10 +232,12 @@ fn fail_receive<R: AllocGlobal + Eprint>(
     }
 }
 
-/// Does what a command asks for.
+/// Does what a command asks for. Where `is_shown` says so, clients tell on standard error how many messages were sent or received, once
+/// a second.
 pub fn run_waiting<R: Net + Wait + AllocGlobal + Clock + RandomSource + Eprint, K: Sink>(
     rt: &R,
     command: &Command<'_>,
+    is_shown: bool,
     sink: &mut K,
 ) -> Ending
     ensures done { result ≡ Ending.Done → HasWritten (asked command.now) (K.written sink.old) (K.written sink.new) }
@@ -271,12 +253,12 @@ pub fn run_waiting<R: Net + Wait + AllocGlobal + Clock + RandomSource + Eprint, 
             address,
             messages,
             options,
-        } => send(rt, url, address, messages, options),
+        } => send(rt, url, address, messages, options, is_shown),
         Command::Receive {
             url,
             address,
             count,
             options,
-        } => receive(rt, url, address, *count, options, sink),
+        } => receive(rt, url, address, *count, options, is_shown, sink),
     }
 }

@@ -4,6 +4,7 @@ ghost use Rattle.amqp_serve.specs.Answers.{IsHonest};
 ghost use Rattle.amqp_serve.specs.Ran.{RanOn};
 ghost use Rattle.amqp_waiting.specs.Delivered.{is_acceptance, is_accepted_at, is_accepted, DeliveredOne, Delivered, SentAndLeft};
 
+use crate::progress::Progress;
 use crate::report::report;
 use crate::session::enter;
 use amqp_calls::{LinkReply, Reply};
@@ -47,7 +48,7 @@ fn is_accepted(reply: &Reply) -> bool
 }
 
 /// Sends a message, and waits for its outcome; whether the peer has accepted it. Where it has not, that is told on standard error.
-fn send_text<R: Wait + AllocGlobal + Eprint, L: WaitLink, M: Moments>(
+fn send_text<R: Wait + AllocGlobal + Eprint, L: WaitLink, M: Progress>(
     rt: &R,
     end: &mut End<L>,
     moments: &mut M,
@@ -62,9 +63,11 @@ fn send_text<R: Wait + AllocGlobal + Eprint, L: WaitLink, M: Moments>(
         return Err(Failure::Over);
     };
     let outcome = send_and_settle(rt, end, moments, names, link, &message)?;
+    moments.count();
     if is_accepted(&outcome) {
         return Ok(true);
     }
+    moments.clear();
     report(rt, rt.alloc(), "not accepted", &outcome);
     Ok(false)
 }
@@ -79,7 +82,7 @@ fn counted(refused: u64, accepted: bool) -> u64
 
 /// Sends the messages one after another; how many of them the peer has not accepted, of which each is told on standard error.
 #[tactic(auto, using(crate::proofs::Deliveries::delivered_none))]
-fn send_all<R: Wait + AllocGlobal + Eprint, L: WaitLink, M: Moments>(
+fn send_all<R: Wait + AllocGlobal + Eprint, L: WaitLink, M: Progress>(
     rt: &R,
     end: &mut End<L>,
     moments: &mut M,
@@ -118,7 +121,7 @@ fn attach<R: Wait + AllocGlobal, L: WaitLink, M: Moments>(
 
 /// Opens the connection, sends the messages, and closes it; how many messages the peer has not accepted.
 #[tactic(auto, using(crate::proofs::Deliveries::sent_and_left))]
-pub fn send_on<R: Wait + AllocGlobal + Eprint, L: WaitLink, M: Moments>(
+pub fn send_on<R: Wait + AllocGlobal + Eprint, L: WaitLink, M: Progress>(
     rt: &R,
     end: &mut End<L>,
     moments: &mut M,

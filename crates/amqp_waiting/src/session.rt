@@ -13,10 +13,8 @@ use amqp_text::Text;
 use sasl_gate::SaslProfile;
 use std::sync::Wait;
 
-/// How long the client waits for a frame, in milliseconds: the peer is told half of it.
-const IDLE_TIME: u32 = 60_000;
-
-/// Opens the connection and begins a session; the name of the session.
+/// Opens the connection and begins a session; the name of the session. The peer is asked for no heartbeats, since a run that is to end
+/// in a given time has a limit of its own.
 #[tactic(auto, using(amqp_serve::proofs::Runs::ran_on))]
 pub fn enter<R: Wait + AllocGlobal, L: WaitLink, M: Moments>(
     rt: &R,
@@ -29,7 +27,7 @@ pub fn enter<R: Wait + AllocGlobal, L: WaitLink, M: Moments>(
     ensures entered { OnOk result (RanOn L.Link end.old end.new) }
     ensures honest { IfErr result IsHonest }
 {
-    let call = open(rt.alloc(), host, Some(IDLE_TIME), sasl)?;
+    let call = open(rt.alloc(), host, None, sasl)?;
     settle(rt, end, moments, names.give(), call)?;
     let session = names.give();
     settle(rt, end, moments, session, begin())?;

@@ -1,6 +1,6 @@
 use Rattle.std.proofs.Common.{subst}
 use Rattle.amqp_run.specs.Script.{IsBadLine}
-use Rattle.amqp_run.proofs.program.run_world.Goals as goal
+use Rattle.amqp_run.proofs.request.run_world.Goals as goal
 
 pub returns-in-Err-Bad-clause-bad_script : goal.returns-in-Err-Bad-clause-bad_script
 returns-in-Err-Bad-clause-bad_script g c = λ n e.
