@@ -15,11 +15,9 @@ use Rattle.std.proofs.lemmas.Map.Keys.{IsDistinct-push}
 use Rattle.amqp_composites.specs.declared.modes.Role.{Role}
 use Rattle.amqp_composites.specs.declared.modes.Role.TheVariants.{Sender, Receiver}
 use Rattle.amqp_link_tables.proofs.Allocation.{right}
-use Rattle.amqp_link_tables.specs.declared.deliveries.Delivered.{Delivered}
 use Rattle.amqp_link_tables.specs.declared.error.AllocLinkError.{AllocLinkError}
 use Rattle.amqp_link_tables.specs.declared.handles.Held.{Held}
 use Rattle.amqp_link_tables.specs.Calls.{link_at, names, with_names, allocation, allocated, attached, released_at, released}
-use Rattle.amqp_link_tables.specs.Deliveries.{entered, forgotten, AreApart}
 use Rattle.amqp_link_tables.specs.Laws.{IsApart}
 use Rattle.amqp_link_tables.specs.State.{State, no_links}
 
@@ -104,9 +102,6 @@ unfolded = tt
 pub apart_none : IsApart no_links
 apart_none = unfolded
 
-pub unnumbered : AreApart []
-unnumbered = unfolded
-
 apart_answered : (o : Result ℕ AllocLinkError) (name : List ℕ) (role : Role) (link : ℕ) (s : State) → IsApart s → IsApart (allocated o name role link s)
 apart_answered (Err e) name role link s a = a
 apart_answered (Ok handle) name role link s a =
@@ -124,12 +119,6 @@ apart_at (Some held) handle s a =
 
 pub apart_released : (handle : ℕ) (s : State) → IsApart s → IsApart (released handle s)
 apart_released handle s a = apart_at (lookup (nat_eq handle) s.handles) handle s a
-
-pub apart_entered : (id : ℕ) (d : Delivered) (ds : List (ℕ × Delivered)) → AreApart ds → AreApart (entered id d ds)
-apart_entered id d ds a = distinct id d ds a
-
-pub apart_forgotten : (id : ℕ) (ds : List (ℕ × Delivered)) → AreApart ds → AreApart (forgotten id ds)
-apart_forgotten id ds a = (left id ds a).unique
 
 -- ---- the links of the handles
 

@@ -1,26 +1,12 @@
 -- The numbers of a range that have a delivery.
-use Rattle.std.proofs.Common.{◌≡◌, ◌⊎◌, inl, inr, ◌∙◌, ap, sym, refl, arith, zero-add, add-one, ℕ, zero, suc, ◌+◌, ◌-◌, ◌%◌, ◌^◌, ◌<◌, ◌≤◌, Bool, true, false, cond, ◌&&◌, if◌then◌else◌, length, nat_eq, nat_lt, nat_le, filter, map, List, [], ◌∷◌, ◌++◌, Some, is_some}
-use Rattle.std.proofs.lemmas.Bool.{eqb-true, eq-eqb, ne_eqb, lt-ltb, le-ltb, lt-leb, le-leb, cases_eq, cases_lt, cases_order}
-use Rattle.std.proofs.lemmas.List.Sums.{sum_by-cons}
+use Rattle.std.proofs.Common.{◌≡◌, ◌⊎◌, inl, inr, ◌∙◌, ap, subst, sym, refl, arith, zero-add, add-zero, ℕ, ◌+◌, ◌-◌, ◌%◌, ◌^◌, ◌<◌, ◌≤◌, Bool, true, false, cond, ◌&&◌, if◌then◌else◌, nat_eq, nat_le, filter, map, List, [], ◌∷◌, ◌++◌, Some, is_some}
+use Rattle.std.proofs.lemmas.Bool.{eqb-true, lt-leb, le-leb, cases_lt}
+use Rattle.std.proofs.lemmas.List.Sums.{sum_by-cons, sum_by-append}
 use Rattle.std.proofs.lemmas.Map.Keys.{IsDistinct-head, IsDistinct-tail}
 use Rattle.std.specs.List.{AllByRecursion, IsDistinct, count_by}
 use Rattle.std.specs.Map.{lookup, keys_of}
 use Rattle.amqp_link_tables.specs.declared.deliveries.Delivered.{Delivered}
-use Rattle.amqp_link_tables.specs.Deliveries.{ahead, number_at, is_within, is_there, AreApart, IsCover, covered_by_range, covered_by_table, covered}
-use Rattle.std.proofs.lemmas.List.{append-nil}
-use Rattle.std.proofs.lemmas.List.FromFn.{filter_of_map_range_with_len_more, sum_by-map-range_with_len_more}
-use Rattle.std.specs.List.{range_with_len}
-
--- ---- one number more
-
-more : (t : ℕ → Bool) (f : ℕ → ℕ) (n : ℕ) (b : Bool) → t (f n) ≡ b → filter t (map f (range_with_len 0 (n + 1))) ≡ filter t (map f (range_with_len 0 n)) ++ cond b (f n ∷ []) []
-more t f n b e = filter_of_map_range_with_len_more t f 0 n n (zero-add n) ∙ ap (λ c. filter t (map f (range_with_len 0 n)) ++ cond c (f n ∷ []) []) e
-
-pub more_there : (t : ℕ → Bool) (f : ℕ → ℕ) (n : ℕ) (xs ys : List ℕ) → xs ≡ filter t (map f (range_with_len 0 n)) → ys ≡ xs ++ f n ∷ [] → t (f n) ≡ true → ys ≡ filter t (map f (range_with_len 0 (n + 1)))
-more_there t f n xs ys d e there = e ∙ ap (λ zs. zs ++ f n ∷ []) d ∙ sym (more t f n true there)
-
-pub more_absent : (t : ℕ → Bool) (f : ℕ → ℕ) (n : ℕ) (xs ys : List ℕ) → xs ≡ filter t (map f (range_with_len 0 n)) → ys ≡ xs → t (f n) ≡ false → ys ≡ filter t (map f (range_with_len 0 (n + 1)))
-more_absent t f n xs ys d e absent = e ∙ d ∙ sym (append-nil (filter t (map f (range_with_len 0 n)))) ∙ sym (more t f n false absent)
+use Rattle.amqp_link_tables.specs.Deliveries.{ahead, is_within, is_there, AreApart, IsCover, numbers_between, numbers_around, covered}
 
 -- ---- how often a number stands in a list
 
@@ -75,76 +61,78 @@ count-keys n (e ∷ es) d = by (nat_eq n e.0) refl (count-keys n es (IsDistinct-
     by true h rest = count_here n e.0 (keys_of es) h ∙ ap (λ m. 1 + m) (absent n e.0 h (keys_of es) (IsDistinct-head nat_eq e.0 (keys_of es) d)) ∙ sym (ap (λ b. cond (is_some (cond b (Some e.1) (lookup (nat_eq n) es))) 1 0) h)
     by false h rest = count_past n e.0 (keys_of es) h ∙ rest ∙ sym (ap (λ b. cond (is_some (cond b (Some e.1) (lookup (nat_eq n) es))) 1 0) h)
 
--- ---- in the range
+-- ---- where a number stands
 
--- how far a number is ahead is the place where it stands
-there_ahead : (first n steps : ℕ) → first < 2 ^ 32 → n < 2 ^ 32 → steps < 2 ^ 32 → n ≡ (first + steps) % 2 ^ 32 → (n + (2 ^ 32 - first)) % 2 ^ 32 ≡ steps
-there_ahead first n steps f h s e = omega arith
+ahead_between : (first last n : ℕ) → first ≤ last → last < 2 ^ 32 → n < 2 ^ 32 → first ≤ n → n ≤ last → ahead first n ≤ ahead first last
+ahead_between first last n o l h a b = omega arith
 
-ahead_there : (first n steps : ℕ) → first < 2 ^ 32 → n < 2 ^ 32 → (n + (2 ^ 32 - first)) % 2 ^ 32 ≡ steps → n ≡ (first + steps) % 2 ^ 32
-ahead_there first n steps f h e = omega arith
+ahead_below : (first last n : ℕ) → first ≤ last → last < 2 ^ 32 → n < 2 ^ 32 → n < first → ahead first last < ahead first n
+ahead_below first last n o l h a = omega arith
 
-at_place : (first n steps : ℕ) → first < 2 ^ 32 → n < 2 ^ 32 → steps < 2 ^ 32 → nat_eq n (number_at first steps) ≡ nat_eq (ahead first n) steps
-at_place first n steps f h s = by (cases_eq (ahead first n) steps)
+ahead_above : (first last n : ℕ) → first ≤ last → last < 2 ^ 32 → n < 2 ^ 32 → last < n → ahead first last < ahead first n
+ahead_above first last n o l h a = omega arith
+
+around_from : (first last n : ℕ) → last < first → first < 2 ^ 32 → n < 2 ^ 32 → first ≤ n → ahead first n ≤ ahead first last
+around_from first last n o f h a = omega arith
+
+around_up_to : (first last n : ℕ) → last < first → first < 2 ^ 32 → n ≤ last → ahead first n ≤ ahead first last
+around_up_to first last n o f a = omega arith
+
+around_past : (first last n : ℕ) → last < first → first < 2 ^ 32 → last < n → n < first → ahead first last < ahead first n
+around_past first last n o f a b = omega arith
+
+within_between : (first last n : ℕ) → first ≤ last → last < 2 ^ 32 → n < 2 ^ 32 → (nat_le first n && nat_le n last) ≡ is_within first last n
+within_between first last n o l h = by (cases_lt n first) (cases_lt last n)
   where
-    by : (ahead first n ≡ steps) ⊎ (ahead first n ≡ steps → ⊥) → nat_eq n (number_at first steps) ≡ nat_eq (ahead first n) steps
-    by (inl e) = eq-eqb n (number_at first steps) (ahead_there first n steps f h e) ∙ sym (eq-eqb (ahead first n) steps e)
-    by (inr apart) = ne_eqb n (number_at first steps) (λ e. apart (there_ahead first n steps f h s e)) ∙ sym (ne_eqb (ahead first n) steps apart)
+    by : (n < first) ⊎ (first ≤ n) → (last < n) ⊎ (n ≤ last) → (nat_le first n && nat_le n last) ≡ is_within first last n
+    by (inl a) c = ap (λ b. b && nat_le n last) (lt-leb first n a) ∙ sym (lt-leb (ahead first n) (ahead first last) (ahead_below first last n o l h a))
+    by (inr a) (inl c) = ap (λ b. b && nat_le n last) (le-leb first n a) ∙ lt-leb n last c ∙ sym (lt-leb (ahead first n) (ahead first last) (ahead_above first last n o l h c))
+    by (inr a) (inr c) = ap (λ b. b && nat_le n last) (le-leb first n a) ∙ le-leb n last c ∙ sym (le-leb (ahead first n) (ahead first last) (ahead_between first last n o l h a c))
 
-one_place : (a w : ℕ) → cond (nat_lt a w) 1 0 + cond (nat_eq a w) 1 0 ≡ cond (nat_lt a (w + 1)) 1 0
-one_place a w = by (cases_order a w)
-  where
-    by : (a ≡ w) ⊎ ((a < w) ⊎ (w < a)) → cond (nat_lt a w) 1 0 + cond (nat_eq a w) 1 0 ≡ cond (nat_lt a (w + 1)) 1 0
-    by (inl e) = rw (le-ltb a w (omega arith), eq-eqb a w e, lt-ltb a (w + 1) (omega arith)) refl
-    by (inr (inl less)) = rw (lt-ltb a w less, ne_eqb a w (λ e. omega arith), lt-ltb a (w + 1) (omega arith)) refl
-    by (inr (inr more)) = rw (le-ltb a w (omega arith), ne_eqb a w (λ e. omega arith), le-ltb a (w + 1) (omega arith)) refl
+-- ---- each once
 
-count-range : (first n w : ℕ) → first < 2 ^ 32 → n < 2 ^ 32 → w ≤ 2 ^ 32 → count_by (nat_eq n) (map (number_at first) (range_with_len 0 w)) ≡ cond (nat_lt (ahead first n) w) 1 0
-count-range first n zero f h s = ap (λ b. cond b 1 0) (sym (le-ltb (ahead first n) 0 (omega arith)))
-count-range first n (suc w) f h s =
-    let fits : w < 2 ^ 32 = omega arith in
-    let rest : count_by (nat_eq n) (map (number_at first) (range_with_len 0 w)) ≡ cond (nat_lt (ahead first n) w) 1 0 = count-range first n w f h (omega arith) in
-    let next : count_by (nat_eq n) (map (number_at first) (range_with_len 0 (w + 1))) ≡ count_by (nat_eq n) (map (number_at first) (range_with_len 0 w)) + cond (nat_eq n (number_at first w)) 1 0 =
-    sum_by-map-range_with_len_more (λ y. cond (nat_eq n y) 1 0) (number_at first) 0 w w (zero-add w) in
-    rw add-one at (next ∙ ap (λ m. m + cond (nat_eq n (number_at first w)) 1 0) rest ∙ ap (λ b. cond (nat_lt (ahead first n) w) 1 0 + cond b 1 0) (at_place first n w f h fits) ∙ one_place (ahead first n) w)
-
--- ---- together
-
-both : (b c : Bool) → ◌≡◌ {A = ℕ} (cond c (cond b 1 0) 0) (if b && c then 1 else 0)
+both : (b c : Bool) → ◌≡◌ {A = ℕ} (cond b (cond c 1 0) 0) (if b && c then 1 else 0)
 both true true = refl
 both true false = refl
 both false true = refl
 both false false = refl
 
-within-lt : (a b : ℕ) → nat_lt a (b + 1) ≡ nat_le a b
-within-lt a b = by (cases_lt b a)
+-- how often a number stands in a part of the table
+count_part : (p : ℕ → Bool) (n : ℕ) (b : Bool) (ds : List (ℕ × Delivered)) → AreApart ds → p n ≡ b → count_by (nat_eq n) (filter p (keys_of ds)) ≡ (if b && is_there ds n then 1 else 0)
+count_part p n b ds d e = count-filter p n b e (keys_of ds) ∙ ap (λ m. cond b m 0) (count-keys n ds d) ∙ both b (is_there ds n)
+
+pub between_covers : (first last : ℕ) (ds : List (ℕ × Delivered)) → first ≤ last → last < 2 ^ 32 → AreApart ds → IsCover first last ds (numbers_between first last ds)
+between_covers first last ds o l d = λ n h. count_part (λ m. nat_le first m && nat_le m last) n (is_within first last n) ds d (within_between first last n o l h)
+
+count_around : (first last n : ℕ) (b c : Bool) (ds : List (ℕ × Delivered)) → AreApart ds → nat_le first n ≡ b → nat_le n last ≡ c
+    → count_by (nat_eq n) (numbers_around first last ds) ≡ (if b && is_there ds n then 1 else 0) + (if c && is_there ds n then 1 else 0)
+count_around first last n b c ds d e f =
+    sum_by-append (λ m. cond (nat_eq n m) 1 0) (filter (nat_le first) (keys_of ds)) (filter (λ m. nat_le m last) (keys_of ds))
+    ∙ ap (λ k. k + count_by (nat_eq n) (filter (λ m. nat_le m last) (keys_of ds))) (count_part (nat_le first) n b ds d e)
+    ∙ ap (λ k. (if b && is_there ds n then 1 else 0) + k) (count_part (λ m. nat_le m last) n c ds d f)
+
+pub around_covers : (first last : ℕ) (ds : List (ℕ × Delivered)) → last < first → first < 2 ^ 32 → AreApart ds → IsCover first last ds (numbers_around first last ds)
+around_covers first last ds o f d = λ n h. by n h (cases_lt n first) (cases_lt last n)
   where
-    by : (b < a) ⊎ (a ≤ b) → nat_lt a (b + 1) ≡ nat_le a b
-    by (inl more) = le-ltb a (b + 1) (omega arith) ∙ sym (lt-leb a b more)
-    by (inr few) = lt-ltb a (b + 1) (omega arith) ∙ sym (le-leb a b few)
+    so : (n : ℕ) (w : Bool) → is_within first last n ≡ w → (if w && is_there ds n then 1 else 0) ≡ (if is_within first last n && is_there ds n then 1 else 0)
+    so n w e = ap (λ b. if b && is_there ds n then 1 else 0) (sym e)
 
-pub range_covers : (first last : ℕ) (ds : List (ℕ × Delivered)) → first < 2 ^ 32 → last < 2 ^ 32 → IsCover first last ds (covered_by_range first last ds)
-range_covers first last ds f l = λ n h.
-    count-filter (is_there ds) n (is_there ds n) refl (map (number_at first) (range_with_len 0 (ahead first last + 1)))
-    ∙ ap (λ m. cond (is_there ds n) m 0) (count-range first n (ahead first last + 1) f h (omega arith) ∙ ap (λ b. cond b 1 0) (within-lt (ahead first n) (ahead first last)))
-    ∙ both (is_within first last n) (is_there ds n)
-
-pub table_covers : (first last : ℕ) (ds : List (ℕ × Delivered)) → IsDistinct nat_eq (keys_of ds) → IsCover first last ds (covered_by_table first last ds)
-table_covers first last ds d = λ n h.
-    count-filter (is_within first last) n (is_within first last n) refl (keys_of ds)
-    ∙ ap (λ m. cond (is_within first last n) m 0) (count-keys n ds d)
-    ∙ swapped (is_within first last n) (is_there ds n)
-  where
-    swapped : (b c : Bool) → ◌≡◌ {A = ℕ} (cond b (cond c 1 0) 0) (if b && c then 1 else 0)
-    swapped true true = refl
-    swapped true false = refl
-    swapped false true = refl
-    swapped false false = refl
-
-chosen_covers : (c : Bool) (first last : ℕ) (ds : List (ℕ × Delivered)) (xs ys : List ℕ) → IsCover first last ds xs → IsCover first last ds ys → IsCover first last ds (if c then xs else ys)
-chosen_covers true first last ds xs ys p q = p
-chosen_covers false first last ds xs ys p q = q
+    by : (n : ℕ) → n < 2 ^ 32 → (n < first) ⊎ (first ≤ n) → (last < n) ⊎ (n ≤ last) → count_by (nat_eq n) (numbers_around first last ds) ≡ (if is_within first last n && is_there ds n then 1 else 0)
+    by n h (inl a) (inl c) = count_around first last n false false ds d (lt-leb first n a) (lt-leb n last c) ∙ so n false (lt-leb (ahead first n) (ahead first last) (around_past first last n o f c a))
+    by n h (inl a) (inr c) =
+        count_around first last n false true ds d (lt-leb first n a) (le-leb n last c) ∙ zero-add (if is_there ds n then 1 else 0)
+        ∙ so n true (le-leb (ahead first n) (ahead first last) (around_up_to first last n o f c))
+    by n h (inr a) (inl c) =
+        count_around first last n true false ds d (le-leb first n a) (lt-leb n last c) ∙ add-zero (if is_there ds n then 1 else 0)
+        ∙ so n true (le-leb (ahead first n) (ahead first last) (around_from first last n o f h a))
+    by n h (inr a) (inr c) = absurd (omega (arith, o, a, c))
 
 pub covers : (first last : ℕ) (ds : List (ℕ × Delivered)) → first < 2 ^ 32 → last < 2 ^ 32 → AreApart ds → IsCover first last ds (covered first last ds)
-covers first last ds f l d =
-    chosen_covers (nat_lt (ahead first last) (length ds)) first last ds (covered_by_range first last ds) (covered_by_table first last ds) (range_covers first last ds f l) (table_covers first last ds d)
+covers first last ds f l d = by (cases_lt last first)
+  where
+    chosen : (b : Bool) → nat_le first last ≡ b → IsCover first last ds (if b then numbers_between first last ds else numbers_around first last ds) → IsCover first last ds (covered first last ds)
+    chosen b e k = subst (λ c. IsCover first last ds (if c then numbers_between first last ds else numbers_around first last ds)) (sym e) k
+
+    by : (last < first) ⊎ (first ≤ last) → IsCover first last ds (covered first last ds)
+    by (inl a) = chosen false (lt-leb first last a) (around_covers first last ds a f d)
+    by (inr a) = chosen true (le-leb first last a) (between_covers first last ds a l d)

@@ -3,3 +3,4 @@ pub mod Allocation
 pub mod Apart
 pub mod Covered
 pub mod Lowest
+pub mod Numbers

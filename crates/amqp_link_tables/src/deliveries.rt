@@ -1,11 +1,11 @@
 //! Deliveries by their numbers, which are modulo 2 ^ 32 (OASIS AMQP 1.0, part 2, section 2.8.9; RFC 1982).
-ghost use Rattle.std.specs.Prelude.{◌≡◌, ◌+◌, ◌≤◌, ◌^◌, [], OnOk, IfOk};
+ghost use Rattle.std.specs.Prelude.{◌≡◌, ◌<◌, ◌≤◌, [], OnOk, IfOk, IsTrue, None};
 ghost use Rattle.std.specs.Option.{option_copied};
-ghost use Rattle.amqp_link_tables.specs.Deliveries.{deliveries_in, entered, delivery_of, forgotten, ahead, is_within, covered_by_range, covered_by_table, covered, IsCover};
+ghost use Rattle.amqp_link_tables.specs.Deliveries.{deliveries_in, entered, delivery_of, forgotten, numbers_between, numbers_around, covered, AreInOrder, IsCover};
 
 use amqp_text::Binary;
-use indexmap::IndexMap;
 use std::alloc::{AllocError, Global};
+use std::collections::BTreeMap;
 
 /// A delivery that is not settled at both ends.
 pub struct Delivered {
@@ -22,10 +22,10 @@ impl Drop for Delivered {
     }
 }
 
-/// The deliveries of one session in one direction, by their numbers.
+/// The deliveries of one session in one direction, in the order of their numbers.
 pub struct DeliveryTable {
     alloc: Global,
-    deliveries: IndexMap<u32, Delivered>,
+    deliveries: BTreeMap<u32, Delivered>,
 }
 
 // The table is let go by a call, so that no caller sees what stands in it.
@@ -39,28 +39,6 @@ impl Drop for DeliveryTable {
     }
 }
 
-/// How far the second number is ahead of the first, modulo 2 ^ 32.
-fn ahead(first: u32, number: u32) -> u32
-    ensures { result ≡ ahead first number }
-{
-    number.wrapping_sub(first)
-}
-
-/// How many numbers there are from the first to the last, modulo 2 ^ 32.
-fn width(first: u32, last: u32) -> u64
-    ensures count { result ≡ ahead first last + 1 }
-    ensures fits { result ≤ 2 ^ 32 }
-{
-    u64::from(ahead(first, last)) + 1
-}
-
-/// Whether a number stands in the range from the first to the last, modulo 2 ^ 32.
-fn is_within(first: u32, last: u32, number: u32) -> bool
-    ensures { result ≡ is_within first last number }
-{
-    ahead(first, number) <= ahead(first, last)
-}
-
 impl DeliveryTable {
     /// No deliveries; takes no memory.
     pub fn new(alloc: Global) -> Self
@@ -68,7 +46,7 @@ impl DeliveryTable {
     {
         DeliveryTable {
             alloc,
-            deliveries: IndexMap::new(alloc),
+            deliveries: BTreeMap::new(alloc),
         }
     }
 
@@ -93,44 +71,44 @@ impl DeliveryTable {
         ensures state { deliveries_in self.new ≡ forgotten delivery_id (deliveries_in self.old) }
         ensures gone { delivery_of delivery_id (deliveries_in self.new) ≡ None }
     {
-        self.deliveries.swap_remove(&delivery_id)
+        self.deliveries.remove(&delivery_id)
     }
 
-    /// The numbers from the first to the last, modulo 2 ^ 32, that have a delivery: each once. It takes time for as many numbers as the
-    /// range has, or as there are deliveries, whichever is less. The one error is want of memory.
+    /// The numbers from the first to the last, modulo 2 ^ 32, that have a delivery: each once, in the order of the range. It takes time for
+    /// those numbers alone, however wide the range is and however many deliveries stand outside of it. The one error is want of memory.
     pub fn covered(&self, first: u32, last: u32) -> Result<Vec<u32>, AllocError>
         ensures numbers { IfOk result (λ numbers. numbers.items ≡ covered first last (deliveries_in self.now)) }
         ensures once { IfOk result (λ numbers. IsCover first last (deliveries_in self.now) numbers.items) }
+        ensures order { AreInOrder (deliveries_in self.now) }
     {
-        if (ahead(first, last) as usize) < self.deliveries.len() {
-            self.covered_by_range(first, last)
+        if first <= last {
+            self.numbers_between(first, last)
         } else {
-            self.covered_by_table(first, last)
+            self.numbers_around(first, last)
         }
     }
 
-    /// Those numbers, in the order of the range.
-    fn covered_by_range(&self, first: u32, last: u32) -> Result<Vec<u32>, AllocError>
-        ensures { IfOk result (λ numbers. numbers.items ≡ covered_by_range first last (deliveries_in self.now)) }
-    {
-        let mut numbers = Vec::new(self.alloc);
-        for steps in 0..width(first, last) {
-            let number = first.wrapping_add(steps as u32);
-            if self.deliveries.contains_key(&number) {
-                numbers.push(number)?;
-            }
-        }
-        Ok(numbers)
-    }
-
-    /// Those numbers, in the order of the table.
-    fn covered_by_table(&self, first: u32, last: u32) -> Result<Vec<u32>, AllocError>
-        ensures { IfOk result (λ numbers. numbers.items ≡ covered_by_table first last (deliveries_in self.now)) }
+    /// The numbers that have a delivery, of those from the first to the last.
+    fn numbers_between(&self, first: u32, last: u32) -> Result<Vec<u32>, AllocError>
+        requires { first ≤ last }
+        ensures numbers { IfOk result (λ numbers. numbers.items ≡ numbers_between first last (deliveries_in self.now)) }
+        ensures order { AreInOrder (deliveries_in self.now) }
     {
         self.deliveries
-            .keys()
-            .copied()
-            .filter(|number| is_within(first, last, *number))
+            .range(first..=last)
+            .map(|(number, _)| *number)
+            .collect(self.alloc)
+    }
+
+    /// The numbers that have a delivery, of those from the first up to 2 ^ 32, and then of those from 0 to the last.
+    fn numbers_around(&self, first: u32, last: u32) -> Result<Vec<u32>, AllocError>
+        ensures numbers { IfOk result (λ numbers. numbers.items ≡ numbers_around first last (deliveries_in self.now)) }
+        ensures order { AreInOrder (deliveries_in self.now) }
+    {
+        self.deliveries
+            .range(first..)
+            .chain(self.deliveries.range(..=last))
+            .map(|(number, _)| *number)
             .collect(self.alloc)
     }
 }

@@ -3,7 +3,7 @@ ghost use Rattle.std.specs.Prelude.{◌≡◌, ℕ, ◌<◌, ◌^◌, nat_eq, tr
 ghost use Rattle.amqp_composites.specs.declared.modes.Role.{Role};
 ghost use Rattle.amqp_link_tables.specs.declared.deliveries.Delivered.{Delivered};
 ghost use Rattle.amqp_link_tables.specs.Calls.{link_at, allocation, allocated, attached, released, joined, parted, spending, is_spent};
-ghost use Rattle.amqp_link_tables.specs.Deliveries.{entered, forgotten, covered, AreApart, IsCover};
+ghost use Rattle.amqp_link_tables.specs.Deliveries.{entered, forgotten, covered, AreApart, AreInOrder, IsCover};
 ghost use Rattle.amqp_link_tables.specs.Laws.{IsApart, IsRight};
 ghost use Rattle.amqp_link_tables.specs.State.{State, no_links};
 
@@ -14,8 +14,8 @@ pub fn answers_are_right()
     ensures { (name : List ℕ) (role : Role) (max : ℕ) (s : State) → IsRight (allocation name role max s) name role max s }
 {}
 
-/// At every moment no handle of this end and no number of a delivery stands twice.
-#[tactic(auto, using(crate::proofs::Apart::apart_none, crate::proofs::Apart::apart_allocated, crate::proofs::Apart::apart_released, crate::proofs::Apart::unnumbered, crate::proofs::Apart::apart_entered, crate::proofs::Apart::apart_forgotten))]
+/// At every moment no handle of this end and no number of a delivery stands twice, and the deliveries stand in the order of their numbers.
+#[tactic(auto, using(crate::proofs::Apart::apart_none, crate::proofs::Apart::apart_allocated, crate::proofs::Apart::apart_released, crate::proofs::Numbers::none_in_order, crate::proofs::Numbers::entered_in_order, crate::proofs::Numbers::forgotten_in_order, crate::proofs::Numbers::in_order_apart))]
 pub fn nothing_stands_twice()
     ensures none { IsApart no_links }
     ensures allocated { (name : List ℕ) (role : Role) (max link : ℕ) (s : State) → IsApart s → IsApart (allocated (allocation name role max s) name role link s) }
@@ -23,9 +23,10 @@ pub fn nothing_stands_twice()
     ensures joined { (remote link : ℕ) (s : State) → IsApart s → IsApart (joined remote link s) }
     ensures parted { (remote : ℕ) (s : State) → IsApart s → IsApart (parted remote s) }
     ensures spending { (name : List ℕ) (s : State) → IsApart s → IsApart (spending name s) }
-    ensures unnumbered { AreApart [] }
-    ensures entered { (id : ℕ) (d : Delivered) (ds : List (ℕ × Delivered)) → AreApart ds → AreApart (entered id d ds) }
-    ensures forgotten { (id : ℕ) (ds : List (ℕ × Delivered)) → AreApart ds → AreApart (forgotten id ds) }
+    ensures unnumbered { AreInOrder [] }
+    ensures entered { (id : ℕ) (d : Delivered) (ds : List (ℕ × Delivered)) → AreInOrder ds → AreInOrder (entered id d ds) }
+    ensures forgotten { (id : ℕ) (ds : List (ℕ × Delivered)) → AreInOrder ds → AreInOrder (forgotten id ds) }
+    ensures numbered { (ds : List (ℕ × Delivered)) → AreInOrder ds → AreApart ds }
 {}
 
 /// Two links never have one handle: one that a call gets had no link, and each other handle keeps its own.

@@ -1,14 +1,18 @@
 -- The deliveries that the links of a session find for a Disposition.
-use Rattle.std.specs.Prelude.{◌≡◌, ℕ, zero, suc, ◌+◌, ◌-◌, ◌%◌, ◌<◌, ◌≤◌, nat_eq, nat_lt, nat_le, Bool, true, false, cond, List, [], ◌∷◌, length, map, filter, flat_map, Option, Some, None, if◌then◌else◌, refl}
-use Rattle.std.specs.List.{range_with_len}
+use Rattle.std.specs.Prelude.{◌≡◌, ◌⊎◌, ℕ, ◌+◌, ◌-◌, ◌%◌, ◌<◌, ◌≤◌, ◌&&◌, nat_eq, nat_le, Bool, true, false, cond, List, [], ◌∷◌, filter, flat_map, Option, Some, None, if◌then◌else◌, refl}
+use Rattle.std.specs.Cmp.{unsigned_tied}
+use Rattle.std.specs.Ordering.{nat_cmp, is_eq, match_ordering}
+use Rattle.std.specs.declared.cmp.Ordering.{Ordering}
+use Rattle.std.specs.declared.cmp.Ordering.TheVariants.{Less, Equal, Greater}
 use Rattle.std.specs.Map.{lookup, keys_of}
-use Rattle.std.proofs.Common.{sym, ◌∙◌, ap, subst, arith}
+use Rattle.std.proofs.Common.{inl, inr, sym, ◌∙◌, ap, subst, arith}
+use Rattle.std.proofs.lemmas.Bool.{lt-leb, le-leb, cases_lt}
 use Rattle.std.proofs.lemmas.Bool.Decides.{nat_tests}
 use Rattle.amqp_composites.specs.declared.modes.Role.{Role}
 use Rattle.amqp_composites.specs.declared.modes.Role.TheVariants as role
 use Rattle.amqp_performatives.specs.declared.disposition.Disposition.{Disposition}
 use Rattle.amqp_link_tables.specs.declared.deliveries.Delivered.{Delivered}
-use Rattle.amqp_link_tables.specs.Deliveries.{entered, delivery_of, forgotten, ahead, number_at, is_within, is_there, covered_by_range, covered_by_table, covered}
+use Rattle.amqp_link_tables.specs.Deliveries.{entered, delivery_of, forgotten, ahead, is_within, numbers_between, numbers_around, covered}
 use Rattle.amqp_session.specs.declared.session.LeftDelivery.{LeftDelivery}
 use Rattle.amqp_session.specs.declared.session.LinkInput.{LinkInput}
 use Rattle.amqp_session.specs.declared.session.LinkInput.TheVariants as input
@@ -16,43 +20,20 @@ use Rattle.session_laws.specs.Giving.{last_of}
 use Rattle.session_laws.specs.Numbering.{Step, leaves, covers, forgets, numbered, News, news_if, news_at, news_by, told, inputs_of, AreShort}
 use Rattle.session_laws.specs.Settling.{IsAmong}
 use Rattle.session_laws.specs.Speaking.{AreAmong}
-use Rattle.session_laws.proofs.Lists.{Each, each_both, each_kept, each_removed, each_inserted}
+use Rattle.session_laws.proofs.Lists.{Each, each_both}
 
 -- ---- the numbers that a Disposition covers
 
-ahead_of : (first k : ℕ) → first < 4294967296 → k < 4294967296 → (((first + k) % 4294967296) + (4294967296 - first)) % 4294967296 ≡ k
-ahead_of first k f h = omega arith
+-- a number at or above the first and at or below the last, where the range does not go round
+ahead_between : (first last n : ℕ) → last < 4294967296 → first ≤ n → n ≤ last → ahead first n ≤ ahead first last
+ahead_between first last n l a b = omega (arith, l, a, b)
 
-ahead_short : (first last : ℕ) → ahead first last < 4294967296
-ahead_short first last = omega arith
+-- where it goes round: a number at or above the first, and one at or below the last
+ahead_from : (first last n : ℕ) → last < first → first < 4294967296 → n < 4294967296 → first ≤ n → ahead first n ≤ ahead first last
+ahead_from first last n o f s a = omega (arith, o, f, s, a)
 
-one_within : (first last k : ℕ) → first < 4294967296 → k ≤ ahead first last → is_within first last (number_at first k) ≡ true
-one_within first last k f h =
-    let u = ahead_short first last in
-    let e : ahead first (number_at first k) ≡ k = ahead_of first k f (omega (arith, u, h)) in
-    ap (λ (n : ℕ). nat_le n (ahead first last)) e ∙ grind (arith, nat_tests)
-
-range_within : (first last : ℕ) → first < 4294967296 → (start count : ℕ) → start + count ≤ ahead first last + 1 → Each (λ (n : ℕ). is_within first last n ≡ true) (map (number_at first) (range_with_len start count))
-range_within first last f start zero h = tt
-range_within first last f start (suc count) h = (one_within first last start f (omega (arith, h)), range_within first last f (start + 1) count (omega (arith, h)))
-
-passes : {X : Type 0} → (test : X → Bool) (xs : List X) → Each (λ (x : X). test x ≡ true) (filter test xs)
-passes test [] = tt
-passes test (x ∷ xs) = by (test x) refl (passes test xs)
-  where
-    by : (c : Bool) → test x ≡ c → Each (λ y. test y ≡ true) (filter test xs) → Each (λ y. test y ≡ true) (cond c (x ∷ filter test xs) (filter test xs))
-    by true e k = (e, k)
-    by false e k = k
-
-within_by : (c : Bool) (P : ℕ → Type 0) (xs ys : List ℕ) → Each P xs → Each P ys → Each P (if c then xs else ys)
-within_by true P xs ys h k = h
-within_by false P xs ys h k = k
-
-all_within : (first last : ℕ) (ds : List (ℕ × Delivered)) → first < 4294967296 → Each (λ (n : ℕ). is_within first last n ≡ true) (covered first last ds)
-all_within first last ds f =
-    within_by (nat_lt (ahead first last) (length ds)) (λ (n : ℕ). is_within first last n ≡ true) (covered_by_range first last ds) (covered_by_table first last ds)
-    (each_kept (λ (n : ℕ). is_within first last n ≡ true) (is_there ds) (map (number_at first) (range_with_len 0 (ahead first last + 1))) (range_within first last f 0 (ahead first last + 1) (omega arith)))
-    (passes (is_within first last) (keys_of ds))
+ahead_up_to : (first last n : ℕ) → last < first → first < 4294967296 → n ≤ last → ahead first n ≤ ahead first last
+ahead_up_to first last n o f a = omega (arith, o, f, a)
 
 -- a range that does not go round
 pub record Within (first last n : ℕ) : Type 0 where
@@ -81,15 +62,85 @@ Entry given e = HasLeft given e.1.link e.0 e.1.tag
 same_key : (n k : ℕ) → nat_eq n k ≡ true → n ≡ k
 same_key n k h = grind (arith, nat_tests)
 
+-- an equal number is the same
+same_number : (n k : ℕ) → nat_cmp n k ≡ Equal → n ≡ k
+same_number n k h = same_key n k (sym (unsigned_tied n k) ∙ ap is_eq h)
+
 entry_of : (given : List LinkInput) (x : LeftDelivery) → IsAmong (input.Left x) given → x.delivery_id < 4294967296 → Entry given (x.delivery_id, record { link = x.handle; tag = x.delivery_tag })
 entry_of given x a s = record { delivery = x; among = a; is_handle = refl; is_number = refl; is_tag = refl; short = s }
+
+entered_keeps : {P : ℕ × Delivered → Type 0} → (number : ℕ) (v : Delivered) → ((k : ℕ) → number ≡ k → P (k, v)) → (ds : List (ℕ × Delivered)) → Each P ds → Each P (entered number v ds)
+entered_keeps number v p [] h = (p number refl, tt)
+entered_keeps {P} number v p (d ∷ ds) h = by (nat_cmp number d.0) refl (entered_keeps number v p ds h.1)
+  where
+    by : (o : Ordering) → nat_cmp number d.0 ≡ o → Each P (entered number v ds) → Each P (match_ordering o ((number, v) ∷ d ∷ ds) ((d.0, v) ∷ ds) (d ∷ entered number v ds))
+    by Less e r = (p number refl, h)
+    by Equal e r = (p d.0 (same_number number d.0 e), h.1)
+    by Greater e r = (h.0, r)
 
 numbered_by : (c : Bool) (given : List LinkInput) (x : LeftDelivery) (ds : List (ℕ × Delivered)) → IsAmong (input.Left x) given → x.delivery_id < 4294967296 → Each (Entry given) ds
     → Each (Entry given) (if c then ds else entered x.delivery_id (record { link = x.handle; tag = x.delivery_tag }) ds)
 numbered_by true given x ds a s h = h
 numbered_by false given x ds a s h =
     let v : Delivered = record { link = x.handle; tag = x.delivery_tag } in
-    each_inserted (Entry given) nat_eq ds x.delivery_id v (entry_of given x a s) (λ k e. subst (λ (n : ℕ). Entry given (n, v)) (same_key x.delivery_id k e) (entry_of given x a s)) h
+    entered_keeps x.delivery_id v (λ k e. subst (λ (n : ℕ). Entry given (n, v)) e (entry_of given x a s)) ds h
+
+forgotten_keeps : {P : ℕ × Delivered → Type 0} → (number : ℕ) (ds : List (ℕ × Delivered)) → Each P ds → Each P (forgotten number ds)
+forgotten_keeps number [] h = tt
+forgotten_keeps {P} number (d ∷ ds) h = by (nat_eq number d.0) (forgotten_keeps number ds h.1)
+  where
+    by : (c : Bool) → Each P (forgotten number ds) → Each P (cond c ds (d ∷ forgotten number ds))
+    by true r = h.1
+    by false r = (h.0, r)
+
+-- the numbers of a part of the table, where they have 32 bits as each number has that left
+part_within : (given : List LinkInput) (test within : ℕ → Bool) → ((n : ℕ) → n < 4294967296 → test n ≡ true → within n ≡ true) → (ds : List (ℕ × Delivered)) → Each (Entry given) ds
+    → Each (λ (n : ℕ). within n ≡ true) (filter test (keys_of ds))
+part_within given test within p [] h = tt
+part_within given test within p (d ∷ ds) h = by (test d.0) refl (part_within given test within p ds h.1)
+  where
+    by : (c : Bool) → test d.0 ≡ c → Each (λ (n : ℕ). within n ≡ true) (filter test (keys_of ds)) → Each (λ (n : ℕ). within n ≡ true) (cond c (d.0 ∷ filter test (keys_of ds)) (filter test (keys_of ds)))
+    by true e k = (p d.0 h.0.short e, k)
+    by false e k = k
+
+at_most : (n k : ℕ) → nat_le n k ≡ true → n ≤ k
+at_most n k h = grind (arith, nat_tests)
+
+first_so : (b c : Bool) → (b && c) ≡ true → b ≡ true
+first_so true c h = refl
+first_so false c h = absurd cc
+
+last_so : (b c : Bool) → (b && c) ≡ true → c ≡ true
+last_so true c h = h
+last_so false c h = absurd cc
+
+between_within : (first last : ℕ) → last < 4294967296 → (n : ℕ) → (nat_le first n && nat_le n last) ≡ true → is_within first last n ≡ true
+between_within first last l n h =
+    let a : first ≤ n = at_most first n (first_so (nat_le first n) (nat_le n last) h) in
+    let b : n ≤ last = at_most n last (last_so (nat_le first n) (nat_le n last) h) in
+    le-leb (ahead first n) (ahead first last) (ahead_between first last n l a b)
+
+from_within : (first last : ℕ) → last < first → first < 4294967296 → (n : ℕ) → n < 4294967296 → nat_le first n ≡ true → is_within first last n ≡ true
+from_within first last o f n s h =
+    le-leb (ahead first n) (ahead first last) (ahead_from first last n o f s (at_most first n h))
+
+up_to_within : (first last : ℕ) → last < first → first < 4294967296 → (n : ℕ) → nat_le n last ≡ true → is_within first last n ≡ true
+up_to_within first last o f n h =
+    le-leb (ahead first n) (ahead first last) (ahead_up_to first last n o f (at_most n last h))
+
+all_within : (given : List LinkInput) (first last : ℕ) (ds : List (ℕ × Delivered)) → first < 4294967296 → last < 4294967296 → Each (Entry given) ds → Each (λ (n : ℕ). is_within first last n ≡ true) (covered first last ds)
+all_within given first last ds f l h = by (cases_lt last first)
+  where
+    chosen : (c : Bool) → nat_le first last ≡ c → Each (λ (n : ℕ). is_within first last n ≡ true) (if c then numbers_between first last ds else numbers_around first last ds) → Each (λ (n : ℕ). is_within first last n ≡ true) (covered first last ds)
+    chosen c e k = subst (λ (b : Bool). Each (λ (n : ℕ). is_within first last n ≡ true) (if b then numbers_between first last ds else numbers_around first last ds)) (sym e) k
+
+    by : (last < first) ⊎ (first ≤ last) → Each (λ (n : ℕ). is_within first last n ≡ true) (covered first last ds)
+    by (inl o) =
+        chosen false (lt-leb first last o)
+        (each_both (λ (n : ℕ). is_within first last n ≡ true) (filter (nat_le first) (keys_of ds)) (filter (λ (n : ℕ). nat_le n last) (keys_of ds))
+        (part_within given (nat_le first) (is_within first last) (from_within first last o f) ds h)
+        (part_within given (λ (n : ℕ). nat_le n last) (is_within first last) (λ n s. up_to_within first last o f n) ds h))
+    by (inr o) = chosen true (le-leb first last o) (part_within given (λ (n : ℕ). nat_le first n && nat_le n last) (is_within first last) (λ n s. between_within first last l n) ds h)
 
 found : (given : List LinkInput) (n : ℕ) (x : Delivered) (ds : List (ℕ × Delivered)) → Each (Entry given) ds → lookup (nat_eq n) ds ≡ Some x → HasLeft given x.link n x.tag
 found given n x [] h e = absurd cc
@@ -144,7 +195,7 @@ over_numbers given handle ds d (n ∷ ns) a r s h k =
 
 by_role : (given : List LinkInput) (handle : ℕ) (ds : List (ℕ × Delivered)) (d : Disposition) (r : Role) → d.role ≡ r → IsAmong (input.Disposition d) given → d.first < 4294967296 → last_of d < 4294967296 → Each (Entry given) ds
     → Each (IsNews given handle) (news_by r handle ds d)
-by_role given handle ds d role.Receiver r a f s h = over_numbers given handle ds d (covered d.first (last_of d) ds) a r s h (all_within d.first (last_of d) ds f)
+by_role given handle ds d role.Receiver r a f s h = over_numbers given handle ds d (covered d.first (last_of d) ds) a r s h (all_within given d.first (last_of d) ds f s h)
 by_role given handle ds d role.Sender r a f s h = tt
 
 all_news : (given : List LinkInput) (handle : ℕ) (ds : List (ℕ × Delivered)) (steps : List Step) → Each (Entry given) ds → AreAmong (inputs_of steps) given → AreShort steps → Each (IsNews given handle) (told handle ds steps)
@@ -152,7 +203,7 @@ all_news given handle ds [] h a s = tt
 all_news given handle ds (leaves x ∷ xs) h a s = all_news given handle (numbered x ds) xs (numbered_by x.settled given x ds a.0 s.0 h) a.1 s.1
 all_news given handle ds (covers d ∷ xs) h a s =
     each_both (IsNews given handle) (news_by d.role handle ds d) (told handle ds xs) (by_role given handle ds d d.role refl a.0 s.0.0 s.0.1 h) (all_news given handle ds xs h a.1 s.1)
-all_news given handle ds (forgets n ∷ xs) h a s = all_news given handle (forgotten n ds) xs (each_removed (Entry given) (nat_eq n) ds h) a s.1
+all_news given handle ds (forgets n ∷ xs) h a s = all_news given handle (forgotten n ds) xs (forgotten_keeps n ds h) a s.1
 
 pub first_news : (given : List LinkInput) (handle : ℕ) (steps : List Step) → AreAmong (inputs_of steps) given → AreShort steps → Each (IsNews given handle) (told handle [] steps)
 first_news given handle steps a s = all_news given handle [] steps tt a s
