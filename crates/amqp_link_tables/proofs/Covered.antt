@@ -114,7 +114,7 @@ count_around first last n b c ds d e f =
 pub around_covers : (first last : ℕ) (ds : List (ℕ × Delivered)) → last < first → first < 2 ^ 32 → AreApart ds → IsCover first last ds (numbers_around first last ds)
 around_covers first last ds o f d = λ n h. by n h (cases_lt n first) (cases_lt last n)
   where
-    so : (n : ℕ) (w : Bool) → is_within first last n ≡ w → (if w && is_there ds n then 1 else 0) ≡ (if is_within first last n && is_there ds n then 1 else 0)
+    so : (n : ℕ) (w : Bool) → is_within first last n ≡ w → ◌≡◌ {A = ℕ} (if w && is_there ds n then 1 else 0) (if is_within first last n && is_there ds n then 1 else 0)
     so n w e = ap (λ b. if b && is_there ds n then 1 else 0) (sym e)
 
     by : (n : ℕ) → n < 2 ^ 32 → (n < first) ⊎ (first ≤ n) → (last < n) ⊎ (n ≤ last) → count_by (nat_eq n) (numbers_around first last ds) ≡ (if is_within first last n && is_there ds n then 1 else 0)

@@ -11,7 +11,7 @@ use Rattle.std.specs.declared.ops.Bound.TheVariants.{Included, Unbounded}
 use Rattle.std.specs.BTreeMap.{insert_entry}
 use Rattle.std.specs.BTreeMap.Range.{range_contains, entries_between}
 use Rattle.amqp_link_tables.specs.declared.deliveries.Delivered.{Delivered}
-use Rattle.amqp_link_tables.specs.Deliveries.{entered, forgotten, AreApart, AreInOrder, numbers_between, numbers_around}
+use Rattle.amqp_link_tables.specs.Deliveries.{entered, forgotten, AreApart, AreInOrder, numbers_between, numbers_from, numbers_up_to}
 
 -- ---- how two numbers compare
 
@@ -73,25 +73,19 @@ and_true : (b : Bool) → (b && true) ≡ b
 and_true true = refl
 and_true false = refl
 
-pub of_between : (first last : ℕ) (ds : List (ℕ × Delivered)) → keys_of (entries_between nat_cmp (Included first) (Included last) ds) ≡ numbers_between first last ds
+of_between : (first last : ℕ) (ds : List (ℕ × Delivered)) → keys_of (entries_between nat_cmp (Included first) (Included last) ds) ≡ numbers_between first last ds
 of_between first last ds =
     numbers_of (λ n. range_contains nat_cmp (Included first) (Included last) n) (λ n. nat_le first n && nat_le n last)
     (λ n. ap (λ b. b && not (is_lt (nat_cmp last n))) (from_start first n) ∙ ap (λ b. nat_le first n && b) (up_to_end last n)) ds
 
-of_from : (first : ℕ) (ds : List (ℕ × Delivered)) → keys_of (entries_between nat_cmp (Included first) Unbounded ds) ≡ filter (nat_le first) (keys_of ds)
+pub of_between_at : (a b first last : ℕ) (ds : List (ℕ × Delivered)) → a ≡ first → b ≡ last → keys_of (entries_between nat_cmp (Included a) (Included b) ds) ≡ numbers_between first last ds
+of_between_at a b first last ds e f = of_between a b ds ∙ ap (λ (x : ℕ). numbers_between x b ds) e ∙ ap (λ (y : ℕ). numbers_between first y ds) f
+
+pub of_from : (first : ℕ) (ds : List (ℕ × Delivered)) → keys_of (entries_between nat_cmp (Included first) Unbounded ds) ≡ numbers_from first ds
 of_from first ds = numbers_of (λ n. range_contains nat_cmp (Included first) Unbounded n) (nat_le first) (λ n. and_true (is_le (nat_cmp first n)) ∙ from_start first n) ds
 
-of_up_to : (last : ℕ) (ds : List (ℕ × Delivered)) → keys_of (entries_between nat_cmp Unbounded (Included last) ds) ≡ filter (λ n. nat_le n last) (keys_of ds)
+pub of_up_to : (last : ℕ) (ds : List (ℕ × Delivered)) → keys_of (entries_between nat_cmp Unbounded (Included last) ds) ≡ numbers_up_to last ds
 of_up_to last ds = numbers_of (λ n. range_contains nat_cmp Unbounded (Included last) n) (λ n. nat_le n last) (λ n. up_to_end last n) ds
-
-joined : (es fs : List (ℕ × Delivered)) → keys_of (es ++ fs) ≡ keys_of es ++ keys_of fs
-joined [] fs = refl
-joined (e ∷ es) fs = ap (λ ns. e.0 ∷ ns) (joined es fs)
-
-pub around_parts : (first last : ℕ) (ds es fs : List (ℕ × Delivered)) → es ≡ entries_between nat_cmp (Included first) Unbounded ds → fs ≡ entries_between nat_cmp Unbounded (Included last) ds
-    → keys_of (es ++ fs) ≡ numbers_around first last ds
-around_parts first last ds es fs e f =
-    joined es fs ∙ ap (λ ns. ns ++ keys_of fs) (ap keys_of e ∙ of_from first ds) ∙ ap (λ ns. filter (nat_le first) (keys_of ds) ++ ns) (ap keys_of f ∙ of_up_to last ds)
 
 -- ---- in order
 

@@ -48,9 +48,17 @@ is_there ds number = is_some (lookup (nat_eq number) ds)
 abbrev pub numbers_between : ℕ → ℕ → List (ℕ × Delivered) → List ℕ
 numbers_between first last ds = filter (λ n. nat_le first n && nat_le n last) (keys_of ds)
 
--- the numbers that have a delivery, of those from the first on, and then of those up to the last
+-- of those from the first on
+abbrev pub numbers_from : ℕ → List (ℕ × Delivered) → List ℕ
+numbers_from first ds = filter (nat_le first) (keys_of ds)
+
+-- of those up to the last
+abbrev pub numbers_up_to : ℕ → List (ℕ × Delivered) → List ℕ
+numbers_up_to last ds = filter (λ n. nat_le n last) (keys_of ds)
+
+-- the one behind the other
 abbrev pub numbers_around : ℕ → ℕ → List (ℕ × Delivered) → List ℕ
-numbers_around first last ds = filter (nat_le first) (keys_of ds) ++ filter (λ n. nat_le n last) (keys_of ds)
+numbers_around first last ds = numbers_from first ds ++ numbers_up_to last ds
 
 -- the numbers from the first to the last, in that order, that have a delivery: the range goes round 2^32 where its last is below its first
 abbrev pub covered : ℕ → ℕ → List (ℕ × Delivered) → List ℕ

@@ -1,7 +1,7 @@
 //! Deliveries by their numbers, which are modulo 2 ^ 32 (OASIS AMQP 1.0, part 2, section 2.8.9; RFC 1982).
 ghost use Rattle.std.specs.Prelude.{◌≡◌, ◌<◌, ◌≤◌, [], OnOk, IfOk, IsTrue, None};
 ghost use Rattle.std.specs.Option.{option_copied};
-ghost use Rattle.amqp_link_tables.specs.Deliveries.{deliveries_in, entered, delivery_of, forgotten, numbers_between, numbers_around, covered, AreInOrder, IsCover};
+ghost use Rattle.amqp_link_tables.specs.Deliveries.{deliveries_in, entered, delivery_of, forgotten, numbers_between, numbers_from, numbers_up_to, numbers_around, covered, AreInOrder, IsCover};
 
 use amqp_text::Binary;
 use std::alloc::{AllocError, Global};
@@ -100,15 +100,35 @@ impl DeliveryTable {
             .collect(self.alloc)
     }
 
+    /// The numbers that have a delivery, of those from the first up to 2 ^ 32.
+    fn numbers_from(&self, first: u32) -> Result<Vec<u32>, AllocError>
+        ensures numbers { IfOk result (λ numbers. numbers.items ≡ numbers_from first (deliveries_in self.now)) }
+        ensures order { AreInOrder (deliveries_in self.now) }
+    {
+        self.deliveries
+            .range(first..)
+            .map(|(number, _)| *number)
+            .collect(self.alloc)
+    }
+
+    /// The numbers that have a delivery, of those from 0 to the last.
+    fn numbers_up_to(&self, last: u32) -> Result<Vec<u32>, AllocError>
+        ensures { IfOk result (λ numbers. numbers.items ≡ numbers_up_to last (deliveries_in self.now)) }
+    {
+        self.deliveries
+            .range(..=last)
+            .map(|(number, _)| *number)
+            .collect(self.alloc)
+    }
+
     /// The numbers that have a delivery, of those from the first up to 2 ^ 32, and then of those from 0 to the last.
     fn numbers_around(&self, first: u32, last: u32) -> Result<Vec<u32>, AllocError>
         ensures numbers { IfOk result (λ numbers. numbers.items ≡ numbers_around first last (deliveries_in self.now)) }
         ensures order { AreInOrder (deliveries_in self.now) }
     {
-        self.deliveries
-            .range(first..)
-            .chain(self.deliveries.range(..=last))
-            .map(|(number, _)| *number)
-            .collect(self.alloc)
+        let mut numbers = self.numbers_from(first)?;
+        let more = self.numbers_up_to(last)?;
+        numbers.extend_from_slice(more.as_slice())?;
+        Ok(numbers)
     }
 }

@@ -2,12 +2,12 @@ use Rattle.std.proofs.Common.{rules, ap, ◌≡◌, ◌∙◌}
 use Rattle.std.proofs.lemmas.Result.{IfOk-weaker}
 use Rattle.std.specs.Map.{keys_of}
 use Rattle.amqp_link_tables.specs.Deliveries.{numbers_between}
-use Rattle.amqp_link_tables.proofs.Numbers.{of_between}
+use Rattle.amqp_link_tables.proofs.Numbers.{of_between_at}
 use Rattle.amqp_link_tables.proofs.deliveries.DeliveryTable.numbers_between.Goals as goal
 
 pub returns-clause-numbers : goal.returns-clause-numbers
 returns-clause-numbers c =
     let ds = c.args.self.now.deliveries.entries in
     IfOk-weaker c.collect.result (λ numbers. numbers.items ≡ keys_of c.range.result) (λ numbers. numbers.items ≡ numbers_between c.args.first c.args.last ds)
-    (λ numbers e. e ∙ ap keys_of (c.range.ensures.between tt) ∙ of_between c.args.first c.args.last ds)
+    (λ numbers e. e ∙ ap keys_of (c.range.ensures.between c.new.ensures.exhausted) ∙ of_between_at _ _ c.args.first c.args.last ds c.new.ensures.start c.new.ensures.end)
     (search rules)
