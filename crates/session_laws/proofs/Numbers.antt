@@ -69,9 +69,9 @@ same_number n k h = same_key n k (sym (unsigned_tied n k) ∙ ap is_eq h)
 entry_of : (given : List LinkInput) (x : LeftDelivery) → IsAmong (input.Left x) given → x.delivery_id < 4294967296 → Entry given (x.delivery_id, record { link = x.handle; tag = x.delivery_tag })
 entry_of given x a s = record { delivery = x; among = a; is_handle = refl; is_number = refl; is_tag = refl; short = s }
 
-entered_keeps : {P : ℕ × Delivered → Type 0} → (number : ℕ) (v : Delivered) → ((k : ℕ) → number ≡ k → P (k, v)) → (ds : List (ℕ × Delivered)) → Each P ds → Each P (entered number v ds)
-entered_keeps number v p [] h = (p number refl, tt)
-entered_keeps {P} number v p (d ∷ ds) h = by (nat_cmp number d.0) refl (entered_keeps number v p ds h.1)
+entered_keeps : (P : ℕ × Delivered → Type 0) → (number : ℕ) (v : Delivered) → ((k : ℕ) → number ≡ k → P (k, v)) → (ds : List (ℕ × Delivered)) → Each P ds → Each P (entered number v ds)
+entered_keeps P number v p [] h = (p number refl, tt)
+entered_keeps P number v p (d ∷ ds) h = by (nat_cmp number d.0) refl (entered_keeps P number v p ds h.1)
   where
     by : (o : Ordering) → nat_cmp number d.0 ≡ o → Each P (entered number v ds) → Each P (match_ordering o ((number, v) ∷ d ∷ ds) ((d.0, v) ∷ ds) (d ∷ entered number v ds))
     by Less e r = (p number refl, h)
@@ -83,11 +83,11 @@ numbered_by : (c : Bool) (given : List LinkInput) (x : LeftDelivery) (ds : List 
 numbered_by true given x ds a s h = h
 numbered_by false given x ds a s h =
     let v : Delivered = record { link = x.handle; tag = x.delivery_tag } in
-    entered_keeps x.delivery_id v (λ k e. subst (λ (n : ℕ). Entry given (n, v)) e (entry_of given x a s)) ds h
+    entered_keeps (Entry given) x.delivery_id v (λ k e. subst (λ (n : ℕ). Entry given (n, v)) e (entry_of given x a s)) ds h
 
-forgotten_keeps : {P : ℕ × Delivered → Type 0} → (number : ℕ) (ds : List (ℕ × Delivered)) → Each P ds → Each P (forgotten number ds)
-forgotten_keeps number [] h = tt
-forgotten_keeps {P} number (d ∷ ds) h = by (nat_eq number d.0) (forgotten_keeps number ds h.1)
+forgotten_keeps : (P : ℕ × Delivered → Type 0) → (number : ℕ) (ds : List (ℕ × Delivered)) → Each P ds → Each P (forgotten number ds)
+forgotten_keeps P number [] h = tt
+forgotten_keeps P number (d ∷ ds) h = by (nat_eq number d.0) (forgotten_keeps P number ds h.1)
   where
     by : (c : Bool) → Each P (forgotten number ds) → Each P (cond c ds (d ∷ forgotten number ds))
     by true r = h.1
@@ -203,7 +203,7 @@ all_news given handle ds [] h a s = tt
 all_news given handle ds (leaves x ∷ xs) h a s = all_news given handle (numbered x ds) xs (numbered_by x.settled given x ds a.0 s.0 h) a.1 s.1
 all_news given handle ds (covers d ∷ xs) h a s =
     each_both (IsNews given handle) (news_by d.role handle ds d) (told handle ds xs) (by_role given handle ds d d.role refl a.0 s.0.0 s.0.1 h) (all_news given handle ds xs h a.1 s.1)
-all_news given handle ds (forgets n ∷ xs) h a s = all_news given handle (forgotten n ds) xs (forgotten_keeps n ds h) a s.1
+all_news given handle ds (forgets n ∷ xs) h a s = all_news given handle (forgotten n ds) xs (forgotten_keeps (Entry given) n ds h) a s.1
 
 pub first_news : (given : List LinkInput) (handle : ℕ) (steps : List Step) → AreAmong (inputs_of steps) given → AreShort steps → Each (IsNews given handle) (told handle [] steps)
 first_news given handle steps a s = all_news given handle [] steps tt a s
