@@ -75,10 +75,10 @@ pub record Passed {L : Type 0} (link : Ghosts L) (old : L) (h : List Local) (new
 -- order (part 2, section 2.5). Its frames are those of the bytes that it read and wrote, each of its replies has its cause before it, and the rest
 -- of what a connection promises. Its calls on the connection are these; what it told are these answers and then those that were not taken; those
 -- of its connection are the replies of the history. The bytes are those of its link.
-pub record Lived {L : Type 0} (link : Ghosts L) (first : L) (calls : List (ℕ × ConnectionCall)) (answers : List NamedReply) (e : End L) (l : Life) : Type 0 where
+pub record Lived {L : Type 0} (link : Ghosts L) (first : L) (made : List (ℕ × ConnectionCall)) (answers : List NamedReply) (e : End L) (l : Life) : Type 0 where
   pub serves : Serves e.connection (asked_by l.deeds) (heard_by l.deeds) (given_by l.deeds) l.h
   pub promises : KeepsPromises l.h
-  pub calls_are : made_in l.h ≡ calls
+  pub calls_are : made_in l.h ≡ made
   pub told_are : told_by l.deeds ≡ answers ++ e.replies.items
   pub replied : IsTold (told_by l.deeds) e.connection.replies l.h
   pub sessions_reply : AreOfSessions (seen e.sessions).replies
