@@ -30,8 +30,11 @@ call_before name call [] ds k = absurd k
 call_before name call (c ∷ cs) ds (inl e) = inl e
 call_before name call (c ∷ cs) ds (inr k) = inr (call_before name call cs ds k)
 
+call_is : (c : ℕ × Call) (name : ℕ) (call : Call) → c.0 ≡ name → c.1 ≡ call → c ≡ (name, call)
+call_is c name call e f = subst (λ (m : ℕ). c ≡ (m, call)) e (subst (λ (z : Call). c ≡ (c.0, z)) f refl)
+
 now_called : (name n : ℕ) (call : Call) (c : AnyCall) (rest : List (ℕ × Call)) → n ≡ name → c ≡ Connection call → HasCall name call (on_connection n c ++ rest)
-now_called name n call (Connection x) rest e f = let same : x ≡ call = cc in inl (ap (λ (m : ℕ). (m, x)) e ∙ ap (λ (z : Call). (name, z)) same)
+now_called name n call (Connection x) rest e f = let same : x ≡ call = cc in inl (call_is (n, x) name call e same)
 now_called name n call (Session x) rest e f = cc
 now_called name n call (Link x) rest e f = cc
 

@@ -2,7 +2,6 @@
 use Rattle.std.proofs.Common.{◌≡◌, ◌⊎◌, inl, inr, ℕ, Bool, List, [], ◌∷◌, ◌++◌, Option, Some, None, refl, sym, ap, ◌∙◌, subst, append_assoc}
 use Rattle.std.proofs.lemmas.List.{append-nil}
 use Rattle.amqp_composites.specs.declared.error.Error.{Error as AmqpError}
-use Rattle.amqp_performatives.specs.declared.close.Close.{Close as Closing}
 use Rattle.amqp_frames.specs.declared.body.FrameBody.{FrameBody}
 use Rattle.amqp_frames.specs.declared.body.FrameBody.TheVariants as b
 use Rattle.amqp_wire.specs.declared.link.Held.TheVariants.{Full}
@@ -10,6 +9,7 @@ use Rattle.amqp_wire.specs.Events.{LinkEvent, NotWritten, Includes, wrote_of}
 use Rattle.amqp_wire.proofs.Events.{includes_right, wrote_of-append}
 use Rattle.amqp_transport.specs.declared.frames.Frame.{Frame}
 use Rattle.amqp_engine.specs.Closers.{Closer, Nobody, This, Peer, closer_by}
+use Rattle.amqp_engine.specs.Phases.{kind_of, IsClose}
 use Rattle.amqp_engine.specs.Sentence.{bytes_of_all}
 use Rattle.amqp_engine.specs.State.{close_frame}
 use Rattle.amqp_opening.specs.Opening.{amqp_header}
@@ -60,23 +60,23 @@ closer_stays (Replied r ∷ es) h e = closer_stays es h e
 -- ---- the Close that was queued
 
 -- what was said ends with it
-pub record Closes (h : List Local) (channel : ℕ) (front later : List Frame) : Type 0 where
+pub record Closes (h : List Local) (front later : List Frame) : Type 0 where
   pub error : Option AmqpError
   pub plain : IsPlain (prepared_in (made_in h)) front
   pub is : sent_in h ≡ front ++ close_frame error ∷ []
   pub cause : CloseCause (made_in h) (given_in h) error
   pub none : later ≡ []
 
-said_closes : (h : List Local) (front : List Frame) (channel : ℕ) (last : Closing) (later : List Frame) → HasSaid h → front ++ record { channel = channel; body = b.Close last } ∷ later ≡ sent_in h → Closes h channel front later
-said_closes h front channel last later (inl e) s = absurd (some_left front _ later (s ∙ e))
-said_closes h front channel last later (inr (inl p)) s = absurd (none_closed front _ later (sent_in h) tt s (plain_unclosed (prepared_in (made_in h)) (sent_in h) p))
-said_closes h front channel last later (inr (inr x)) s =
-    let k = close_last front _ later x.0 (close_frame x.1) tt (plain_unclosed (prepared_in (made_in h)) x.0 x.2) (s ∙ x.3) in
+said_closes : (h : List Local) (front : List Frame) (x : Frame) (later : List Frame) → IsClose (kind_of x.body) → HasSaid h → front ++ x ∷ later ≡ sent_in h → Closes h front later
+said_closes h front x later c (inl e) s = absurd (some_left front x later (s ∙ e))
+said_closes h front x later c (inr (inl p)) s = absurd (none_closed front x later (sent_in h) c s (plain_unclosed (prepared_in (made_in h)) (sent_in h) p))
+said_closes h front x later c (inr (inr y)) s =
+    let k = close_last front x later y.0 (close_frame y.1) c (plain_unclosed (prepared_in (made_in h)) y.0 y.2) (s ∙ y.3) in
     record {
-      error = x.1;
-      plain = subst (λ (u : List Frame). IsPlain (prepared_in (made_in h)) u) (sym k.same_front) x.2;
-      is = x.3 ∙ ap (λ (u : List Frame). u ++ close_frame x.1 ∷ []) (sym k.same_front);
-      cause = x.4;
+      error = y.1;
+      plain = subst (λ (u : List Frame). IsPlain (prepared_in (made_in h)) u) (sym k.same_front) y.2;
+      is = y.3 ∙ ap (λ (u : List Frame). u ++ close_frame y.1 ∷ []) (sym k.same_front);
+      cause = y.4;
       none = k.none;
     }
 
@@ -143,7 +143,7 @@ closed_before later earlier r name closed k v a c =
     let y : Frame = record { channel = k.heard.channel; body = b.Close (record { error = None }) } in
     let sent : own.front ++ x ∷ sent_in later ≡ sent_in h = sym (sent_in-append later g ∙ ap (λ (u : List Frame). u ++ sent_in later) own.is ∙ append_assoc own.front (x ∷ []) (sent_in later)) in
     let given : given_in h ≡ k.heard.front ++ y ∷ given_in later = given_in-append later g ∙ ap (λ (u : List Frame). u ++ given_in later) k.heard.is ∙ append_assoc k.heard.front (y ∷ []) (given_in later) in
-    let s = said_closes h own.front own.channel own.last (sent_in later) v.says sent in
+    let s = said_closes h own.front x (sent_in later) tt v.says sent in
     let to = read_to h v.frames (λ n. some_left k.heard.front y (given_in later) (sym given ∙ n)) in
     let same : sent_in h ≡ sent_in g = sent_in-append later g ∙ ap (λ (u : List Frame). sent_in g ++ u) s.none ∙ append-nil (sent_in g) in
     let replies : AreReplies (made_in h) ((replied_in earlier ++ r ∷ []) ++ replied_in later) = subst (λ (u : List NamedReply). AreReplies (made_in h) u) (replied_in-append later g) v.replies in
