@@ -1,0 +1,39 @@
+-- What a receiver writes as a call gives a delivery a state (OASIS AMQP 1.0, part 2, sections 2.6.12 and 2.7.6).
+use Rattle.std.specs.Prelude.{◌≡◌, ◌⊎◌, ℕ, Bool, List, [], ◌∷◌, ◌++◌, Some, None}
+use Rattle.amqp_composites.specs.declared.modes.Role.TheVariants as role
+use Rattle.amqp_termini.specs.declared.state.DeliveryState.{DeliveryState}
+use Rattle.amqp_frames.specs.declared.body.FrameBody.{FrameBody}
+use Rattle.amqp_frames.specs.declared.body.FrameBody.TheVariants as b
+use Rattle.amqp_delivery.specs.Book.{found_in, view_of, mode_for, is_first}
+use Rattle.amqp_delivery.specs.declared.info.DeliveryInfo.{DeliveryInfo}
+use Rattle.amqp_link.specs.declared.error.IllegalLinkStateError.{IllegalLinkStateError}
+use Rattle.amqp_link.specs.Link as link
+use Rattle.amqp_receiver.specs.Disposing.{disposed}
+use Rattle.amqp_receiver.specs.Receiver.{State, Made}
+
+-- the call is refused, since the link is not attached or its session has stopped
+pub record IsRefused (s : State) (m : Made) : Type 0 where
+  pub error : IllegalLinkStateError
+  pub why : link.disposal_refusal s.link ≡ Some error
+  pub answer : m.answer ≡ Some error
+  pub same : m.state ≡ s
+
+-- the Disposition of one delivery
+abbrev pub disposition_of : Bool → DeliveryInfo → DeliveryState → FrameBody
+disposition_of settled info state =
+    b.Disposition (record { role = role.Receiver; first = info.delivery_id; last = None; settled = settled; state = Some state; batchable = false })
+
+-- a Disposition with the number of the delivery and that state is written, settled in mode First
+pub record IsTold (info : DeliveryInfo) (state : DeliveryState) (s : State) (m : Made) : Type 0 where
+  pub before : List FrameBody
+  pub more : List FrameBody
+  pub wrote : m.state.link.output
+      ≡ s.link.output ++ (before ++ disposition_of (is_first (mode_for (view_of s.book s.link.own.handle) info)) info state ∷ more)
+
+-- one of both, or no delivery of that tag is unsettled
+abbrev pub IsDisposed : DeliveryInfo → DeliveryState → State → Made → Type 0
+IsDisposed info state s m = IsRefused s m ⊎ ((found_in s.book info.delivery_tag ≡ None) ⊎ IsTold info state s m)
+
+-- whatever delivery a receiver is asked to give whatever state
+abbrev pub TellsWhatIsDisposed : Type 0
+TellsWhatIsDisposed = (info : DeliveryInfo) (state : DeliveryState) (s : State) → IsDisposed info state s (disposed (info ∷ []) state s)

@@ -1,0 +1,4 @@
+pub mod Ended
+pub mod Carried
+pub mod Disposed
+pub mod Laws
