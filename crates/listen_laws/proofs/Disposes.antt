@@ -22,7 +22,7 @@ use Rattle.amqp_link.specs.Link as link
 use Rattle.amqp_link.specs.Link.{Link}
 use Rattle.amqp_receiver.specs.Disposing.{last_of, frame_for, writing, written, is_refill, undrained, disposing_in_book, disposing, disposing_unless}
 use Rattle.amqp_receiver.specs.Receiver.{State}
-use Rattle.listen_laws.specs.Disposed.{disposition_of, IsTold, IsDisposed, TellsWhatIsDisposed}
+use Rattle.listen_laws.specs.Disposed.{disposition_of, is_settled, IsTold, IsDisposed, TellsWhatIsDisposed}
 
 -- what the book orders stands in order behind what was to be written
 writing_output : (os : List Order) (l : Link) → (writing os l).output ≡ l.output ++ map (frame_for l.own.handle) os
@@ -100,7 +100,7 @@ told_by None info state s e = inl e
 told_by (Some k) info state s e =
     let handle = s.link.own.handle in
     let view = view_of s.book handle in
-    let settled = is_first (mode_for view info) in
+    let settled = is_settled info s in
     let one = Disposition info.delivery_id info.delivery_id settled state in
     let found = found_orders k view info state s.book in
     let out = out_by (found_in s.book info.delivery_tag) view info state s.book in

@@ -16,4 +16,5 @@ pub mod Sessions
 pub mod Ends
 pub mod Wholes
 pub mod Disposes
+pub mod Wholly
 pub mod Runs

@@ -134,6 +134,10 @@ takes x payload s =
     known (Takes x s) x.aborted (aborted_at s.buffer x s) (if x.resume && not (belongs s.buffer x) then goes s else taken_whole x payload s) (λ h. aborted_takes s.buffer x s)
     (λ h. either (Takes x s) (x.resume && not (belongs s.buffer x)) (goes s) (taken_whole x payload s) (silent x s (goes s) refl refl) (whole_takes x payload s h))
 
+-- those that wait stay as they are
+pub waiting_same : (x : Transfer) (payload : List ℕ) (s : State) → (taken x payload s).state.incoming ≡ s.incoming
+waiting_same x payload s = (takes x payload s).incoming
+
 -- ---- those that wait
 
 -- of those that wait so many are left, and a delivery that is answered was the end of one

@@ -26,7 +26,7 @@ use Rattle.amqp_session.specs.Begin.{mapped}
 use Rattle.amqp_session.specs.Ends.{stopping, stopped, own_reason, remote_reason, ending, failing, ended, answered, end_asked, attach_refused}
 use Rattle.amqp_session.specs.Faults.{error_for}
 use Rattle.amqp_session.specs.Frames.{heard, heard_in, heard_unanswered, heard_mapped, heard_ending, told_in}
-use Rattle.amqp_session.specs.Hold.{left_of, leaving, first_leaving, releasing, released, reporting}
+use Rattle.amqp_session.specs.Hold.{delivery_left, left_of, leaving, first_leaving, releasing, released, reporting}
 use Rattle.amqp_session.specs.Links.{input_at, attach_at, attach_read, detach_at, report, transfer_at, hand_flow, echo, is_astray, flow_at}
 use Rattle.amqp_session.specs.State.{State, Framed, handing}
 use Rattle.amqp_session.specs.State.{refuses as refused_with}
@@ -53,7 +53,7 @@ same_if false s t u p q = q
 
 left_none : (o : Option (List ℕ)) (n : ℕ) (x : Transfer) → of_inputs (left_of o n x) ≡ 0
 left_none None n x = total_nil of_input
-left_none (Some tag) n x = omega (arith, total_cons of_input (input.Left _) [], total_nil of_input)
+left_none (Some tag) n x = omega (arith, total_cons of_input (input.Left (delivery_left tag n x)) [], total_nil of_input)
 
 leaving_same : (x : Part) (xs : List Part) (s : State) → Same s (leaving x (record s { held = xs }))
 leaving_same x xs s =

@@ -134,6 +134,9 @@ disposition_stays : (covered : CoveredDelivery) (settled : Bool) (s : State) →
 disposition_stays covered true s = forgotten_stays (Some covered.delivery_tag) s
 disposition_stays covered false s = stays_still s
 
+pub unexpected_stays : (s : State) → Stays s (record s { link = link.unexpected s.link })
+unexpected_stays s = moves s _ (fixed _ _ (unexpected_moves s.link.phase s.link))
+
 -- a move that neither receives nor reads a Transfer
 abbrev pub IsBeside : Move → Type 0
 IsBeside (receives spells) = ⊥

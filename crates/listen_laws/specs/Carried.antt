@@ -1,5 +1,6 @@
 -- The deliveries that frames carry whole (OASIS AMQP 1.0, part 2, sections 2.6.14 and 2.7.5).
-use Rattle.std.specs.Prelude.{◌≡◌, ℕ, nat_eq, Bool, true, false, not, ◌&&◌, filter, List, [], ◌∷◌, ◌++◌, Option, Some, None, if◌then◌else◌}
+use Rattle.std.specs.Prelude.{◌≡◌, ℕ, nat_eq, Bool, true, false, not, ◌&&◌, if◌then◌else◌}
+use Rattle.std.specs.Prelude.{filter, List, [], ◌∷◌, ◌++◌, Option, Some, None}
 use Rattle.amqp_performatives.specs.declared.transfer.Transfer.{Transfer}
 use Rattle.amqp_frames.specs.declared.body.FrameBody.{FrameBody}
 use Rattle.amqp_frames.specs.declared.body.FrameBody.TheVariants as b
@@ -42,7 +43,8 @@ abbrev pub whole_in : ℕ → Transfer → List ℕ → List Delivery → List D
 whole_in channel x payload begun = if not x.more && not x.aborted then come channel x payload begun else []
 
 abbrev pub begun_in : ℕ → Transfer → List ℕ → List Delivery → List Delivery
-begun_in channel x payload begun = (if x.more && not x.aborted then come channel x payload begun else []) ++ without channel x.handle begun
+begun_in channel x payload begun =
+    (if x.more && not x.aborted then come channel x payload begun else []) ++ without channel x.handle begun
 
 abbrev pub whole_by : ℕ → FrameBody → List Delivery → List Delivery
 whole_by channel (b.Transfer x payload) begun = whole_in channel x payload begun

@@ -1,5 +1,5 @@
 -- What a receiver writes as a call gives a delivery a state (OASIS AMQP 1.0, part 2, sections 2.6.12 and 2.7.6).
-use Rattle.std.specs.Prelude.{◌≡◌, ◌⊎◌, ℕ, Bool, List, [], ◌∷◌, ◌++◌, Some, None}
+use Rattle.std.specs.Prelude.{◌≡◌, ◌⊎◌, ℕ, Bool, false, List, [], ◌∷◌, ◌++◌, Some, None}
 use Rattle.amqp_composites.specs.declared.modes.Role.TheVariants as role
 use Rattle.amqp_termini.specs.declared.state.DeliveryState.{DeliveryState}
 use Rattle.amqp_frames.specs.declared.body.FrameBody.{FrameBody}
@@ -21,14 +21,24 @@ pub record IsRefused (s : State) (m : Made) : Type 0 where
 -- the Disposition of one delivery
 abbrev pub disposition_of : Bool → DeliveryInfo → DeliveryState → FrameBody
 disposition_of settled info state =
-    b.Disposition (record { role = role.Receiver; first = info.delivery_id; last = None; settled = settled; state = Some state; batchable = false })
+    b.Disposition (record {
+      role = role.Receiver;
+      first = info.delivery_id;
+      last = None;
+      settled = settled;
+      state = Some state;
+      batchable = false;
+    })
+
+-- a delivery is settled as it is given a state in mode First (section 2.8.3)
+abbrev pub is_settled : DeliveryInfo → State → Bool
+is_settled info s = is_first (mode_for (view_of s.book s.link.own.handle) info)
 
 -- a Disposition with the number of the delivery and that state is written, settled in mode First
 pub record IsTold (info : DeliveryInfo) (state : DeliveryState) (s : State) (m : Made) : Type 0 where
   pub before : List FrameBody
   pub more : List FrameBody
-  pub wrote : m.state.link.output
-      ≡ s.link.output ++ (before ++ disposition_of (is_first (mode_for (view_of s.book s.link.own.handle) info)) info state ∷ more)
+  pub wrote : m.state.link.output ≡ s.link.output ++ (before ++ disposition_of (is_settled info s) info state ∷ more)
 
 -- one of both, or no delivery of that tag is unsettled
 abbrev pub IsDisposed : DeliveryInfo → DeliveryState → State → Made → Type 0
@@ -36,4 +46,5 @@ IsDisposed info state s m = IsRefused s m ⊎ ((found_in s.book info.delivery_ta
 
 -- whatever delivery a receiver is asked to give whatever state
 abbrev pub TellsWhatIsDisposed : Type 0
-TellsWhatIsDisposed = (info : DeliveryInfo) (state : DeliveryState) (s : State) → IsDisposed info state s (disposed (info ∷ []) state s)
+TellsWhatIsDisposed =
+    (info : DeliveryInfo) (state : DeliveryState) (s : State) → IsDisposed info state s (disposed (info ∷ []) state s)

@@ -19,7 +19,8 @@ pub record IsIdle {L : Type 0} (e : End L) : Type 0 where
   pub replies : e.replies.items ≡ []
 
 -- what an end did in a turn, the newest first
-abbrev pub deeds_of : {L : Type 0} (link : Ghosts L) (old : End L) (t : Turn) (new : End L) → IsTurn link old t new → List Deed
+abbrev pub deeds_of : {L : Type 0} (link : Ghosts L) (old : End L) (t : Turn) (new : End L) → IsTurn link old t new
+    → List Deed
 deeds_of link old (calls name call) new k = k.2.deeds
 deeds_of link old polls new k = k.1.deeds
 deeds_of link old waits new k = []
@@ -27,7 +28,8 @@ deeds_of link old (tells rs) new k = []
 deeds_of link old (forgets name) new k = []
 
 -- in turns
-unfoldable pub deeds_in : {L : Type 0} (link : Ghosts L) (old : End L) (ts : List Turn) (new : End L) → Ran link old ts new → List Deed
+unfoldable pub deeds_in : {L : Type 0} (link : Ghosts L) (old : End L) (ts : List Turn) (new : End L)
+    → Ran link old ts new → List Deed
 unfolding Ran
 deeds_in link old [] new k = []
 deeds_in link old (t ∷ ts) new k = deeds_of link k.0 t new k.2 ++ deeds_in link old ts k.0 k.1
@@ -44,7 +46,7 @@ ServedCame {L} link =
     (old new : End L) (count : ℕ) (served : WasServed link old new count) → IsIdle old
     → count ≤ ended_in (heard_by (deeds_in link old served.turns new served.ran))
 
--- where no Transfer that they heard resumes a delivery, no more messages were counted than deliveries were carried whole
+-- where no Transfer that they heard resumes a delivery, no more messages were counted than were carried whole
 abbrev pub ServedWhole : {L : Type 0} → Ghosts L → Type 0
 ServedWhole {L} link =
     (old new : End L) (count : ℕ) (served : WasServed link old new count) → IsIdle old

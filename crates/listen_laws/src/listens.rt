@@ -1,5 +1,7 @@
 //! Which frames the messages of an end came in.
-ghost use Rattle.listen_laws.specs.Laws.{MessagesCame, ServedCame};
+ghost use Rattle.listen_laws.specs.Disposed.{TellsWhatIsDisposed};
+ghost use Rattle.listen_laws.specs.Laws.{MessagesCame, ServedCame, ServedWhole};
+ghost use Rattle.listen_laws.specs.Received.{AnswersWhatIsWhole};
 
 use amqp_wire::link::Link;
 
@@ -13,4 +15,24 @@ pub fn messages_came<L: Link>()
 /// So it is with an end that was served: it has counted no more messages than that.
 pub fn served_came<L: Link>()
     ensures { ServedCame L.Link }
+{}
+
+/// And no more than the deliveries that those Transfers carry whole, per channel and handle, where none of them resumes one.
+pub fn served_whole<L: Link>()
+    ensures { ServedWhole L.Link }
+{}
+
+/// Whatever a receiver goes through from a moment at which both ends have attached the link and nothing waits, and however
+/// its peer has cut the deliveries: its answers are those of the first deliveries that the parts which it reads carry
+/// whole, in order, each with its bytes. The premises: no part resumes a delivery, and no answer is an error but that
+/// there was no credit.
+pub fn answers_what_is_whole()
+    ensures { AnswersWhatIsWhole }
+{}
+
+/// A receiver that is asked to give one delivery a state: the call is refused, since the link is not attached or its
+/// session has stopped; or no delivery of that tag is unsettled; or the receiver writes a Disposition with the number of
+/// that delivery alone and that state, which is settled in mode First.
+pub fn tells_what_is_disposed()
+    ensures { TellsWhatIsDisposed }
 {}
