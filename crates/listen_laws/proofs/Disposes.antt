@@ -1,5 +1,5 @@
 -- A delivery that is unsettled and is given a state is told so.
-use Rattle.std.specs.Prelude.{◌≡◌, ◌⊎◌, ◌==◌, ◌/◌, nat_le, nat_eq, ℕ, Bool, true, false, map, List, [], ◌∷◌, ◌++◌, Option, Some, None, if◌then◌else◌, refl}
+use Rattle.std.specs.Prelude.{◌≡◌, ◌⊎◌, ◌==◌, ◌/◌, nat_le, nat_eq, min, ◌+◌, ℕ, Bool, true, false, map, List, [], ◌∷◌, ◌++◌, Option, Some, None, if◌then◌else◌, refl}
 use Rattle.std.proofs.Common.{sym, ◌∙◌, ap, subst, inl, inr, append_assoc, eq-eqb}
 use Rattle.std.proofs.lemmas.List.{append-nil, map-append}
 use Rattle.amqp_composites.specs.declared.modes.ReceiverSettleMode.{ReceiverSettleMode}
@@ -80,7 +80,7 @@ found_orders k view info state b =
     let one = Disposition info.delivery_id info.delivery_id (is_first mode) state in
     let first = processed_one (changed_at mode k b info.delivery_tag state) in
     let next = closed (Some (new_run mode info.delivery_id)) state first in
-    let r = refill_orders view.credit_mode next view.attachment _ in
+    let r = refill_orders view.credit_mode next view.attachment (min (0 + 1) 4294967295) in
     (r.more, r.orders ∙ (ap (λ (os : List Order). (os ++ one ∷ []) ++ r.more) (changed_orders mode k b info.delivery_tag state) ∙ append_assoc b.orders (one ∷ []) r.more))
 
 -- the frames that a receiver writes

@@ -6,9 +6,13 @@ use Rattle.amqp_words.specs.declared.reply.NamedReply.{NamedReply as ConnectionR
 use Rattle.amqp_link_words.specs.declared.link_reply.NamedLinkReply.{NamedLinkReply}
 use Rattle.amqp_calls.specs.declared.reply.NamedReply.{NamedReply}
 use Rattle.amqp_links.specs.State.{State as Links}
+use Rattle.amqp_links.specs.Inputs.{input_read}
+use Rattle.amqp_links.specs.Timing.{at_moment, looked}
 use Rattle.amqp_peer.specs.Peering.{Peering}
 use Rattle.amqp_session.specs.declared.session.LinkInput.{LinkInput}
 use Rattle.amqp_sessions.specs.State.{State}
+use Rattle.amqp_sessions.specs.Calls.{accepted}
+use Rattle.amqp_sessions.specs.Frames.{heard, written, refusing}
 use Rattle.amqp_transport.specs.declared.frames.Frame.{Frame}
 use Rattle.amqp_end.specs.Answers.{of_connection, of_link, together, AreOrdered, answers_to, answers_to_others, with_first}
 use Rattle.amqp_end.specs.Deeds.{Deed, Makes, Polls, Goes, Moves, Hears, Writes, Seats, Lacks, Frees, Accepts, Asks, LinksHear, LinksWrite, LinksLack, LinksKnow, LinksLook, Tells, TellsFirst, framed_of, IsDeed, Did, heard_of, heard_by, told_of, told_by}
@@ -49,7 +53,8 @@ split_weight p (x ∷ xs) = by (p x) (split_weight p xs)
 
 first_weight : (name : ℕ) (answers : List NamedReply) → total of_answer (with_first name answers) ≡ total of_answer answers
 first_weight name answers =
-    omega (arith, total_append of_answer (answers_to name answers) (answers_to_others name answers), split_weight (λ (r : NamedReply). r.name == name) answers)
+    let both : total of_answer (answers_to name answers) + total of_answer (answers_to_others name answers) ≡ total of_answer answers = split_weight (λ (r : NamedReply). r.name == name) answers in
+    omega (arith, total_append of_answer (answers_to name answers) (answers_to_others name answers), both)
 
 -- ---- one deed
 
@@ -90,6 +95,16 @@ session_is s t s' p h = let e : of_sessions s' ≡ of_sessions t = ap of_session
 links_are : (l t l' : Links) → of_links t ≤ of_links l → l' ≡ t → of_links l' ≤ of_links l
 links_are l t l' p h = let e : of_links l' ≡ of_links t = ap of_links h in omega (arith, p, e)
 
+-- what is to be written, or a channel that is free, was taken off
+but_output : (a b : State) → b ≡ record a { output = b.output } → of_sessions b ≤ of_sessions a
+but_output a b h = let e : of_sessions b ≡ of_sessions a = ap of_sessions h in omega (arith, e)
+
+but_freed : (a b : State) → b ≡ record a { freed = b.freed } → of_sessions b ≤ of_sessions a
+but_freed a b h = let e : of_sessions b ≡ of_sessions a = ap of_sessions h in omega (arith, e)
+
+links_but : (a b : Links) → b ≡ record a { output = b.output } → of_links b ≤ of_links a
+links_but a b h = let e : of_links b ≡ of_links a = ap of_links h in omega (arith, e)
+
 move_falls : (m : Move) (s : State) → of_sessions (on m s) ≤ of_sessions s
 move_falls (Begun name x channel limit) s = begun_falls name x channel limit s
 move_falls (Awaiting name x) s = awaiting_falls name x s
@@ -112,36 +127,23 @@ deed_falls link at (Polls events) p p' s s' l l' x = quiet s s' l l' (session_sa
 deed_falls link at (Goes events) p p' s s' l l' x = quiet s s' l l' (session_same s s' x.1) (links_same l l' x.2)
 deed_falls link at (Moves m) p p' s s' l l' x = quiet s s' l l' (session_is s (on m s) s' (move_falls m s) x.1) (links_same l l' x.2)
 deed_falls link at (Hears f) p p' s s' l l' x =
-    let a : of_sessions s' ≡ of_sessions _ = ap of_sessions x.2 in
+    let a : of_sessions s' ≡ of_sessions (heard (framed_of f) s) = ap of_sessions x.2 in
     omega (arith, a, hears_grows (framed_of f) s, links_same l l' x.3, one_ended f, total_nil of_answer)
-deed_falls link at (Writes f events) p p' s s' l l' x = quiet s s' l l' (session_same_but s s' x.0.takes.1) (links_same l l' x.1)
-  where
-    session_same_but : (a b : State) → b ≡ record a { output = b.output } → of_sessions b ≤ of_sessions a
-    session_same_but a b h = let e : of_sessions b ≡ of_sessions a = ap of_sessions h in omega (arith, e)
+deed_falls link at (Writes f events) p p' s s' l l' x = quiet s s' l l' (but_output s s' x.0.takes.1) (links_same l l' x.1)
 deed_falls link at (Seats channel) p p' s s' l l' x = quiet s s' l l' (session_same s s' x.2) (links_same l l' x.3)
 deed_falls link at (Lacks e) p p' s s' l l' x = quiet s s' l l' (session_same s s' x.2) (links_same l l' x.3)
-deed_falls link at (Frees channel) p p' s s' l l' x = quiet s s' l l' (session_same_but s s' x.0.1) (links_same l l' x.2)
-  where
-    session_same_but : (a b : State) → b ≡ record a { freed = b.freed } → of_sessions b ≤ of_sessions a
-    session_same_but a b h = let e : of_sessions b ≡ of_sessions a = ap of_sessions h in omega (arith, e)
-deed_falls link at (Accepts name n channel limit incoming) p p' s s' l l' x = quiet s s' l l' (session_is s _ s' (accepted_falls name n channel limit incoming s) x.2) (links_same l l' x.3)
+deed_falls link at (Frees channel) p p' s s' l l' x = quiet s s' l l' (but_freed s s' x.0.1) (links_same l l' x.2)
+deed_falls link at (Accepts name n channel limit incoming) p p' s s' l l' x = quiet s s' l l' (session_is s (accepted name n channel limit incoming s) s' (accepted_falls name n channel limit incoming s) x.2) (links_same l l' x.3)
 deed_falls link at (Asks name call) p p' s s' l l' x = quiet s s' l l' (session_same s s' x.1) (calls_fall name call (limit_for call s) l l' x.2)
 deed_falls link at (LinksHear session y) p p' s s' l l' x =
-    let w = value_weight of_input in
     let a : of_sessions s' ≡ of_sessions (record s { incoming = s'.incoming }) = ap of_sessions x.1.1 in
-    let b : weigh of_input s.incoming ≡ of_input y + weigh of_input s'.incoming = ap (total w) x.1.0 ∙ total_cons w (session, y) s'.incoming in
-    let c : of_links l' ≡ of_links _ = ap of_links x.2 in
+    let b : weigh of_input s.incoming ≡ of_input y + weigh of_input s'.incoming = ap (weigh of_input) x.1.0 ∙ total_cons (value_weight of_input) (session, y) s'.incoming in
+    let c : of_links l' ≡ of_links (input_read session y l) = ap of_links x.2 in
     omega (arith, a, b, c, hears_grow session y l, none_ended, total_nil of_answer)
-deed_falls link at (LinksWrite session y) p p' s s' l l' x = quiet s s' l l' (session_is s _ s' (written_falls session y s) x.1) (links_same_but l l' x.2.1)
-  where
-    links_same_but : (a b : Links) → b ≡ record a { output = b.output } → of_links b ≤ of_links a
-    links_same_but a b h = let e : of_links b ≡ of_links a = ap of_links h in omega (arith, e)
-deed_falls link at (LinksLack session) p p' s s' l l' x = quiet s s' l l' (session_is s _ s' (refusing_falls session s) x.1) (links_same_but l l' x.2.1)
-  where
-    links_same_but : (a b : Links) → b ≡ record a { output = b.output } → of_links b ≤ of_links a
-    links_same_but a b h = let e : of_links b ≡ of_links a = ap of_links h in omega (arith, e)
-deed_falls link at LinksKnow p p' s s' l l' x = quiet s s' l l' (session_same s s' x.1) (links_are l _ l' (omega arith) x.2)
-deed_falls link at LinksLook p p' s s' l l' x = quiet s s' l l' (session_same s s' x.1) (links_are l _ l' (looked_falls l) x.2)
+deed_falls link at (LinksWrite session y) p p' s s' l l' x = quiet s s' l l' (session_is s (written session y s) s' (written_falls session y s) x.1) (links_but l l' x.2.1)
+deed_falls link at (LinksLack session) p p' s s' l l' x = quiet s s' l l' (session_is s (refusing session s) s' (refusing_falls session s) x.1) (links_but l l' x.2.1)
+deed_falls link at LinksKnow p p' s s' l l' x = quiet s s' l l' (session_same s s' x.1) (links_are l (at_moment at l) l' (omega arith) x.2)
+deed_falls link at LinksLook p p' s s' l l' x = quiet s s' l l' (session_same s s' x.1) (links_are l (looked l) l' (looked_falls l) x.2)
 deed_falls link at (Tells answers) p p' s s' l l' x = told_weight s s' l l' answers x.1 x.2 (ordered_weight s.replies p.replies l.replies answers x.3)
 deed_falls link at (TellsFirst name answers) p p' s s' l l' x =
     told_weight s s' l l' (with_first name answers) x.1 x.2 (first_weight name answers ∙ ordered_weight s.replies p.replies l.replies answers x.3)

@@ -17,4 +17,5 @@ pub mod Ends
 pub mod Wholes
 pub mod Disposes
 pub mod Wholly
+pub mod Accepts
 pub mod Runs

@@ -150,10 +150,10 @@ started_takes : (o : Option PartError) (state : Option DeliveryState) (credit : 
     → s.buffer ≡ None → Takes credit None p s (started_unless o state y p.payload s)
 started_takes (Some part.DeliveryTagIsNone) state credit p y s a m r n f = absurd f.0
 started_takes (Some other) state credit p y s a m r n f = absurd f.0
-started_takes None state credit p y s a m r n =
+started_takes None state credit p y s a m r n f =
     let e : bytes_with None p.transfer.resume p.payload ≡ Some (all_bytes (p.payload ∷ [])) = ap (λ (c : Bool). bytes_with None c p.payload) r ∙ ap (λ xs. Some xs) (sym (one_part p.payload)) in
     let k = kept_then s (entered y s) (stated state y (entered y s)) (entered_kept y s) (stated_kept state y (entered y s)) in
-    buffered_takes credit None p (parts.begun y p.payload) s (stated state y (entered y s)) a m e (k.buffer ∙ n) k.link
+    buffered_takes credit None p (parts.begun y p.payload) s (stated state y (entered y s)) a m e (k.buffer ∙ n) k.link f
 
 continued_takes : (b : parts.Incomplete) (state : Option DeliveryState) (credit : ℕ) (p : Part) (y : Transfer) (s : State) → p.transfer.aborted ≡ false → y.more ≡ p.transfer.more
     → Takes credit (Some (all_bytes b.payloads)) p s (continued b state y p.payload s)
@@ -175,28 +175,26 @@ whole_takes : (credit : ℕ) (p : Part) (s : State) → p.transfer.aborted ≡ f
 whole_takes credit p s a r =
     let x = p.transfer in
     let n = size_of x p.payload s in
-    let P = Takes credit (begun_of s.buffer) p s in
-    known P (is_stray_state x s) (closes error.DeliveryTagIsNone s) (if is_too_large n s.link.max_message_size then too_large n s else joined x p.payload s) (λ h f. absurd f.0)
-    (λ h. known P (is_too_large n s.link.max_message_size) (too_large n s) (joined x p.payload s) (λ g f. absurd f.0)
+    known (Takes credit (begun_of s.buffer) p s) (is_stray_state x s) (closes error.DeliveryTagIsNone s) (if is_too_large n s.link.max_message_size then too_large n s else joined x p.payload s) (λ h f. absurd f.0)
+    (λ h. known (Takes credit (begun_of s.buffer) p s) (is_too_large n s.link.max_message_size) (too_large n s) (joined x p.payload s) (λ g f. absurd f.0)
     (λ g. joined_takes s.buffer x.state credit p (without_state x) s refl a refl r))
 
 aborted_takes : (o : Option parts.Incomplete) (credit : ℕ) (begun : Option (List ℕ)) (p : Part) (s : State) → s.buffer ≡ o → (whole_of begun p ≡ []) × (begun_behind begun p ≡ None) → Takes credit begun p s (aborted_at o p.transfer s)
 aborted_takes None credit begun p s at w f = (w.0, w.1 ∙ sym (ap begun_of at), refl)
-aborted_takes (Some b) credit begun p s at w =
+aborted_takes (Some b) credit begun p s at w g =
     let t : State = record s { buffer = None } in
     let k = forgotten_kept b.transfer.delivery_tag t in
     known (Takes credit begun p s) (parts.is_same_delivery b.transfer p.transfer) (goes (forgotten b.transfer.delivery_tag t)) (closes error.InconsistentFieldInMultiFrameDelivery s)
-    (λ h f. (w.0, w.1 ∙ sym (ap begun_of k.buffer), k.link)) (λ h f. absurd f.0)
+    (λ h f. (w.0, w.1 ∙ sym (ap begun_of k.buffer), k.link)) (λ h f. absurd f.0) g
 
 takes : (credit : ℕ) (p : Part) (s : State) → p.transfer.resume ≡ false → Takes credit (begun_of s.buffer) p s (taken p.transfer p.payload s)
 unfolding taken
 takes credit p s r =
     let x = p.transfer in
     let begun = begun_of s.buffer in
-    let P = Takes credit begun p s in
-    known P x.aborted (aborted_at s.buffer x s) (if x.resume && not (belongs s.buffer x) then goes s else taken_whole x p.payload s)
+    known (Takes credit begun p s) x.aborted (aborted_at s.buffer x s) (if x.resume && not (belongs s.buffer x) then goes s else taken_whole x p.payload s)
     (λ a. aborted_takes s.buffer credit begun p s refl (aborted_whole begun p a))
-    (λ a. known P (x.resume && not (belongs s.buffer x)) (goes s) (taken_whole x p.payload s)
+    (λ a. known (Takes credit begun p s) (x.resume && not (belongs s.buffer x)) (goes s) (taken_whole x p.payload s)
     (λ h f. let g : false ≡ true = sym (ap (λ (c : Bool). c && not (belongs s.buffer x)) r) ∙ h in absurd cc) (λ h. whole_takes credit p s a r))
 
 -- ---- one call
@@ -231,12 +229,12 @@ split : (begun : Option (List ℕ)) (p : Part) (ps : List Part) (o : Option part
 split begun p ps o ws w e = wholes_cons begun p ps ∙ (ap (λ xs. xs ++ wholes (begun_behind begun p) ps) w ∙ ap (λ (x : Option (List ℕ)). ws ++ wholes x ps) e)
 
 -- how a call goes on behind a part
-Goes : ℕ → State → State → List (List ℕ) → List Part → Step → Type 0
-Goes credit s u ws rest step = AreFine (answer_in credit step.answer) → Recv s step.state ws rest (answer_in credit step.answer)
+Goes : ℕ → State → List (List ℕ) → List Part → Step → Type 0
+Goes credit s ws rest step = AreFine (answer_in credit step.answer) → Recv s step.state ws rest (answer_in credit step.answer)
 
 recv_next : (credit : ℕ) (p : Part) (xs : List Incoming) (s v t : State) (ws : List (List ℕ)) (rest : List Part) (go : State → Step) (a : Option (Result Got RecvError)) → v.link ≡ s.link → t.incoming ≡ xs
     → ws ≡ wholes (begun_of v.buffer) (p ∷ (parts_in xs ++ rest)) → AreNew (parts_in xs) → (AreFine (answer_in credit a) → Comes (begun_of v.buffer) p v t a)
-    → (t.link ≡ s.link → ws ≡ wholes (begun_of t.buffer) (parts_in xs ++ rest) → Goes credit s t ws rest (go t)) → Goes credit s v ws rest (next a t go)
+    → (t.link ≡ s.link → ws ≡ wholes (begun_of t.buffer) (parts_in xs ++ rest) → Goes credit s ws rest (go t)) → Goes credit s ws rest (next a t go)
 unfolding Goes
 recv_next credit p xs s v t ws rest go None l i w n c g f =
     let k = c tt in g (k.2 ∙ l) (w ∙ split (begun_of v.buffer) p (parts_in xs ++ rest) t.buffer [] k.0 k.1) f
@@ -271,21 +269,24 @@ none_answered s t ws rest l w n = record { link = l; first = []; others = ws; al
 
 -- nothing waits: it is said that the link gives no more, or nothing
 ended_goes : (o : Option LinkStateError) (credit : ℕ) (s t : State) (ws : List (List ℕ)) (rest : List Part) → t.link ≡ s.link → ws ≡ wholes (begun_of t.buffer) (parts_in t.incoming ++ rest) → AreNew (parts_in t.incoming)
-    → Goes credit s t ws rest (ended_as o t)
+    → Goes credit s ws rest (ended_as o t)
 unfolding Goes
 ended_goes None credit s t ws rest l w n f = none_answered s t ws rest l w n
 ended_goes (Some e) credit s t ws rest l w n f = none_answered s t ws rest l w n
 
 -- what waits is taken in order, and then it is asked whether more can come
-abbrev all_received : List Incoming → State → Step
-all_received xs u = let t = receiving xs u in next t.answer t.state ended
+abbrev then_ended : Step → Step
+then_ended r = next r.answer r.state ended
 
-next_next : (a : Option (Result Got RecvError)) (t : State) (go : State → Step) → (let r = next a t go in next r.answer r.state ended) ≡ next a t (λ u. let r = go u in next r.answer r.state ended)
+abbrev all_received : List Incoming → State → Step
+all_received xs u = then_ended (receiving xs u)
+
+next_next : (a : Option (Result Got RecvError)) (t : State) (go : State → Step) → then_ended (next a t go) ≡ next a t (λ u. then_ended (go u))
 next_next None t go = refl
 next_next (Some a) t go = refl
 
 all_goes : (xs : List Incoming) (credit : ℕ) (s u : State) (ws : List (List ℕ)) (rest : List Part) → u.incoming ≡ xs → u.link ≡ s.link → AreNew (parts_in xs) → ws ≡ wholes (begun_of u.buffer) (parts_in xs ++ rest)
-    → Goes credit s u ws rest (all_received xs u)
+    → Goes credit s ws rest (all_received xs u)
 all_goes [] credit s u ws rest i l n w =
     let is : parts_in u.incoming ≡ [] = ap parts_in i in
     ended_goes (link.ended_by u.link.remote u.link.stop_reason) credit s u ws rest l (w ∙ ap (λ ys. wholes (begun_of u.buffer) (ys ++ rest)) (sym is)) (subst (λ ys. AreNew ys) (sym is) n)
@@ -294,13 +295,13 @@ all_goes (x ∷ xs) credit s u ws rest i l n w =
     let p = part_in x in
     let t = taken x.transfer x.payload v in
     let m = new_tail p (parts_in xs) n in
-    let goes : Goes credit s v ws rest (next t.answer t.state (λ y. all_received xs y)) =
+    let goes : Goes credit s ws rest (next t.answer t.state (λ y. all_received xs y)) =
     recv_next credit p xs s v t.state ws rest (λ y. all_received xs y) t.answer l (waiting_same x.transfer x.payload v) w m.1 (takes credit p v m.0)
     (λ k z. all_goes xs credit s t.state ws rest (waiting_same x.transfer x.payload v) k m.1 z) in
-    subst (λ (y : Step). Goes credit s v ws rest y) (sym (next_next t.answer t.state (λ y. receiving xs y))) goes
+    subst (λ (y : Step). Goes credit s ws rest y) (sym (next_next t.answer t.state (λ y. receiving xs y))) goes
 
 recv_by : (closed : Bool) (credit : ℕ) (s : State) (ws : List (List ℕ)) (rest : List Part) → AreNew (parts_in s.incoming) → ws ≡ wholes (begun_of s.buffer) (parts_in s.incoming ++ rest)
-    → Goes credit s s ws rest (if closed then fails (error.LinkStateError IllegalState) s else (let t = receiving s.incoming s in next t.answer t.state ended))
+    → Goes credit s ws rest (if closed then fails (error.LinkStateError IllegalState) s else all_received s.incoming s)
 unfolding Goes
 recv_by true credit s ws rest n w f = none_answered s s ws rest refl w n
 recv_by false credit s ws rest n w f = all_goes s.incoming credit s s ws rest refl refl n w f

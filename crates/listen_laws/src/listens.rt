@@ -1,5 +1,5 @@
 //! Which frames the messages of an end came in.
-ghost use Rattle.listen_laws.specs.Disposed.{TellsWhatIsDisposed};
+ghost use Rattle.listen_laws.specs.Disposed.{TellsWhatIsDisposed, TellsWhatIsAccepted};
 ghost use Rattle.listen_laws.specs.Laws.{MessagesCame, ServedCame, ServedWhole};
 ghost use Rattle.listen_laws.specs.Received.{AnswersWhatIsWhole};
 
@@ -35,4 +35,11 @@ pub fn answers_what_is_whole()
 /// that delivery alone and that state, which is settled in mode First.
 pub fn tells_what_is_disposed()
     ensures { TellsWhatIsDisposed }
+{}
+
+/// So each call that accepts a delivery which a receiver of the end has given, as each accept of an end that serves is
+/// one: its link takes no disposal any more, the delivery is not unsettled, or a Disposition that says that it is
+/// accepted is to go out on the session of the link.
+pub fn tells_what_is_accepted()
+    ensures { TellsWhatIsAccepted }
 {}
