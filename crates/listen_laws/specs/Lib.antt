@@ -1,5 +1,0 @@
-pub mod Ended
-pub mod Carried
-pub mod Received
-pub mod Disposed
-pub mod Laws
