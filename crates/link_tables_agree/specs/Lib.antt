@@ -1,0 +1,4 @@
+pub mod Sound
+pub mod Names
+pub mod Apart
+pub mod Leads

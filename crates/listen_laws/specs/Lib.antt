@@ -1,0 +1,5 @@
+pub mod Ended
+pub mod Carried
+pub mod Received
+pub mod Disposed
+pub mod Laws

@@ -1,0 +1,9 @@
+pub mod Among
+pub mod Hearing
+pub mod Carries
+pub mod Credits
+pub mod Leaving
+pub mod Knowing
+pub mod Returning
+pub mod Saying
+pub mod Coming

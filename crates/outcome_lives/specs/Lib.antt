@@ -1,0 +1,5 @@
+pub mod Hearing
+pub mod Granting
+pub mod Returning
+pub mod Saying
+pub mod Coming

@@ -1,0 +1,7 @@
+pub mod History
+pub mod Frames
+pub mod Replies
+pub mod Calls
+pub mod Closes
+pub mod Left
+pub mod Runs

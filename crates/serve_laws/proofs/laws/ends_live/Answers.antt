@@ -1,0 +1,8 @@
+use Rattle.serve_laws.proofs.History.{lives_begin, lives_go}
+use Rattle.serve_laws.proofs.laws.ends_live.Goals as goal
+
+pub returns-clause-begins : goal.returns-clause-begins
+returns-clause-begins g c = lives_begin g.L.Link
+
+pub returns-clause-goes : goal.returns-clause-goes
+returns-clause-goes g c = lives_go g.L.Link
