@@ -29,13 +29,13 @@ use amqp_text::Text;
 use amqp_waiting::run_waiting;
 use amqp_waiting_words::{is_waiting_word, read_command as read_waiting};
 use amqp_wire::status::Status;
+use std::io::IsTerminal;
 use std::net::Net;
 use std::process::ExitCode;
 use std::random::RandomSource;
 use std::rt::{Env, Runtime};
 use std::sync::Wait;
 use std::thread::Threads;
-use std::io::IsTerminal;
 use std::{env, fmt, io};
 
 const HELP: &str = "amqp_run world < SCRIPT
