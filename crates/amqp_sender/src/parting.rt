@@ -1,10 +1,9 @@
 //! How a sender is detached, and attached again so that it may be closed (OASIS AMQP 1.0, part 2, sections 2.6.3 to 2.6.6).
-ghost use Rattle.std.specs.Prelude.{◌≡◌, slice_get, Some, IfOk, OnOk};
-ghost use Rattle.std.specs.Option.{option_map, option_copied};
+ghost use Rattle.std.specs.Prelude.{◌≡◌, map, Some, IfOk, OnOk};
 ghost use Rattle.amqp_link.specs.Link as of;
 ghost use Rattle.amqp_link.specs.Parting as link;
 ghost use Rattle.amqp_sender.specs.Sender.{seen};
-ghost use Rattle.amqp_sender.specs.Parting.{told_at, all_told, map_of, reattached};
+ghost use Rattle.amqp_sender.specs.Parting.{by_place, told_of, map_of, reattached};
 
 use crate::sender::Sender;
 use amqp_composites::error::Error as AmqpError;
@@ -12,6 +11,31 @@ use amqp_data::Binary;
 use amqp_link::{DetachError, DetachPoll};
 use amqp_termini::{UnsettledDelivery, UnsettledMap};
 use std::alloc::{AllocError, Global};
+
+/// Deliveries in the order in which they were sent.
+fn sort_by_place(deliveries: &mut Vec<(Binary, usize)>) -> Result<(), AllocError>
+    ensures { OnOk result (deliveries.new.items ≡ by_place deliveries.old.items) }
+{
+    deliveries.sort_by_key(|delivery| delivery.1)?;
+    Ok(())
+}
+
+/// What the Attach says of those deliveries, in their order.
+fn all_told(
+    alloc: Global,
+    deliveries: Vec<(Binary, usize)>,
+) -> Result<Vec<UnsettledDelivery>, AllocError>
+    ensures { IfOk result (λ v. v.items ≡ map told_of deliveries.items) }
+{
+    let mut told = Vec::new(alloc);
+    for (delivery_tag, _) in deliveries {
+        told.push(UnsettledDelivery {
+            delivery_tag,
+            state: None,
+        })?;
+    }
+    Ok(told)
+}
 
 /// The map of those deliveries, if there are any. The tags of an end are distinct.
 fn map_of(
@@ -30,39 +54,14 @@ fn map_of(
 }
 
 impl Sender {
-    /// The tag of the delivery that is not settled at a place of the table.
-    fn tag_at(&self, place: usize) -> Option<&Binary>
-        ensures { option_copied result ≡ option_map (λ p. p.0) (slice_get (seen self.now).unsettled place) }
-    {
-        let (tag, _) = self.unsettled.get_index(place)?;
-        Some(tag)
-    }
-
-    /// What the Attach says of the delivery at a place of the table.
-    fn told_at(&self, place: usize) -> Result<UnsettledDelivery, AllocError>
-        ensures { IfOk result (λ d. d ≡ told_at (seen self.now).unsettled place) }
-    {
-        let Some(tag) = self.tag_at(place) else {
-            return Ok(UnsettledDelivery {
-                delivery_tag: Binary::new(self.alloc),
-                state: None,
-            });
-        };
-        let delivery_tag = tag.try_clone(self.alloc)?;
-        Ok(UnsettledDelivery {
-            delivery_tag,
-            state: None,
-        })
-    }
-
-    /// The deliveries that are not settled, in the order of the table.
-    fn unsettled(&self) -> Result<Vec<UnsettledDelivery>, AllocError>
-        ensures { IfOk result (λ v. v.items ≡ all_told (seen self.now).unsettled) }
+    /// The deliveries that are not settled, with their places, as the table has them.
+    fn unsettled(&self) -> Result<Vec<(Binary, usize)>, AllocError>
+        ensures { IfOk result (λ v. v.items ≡ (seen self.now).unsettled) }
     {
         let mut deliveries = Vec::new(self.alloc);
-        for place in 0..self.unsettled.len() {
-            let delivery = self.told_at(place)?;
-            deliveries.push(delivery)?;
+        for (tag, place) in &self.unsettled {
+            let tag = tag.try_clone(self.alloc)?;
+            deliveries.push((tag, *place))?;
         }
         Ok(deliveries)
     }
@@ -72,8 +71,10 @@ impl Sender {
     pub fn reattach(&mut self, handle: u32) -> Result<(), AllocError>
         ensures { OnOk result (seen self.new ≡ reattached handle (seen self.old)) }
     {
-        let deliveries = self.unsettled()?;
-        let map = map_of(self.alloc, deliveries)?;
+        let mut deliveries = self.unsettled()?;
+        sort_by_place(&mut deliveries)?;
+        let told = all_told(self.alloc, deliveries)?;
+        let map = map_of(self.alloc, told)?;
         self.link.reattach(handle, map, Some(self.delivery_count))?;
         self.credit = 0;
         Ok(())
