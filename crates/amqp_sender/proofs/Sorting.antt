@@ -111,7 +111,7 @@ same_lists (y ∷ ys) (z ∷ zs) up over same =
     let heads = sym (itself y ys) ∙ same y ∙ ap (λ b. cond b (z ∷ filter (beside y) zs) (filter (beside y) zs)) ((beside_at y z).1 (omega arith)) in
     let head : y ≡ z = cc in
     let rest : (x : Entry) → filter (beside x) ys ≡ filter (beside x) zs =
-      λ x. behind x y (filter (beside x) ys) (filter (beside x) zs) (beside x y) (same x ∙ ap (λ w. cond (beside x w) (w ∷ filter (beside x) zs) (filter (beside x) zs)) (sym head)) in
+    λ x. behind x y (filter (beside x) ys) (filter (beside x) zs) (beside x y) (same x ∙ ap (λ w. cond (beside x w) (w ∷ filter (beside x) zs) (filter (beside x) zs)) (sym head)) in
     ap (λ w. w ∷ ys) head ∙ ap (λ l. z ∷ l) (same_lists ys zs up.1 over.1 rest)
 
 pub sorted_by_place : (es ys : List Entry) → IsNonDecreasingBy (λ (e : Entry). e.1) ys → IsStableByKey (λ (e : Entry). e.1) nat_cmp es ys → ys ≡ by_place es
