@@ -1,5 +1,5 @@
 -- The steps of a negotiation.
-use Rattle.std.proofs.Common.{◌≡◌, ◌<◌, ◌≤◌, inl, inr, ℕ, List, [], ◌∷◌, ◌++◌, length, take, drop, Some, None, Result, Ok, Err, refl, sym, ◌∙◌, subst}
+use Rattle.std.proofs.Common.{◌≡◌, ◌<◌, ◌≤◌, inl, inr, ℕ, List, [], ◌∷◌, ◌++◌, length, take, drop, Some, None, Result, Ok, Err, refl, sym, ap, ◌∙◌, subst}
 use Rattle.amqp_sasl_bodies.specs.declared.sasl_body.SaslBody.{SaslBody}
 use Rattle.amqp_sasl_bodies.specs.declared.sasl_code.SaslCode.{SaslCode}
 use Rattle.amqp_sasl_bodies.specs.SaslBytes.{SpellsSasl}
@@ -14,12 +14,12 @@ use Rattle.amqp_wire.specs.declared.reading.Wait.{Wait}
 use Rattle.amqp_wire.specs.declared.reading.Wait.TheVariants.{Over, Stopped, Spent}
 use Rattle.amqp_wire.specs.Codec.{Codec, Flushed}
 use Rattle.amqp_wire.specs.Frame.{HasBody, IsFront}
-use Rattle.std.proofs.lemmas.List.{take-append-drop}
-use Rattle.amqp_wire.specs.Events.{LinkEvent, NotRead, read_of}
+use Rattle.std.proofs.lemmas.List.{append-nil, take-append-drop}
+use Rattle.amqp_wire.specs.Events.{LinkEvent, NotRead, read_of, wrote_of}
 use Rattle.amqp_wire.specs.Reading.{ReadOn, IsKnown}
 use Rattle.amqp_wire.proofs.Events.{includes_left}
 use Rattle.sasl_exchange.specs.declared.error.NegotiationError.{NegotiationError}
-use Rattle.sasl_exchange.specs.declared.error.NegotiationError.TheVariants.{Memory, ProtocolHeaderMismatch, Io, FramingError}
+use Rattle.sasl_exchange.specs.declared.error.NegotiationError.TheVariants.{Memory, ProtocolHeaderMismatch, NotImplemented, SaslError, ScramError, Io, DecodeError, IllegalState, FramingError}
 use Rattle.sasl_exchange.specs.declared.exchange.Exchange.{Ghosts as Mechanism}
 use Rattle.std.specs.declared.alloc.AllocError.{AllocError}
 use Rattle.sasl_exchange.specs.declared.exchange.Turn.TheVariants.{Receive}
@@ -30,8 +30,8 @@ use Rattle.sasl_gate.specs.declared.gate.negotiation.Phase.TheVariants.{Header, 
 use Rattle.sasl_gate.specs.declared.gate.negotiation.Step.{Step}
 use Rattle.sasl_gate.specs.declared.gate.negotiation.Step.TheVariants.{Goes, Waits, Ends}
 use Rattle.sasl_exchange.specs.Exchange.{refused_with}
-use Rattle.sasl_gate.specs.Frames.{sasl_header, HasSaslFrame, Heard, sasl_frame}
-use Rattle.sasl_gate.specs.Negotiation.{Negotiating, at_link, at_header, at_frame, by_body, too_long, HeaderCause, FrameCause, IsOverlong, HasHeader, HasFrames, HasIn, IsAtRestIn, IsAtRest, IsPollAnswer, Polled}
+use Rattle.sasl_gate.specs.Frames.{sasl_header, HasSaslFrame, Heard, said, sasl_frame}
+use Rattle.sasl_gate.specs.Negotiation.{Negotiating, at_link, at_header, at_frame, by_body, too_long, HeaderCause, FrameCause, IsOverlong, IsOutcomeOut, HasHeader, HasFrames, HasIn, IsAtRestIn, IsAtRest, IsPollAnswer, Polled}
 use Rattle.sasl_gate.specs.Steps.{IsStepEnd, Stepped, IsAlive, IsStopAnswer, IsWaitAnswer, IsEndAnswer, ArrivesIn}
 use Rattle.sasl_gate.proofs.Negotiations.{goes_none, stepped_then, goes_flushed, flush_events, goes_read, goes_failed, goes_refused, Failing, goes_header, goes_taken, goes_sent, heard_push, frame_cut}
 
@@ -64,7 +64,7 @@ header_mismatch link m a left h phase same l e ne =
       events = [];
       goes = goes_failed link m a a left left [] (ProtocolHeaderMismatch h) (alive_header a.phase phase)
           (λ before n given sent. let k : HasHeader m a before = subst (λ (p : Phase). HasIn m p a before) phase n in
-          (at_header (subst (λ (u : List ℕ). HeaderCause (ProtocolHeaderMismatch h) u) (sym k.read) (l, e, ne)), tt))
+          (at_header (subst (λ (u : List ℕ). HeaderCause (ProtocolHeaderMismatch h) u) (sym k.read) (l, e, ne)), tt, tt))
           (goes_none link m a left same);
       end = tt;
     }
@@ -75,32 +75,62 @@ pub failed_frames : {L X : Type 0} (link : Ghosts L) (m : Mechanism X) (a : Nego
     → Stepped link m a left Ends (record a { phase = Failed e }) left
 failed_frames link m a left e phase same cause = record { events = []; goes = goes_refused link m a left e phase same cause; end = tt }
 
+-- an error for a frame is of no outcome
+front_told : (e : NegotiationError) (rest : List ℕ) → FrameCause e rest → (events : List LinkEvent) (sent : List SaslBody) → IsOutcomeOut e events sent
+front_told (Memory a) rest c events sent = absurd c
+front_told (ProtocolHeaderMismatch h) rest c events sent = absurd c
+front_told NotImplemented rest c events sent = tt
+front_told (SaslError code payload) rest c events sent = absurd c
+front_told (ScramError kind) rest c events sent = absurd c
+front_told (Io kind) rest c events sent = absurd c
+front_told DecodeError rest c events sent = tt
+front_told IllegalState rest c events sent = absurd c
+front_told FramingError rest c events sent = tt
+
+-- where nothing is still to go out, all that was sent is written
+all_told : (e : NegotiationError) (events : List LinkEvent) (sent : List SaslBody) → wrote_of events ≡ said sent → IsOutcomeOut e events sent
+all_told (Memory a) events sent w = tt
+all_told (ProtocolHeaderMismatch h) events sent w = tt
+all_told NotImplemented events sent w = tt
+all_told (SaslError code payload) events sent w = w
+all_told (ScramError kind) events sent w = tt
+all_told (Io kind) events sent w = tt
+all_told DecodeError events sent w = tt
+all_told IllegalState events sent w = tt
+all_told FramingError events sent w = tt
+
+flushed_told : {L X : Type 0} (m : Mechanism X) (a : Negotiating L X) (e : NegotiationError) (events : List LinkEvent) (n : HasFrames m a events) → a.codec.output ≡ [] → IsOutcomeOut e events n.sent
+flushed_told m a e events n out = all_told e events n.sent (sym (append-nil (wrote_of events)) ∙ ap (λ (u : List ℕ). wrote_of events ++ u) (sym out) ∙ n.wrote)
+
 -- the frame at the front of the input is refused
 pub failed_front : {L X : Type 0} (link : Ghosts L) (m : Mechanism X) (a : Negotiating L X) (left : ℕ) (e : NegotiationError) → a.phase ≡ Frames → m.same a.exchange a.exchange → m.turn_of a.exchange ≡ Receive → FrameCause e a.codec.input
     → Stepped link m a left Ends (record a { phase = Failed e }) left
-failed_front link m a left e phase same turn c = failed_frames link m a left e phase same (λ before n. (at_frame n.given a.codec.input n.heard c, (refl, turn)))
+failed_front link m a left e phase same turn c = failed_frames link m a left e phase same (λ before n. (at_frame n.given a.codec.input n.heard c, (refl, turn), front_told e a.codec.input c before n.sent))
 
 pub failed_overlong : {L X : Type 0} (link : Ghosts L) (m : Mechanism X) (a : Negotiating L X) (left : ℕ) (body : SaslBody) → a.phase ≡ Frames → m.same a.exchange a.exchange → m.owes a.exchange body → IsOverlong body
     → Stepped link m a left Ends (record a { phase = Failed FramingError }) left
-failed_overlong link m a left body phase same o long = failed_frames link m a left FramingError phase same (λ before n. (too_long body o long refl, tt))
+failed_overlong link m a left body phase same o long = failed_frames link m a left FramingError phase same (λ before n. (too_long body o long refl, tt, tt))
 
-pub failed_body : {L X : Type 0} (link : Ghosts L) (m : Mechanism X) (a : Negotiating L X) (left : ℕ) (e : NegotiationError) (body : SaslBody) (size start channel : ℕ) → a.phase ≡ Frames → m.same a.exchange a.exchange
+pub failed_body : {L X : Type 0} (link : Ghosts L) (m : Mechanism X) (a : Negotiating L X) (left : ℕ) (e : NegotiationError) (body : SaslBody) (size start channel : ℕ) → a.phase ≡ Frames → a.codec.output ≡ [] → m.same a.exchange a.exchange
     → m.turn_of a.exchange ≡ Receive → HasBody 1 512 a.codec.input size start channel → SpellsSasl (drop start (take size a.codec.input)) body
     → ((given sent : List SaslBody) → m.holds a.exchange given sent → m.causes a.exchange e (given ++ body ∷ []) sent)
     → Stepped link m a left Ends (record a { phase = Failed e }) left
-failed_body link m a left e body size start channel phase same turn b s c =
+failed_body link m a left e body size start channel phase out same turn b s c =
     failed_frames link m a left e phase same (λ before n.
     let cut : Heard (read_of before) n.given (take size a.codec.input ++ drop size a.codec.input) = subst (λ (u : List ℕ). Heard (read_of before) n.given u) (sym (take-append-drop size a.codec.input)) n.heard in (
       by_body (n.given ++ body ∷ []) n.sent (drop size a.codec.input)
           (heard_push (read_of before) (take size a.codec.input) (drop size a.codec.input) n.given body cut (frame_cut a.codec.input size start channel body b s))
           (c n.given n.sent n.held),
       (refl, inr (body, refl, turn)),
+      flushed_told m a e before n out,
     ))
 
-pub failed_refusal : {L X : Type 0} (link : Ghosts L) (m : Mechanism X) (a : Negotiating L X) (left : ℕ) (code : SaslCode) → a.phase ≡ Frames → m.same a.exchange a.exchange
+pub failed_refusal : {L X : Type 0} (link : Ghosts L) (m : Mechanism X) (a : Negotiating L X) (left : ℕ) (code : SaslCode) → a.phase ≡ Frames → a.codec.output ≡ [] → m.same a.exchange a.exchange
     → ((given sent : List SaslBody) → m.holds a.exchange given sent → m.causes a.exchange (refused_with code) given sent)
     → Stepped link m a left Ends (record a { phase = Failed (refused_with code) }) left
-failed_refusal link m a left code phase same c = failed_frames link m a left (refused_with code) phase same (λ before n. (by_body n.given n.sent a.codec.input n.heard (c n.given n.sent n.held), (refl, inl refl)))
+failed_refusal link m a left code phase out same c =
+    failed_frames link m a left (refused_with code) phase same (λ before n.
+    (by_body n.given n.sent a.codec.input n.heard (c n.given n.sent n.held), (refl, inl refl), flushed_told m a (refused_with code) before n out))
 
 -- a step after reads
 pub read_then : {L X : Type 0} (link : Ghosts L) (m : Mechanism X) (a : Negotiating L X) (c : Codec L) (b : Negotiating L X) (w : Wait) (left k n : ℕ) (s : Step) → IsAlive a.phase → m.same a.exchange a.exchange → m.same a.exchange b.exchange
@@ -123,14 +153,14 @@ stopped_in {L} {X} link m a c End left k s new alive same rests r e =
     subst (λ (t : Step). Stepped link m a left t new k) (sym e.0) (subst (λ (b : Negotiating L X). Stepped link m a left Ends b k) (sym e.1)
     (record {
       events = r.events;
-      goes = goes_failed link m a (record a { codec = c }) left k r.events (Io InputEnd) alive (λ before n given sent. (at_link (includes_left r.events before (NotRead End) r.end), tt)) (goes_read link m a c (Stopped End) left k alive same r);
+      goes = goes_failed link m a (record a { codec = c }) left k r.events (Io InputEnd) alive (λ before n given sent. (at_link (includes_left r.events before (NotRead End) r.end), tt, tt)) (goes_read link m a c (Stopped End) left k alive same r);
       end = tt;
     }))
 stopped_in {L} {X} link m a c FailedRead left k s new alive same rests r e =
     subst (λ (t : Step). Stepped link m a left t new k) (sym e.0) (subst (λ (b : Negotiating L X). Stepped link m a left Ends b k) (sym e.1)
     (record {
       events = r.events;
-      goes = goes_failed link m a (record a { codec = c }) left k r.events (Io Fault) alive (λ before n given sent. (at_link (inl (includes_left r.events before (NotRead FailedRead) r.end)), tt)) (goes_read link m a c (Stopped FailedRead) left k alive same r);
+      goes = goes_failed link m a (record a { codec = c }) left k r.events (Io Fault) alive (λ before n given sent. (at_link (inl (includes_left r.events before (NotRead FailedRead) r.end)), tt, tt)) (goes_read link m a c (Stopped FailedRead) left k alive same r);
       end = tt;
     }))
 
@@ -177,7 +207,7 @@ pub flushed_failed : {L X : Type 0} (link : Ghosts L) (m : Mechanism X) (a : Neg
 flushed_failed link m a c left alive same f =
     record {
       events = flush_events f.bytes (Some FailedWrite);
-      goes = goes_failed link m a (record a { codec = c }) left left (flush_events f.bytes (Some FailedWrite)) (Io Fault) alive (λ before n given sent. (at_link (inr (inl refl)), tt)) (goes_flushed link m a c (Some FailedWrite) left alive same f);
+      goes = goes_failed link m a (record a { codec = c }) left left (flush_events f.bytes (Some FailedWrite)) (Io Fault) alive (λ before n given sent. (at_link (inr (inl refl)), tt, tt)) (goes_flushed link m a c (Some FailedWrite) left alive same f);
       end = tt;
     }
 

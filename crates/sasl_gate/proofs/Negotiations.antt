@@ -23,7 +23,7 @@ use Rattle.sasl_gate.specs.declared.gate.negotiation.Phase.TheVariants.{Header, 
 use Rattle.sasl_gate.specs.declared.gate.negotiation.Step.{Step}
 use Rattle.sasl_gate.specs.declared.gate.negotiation.Step.TheVariants.{Goes, Waits, Ends}
 use Rattle.sasl_gate.specs.Frames.{sasl_header, IsSaslFrame, Carries, HasSaslFrame, Heard, sasl_frame, said}
-use Rattle.sasl_gate.specs.Negotiation.{Negotiating, IsCaused, IsCauseAfter, HasHeader, HasFrames, HasFailure, HasIn, Has, IsHeldUp, IsAtRestOrFull, GoesOn}
+use Rattle.sasl_gate.specs.Negotiation.{Negotiating, IsCaused, IsCauseAfter, IsOutcomeOut, HasHeader, HasFrames, HasFailure, HasIn, Has, IsHeldUp, IsAtRestOrFull, GoesOn}
 use Rattle.sasl_gate.specs.Steps.{IsStepEnd, Stepped, IsAlive}
 
 -- nothing happened
@@ -146,12 +146,13 @@ goes_read link m a c w left left' alive s r =
 
 -- why it fails, after it was given these bodies and sent those
 abbrev pub Failing : {L X : Type 0} → Mechanism X → Negotiating L X → NegotiationError → List LinkEvent → List SaslBody → List SaslBody → Type 0
-Failing m b e events given sent = (c : IsCaused (m.causes b.exchange) (m.owes b.exchange) e events) × IsCauseAfter (m.causes b.exchange) (m.owes b.exchange) (m.turn_of b.exchange) e events given sent c
+Failing m b e events given sent =
+    (c : IsCaused (m.causes b.exchange) (m.owes b.exchange) e events) × IsCauseAfter (m.causes b.exchange) (m.owes b.exchange) (m.turn_of b.exchange) e events given sent c × IsOutcomeOut e events sent
 
 failed_in : {L X : Type 0} (m : Mechanism X) (p : Phase) (b : Negotiating L X) (e : NegotiationError) (events : List LinkEvent) → IsAlive p
     → ((given sent : List SaslBody) → Failing m b e events given sent) → HasIn m p b events → HasFailure m e b events
 failed_in m Header b e events alive c h =
-    record { given = []; sent = []; heard = inl refl; wrote = h.wrote; framed = All-nil HasSaslFrame; held = h.held; cause = (c [] []).0; after = (c [] []).1 }
+    record { given = []; sent = []; heard = inl refl; wrote = h.wrote; framed = All-nil HasSaslFrame; held = h.held; cause = (c [] []).0; after = (c [] []).1; told = (c [] []).2 }
 failed_in m Frames b e events alive c h = record {
   given = h.given;
   sent = h.sent;
@@ -161,13 +162,14 @@ failed_in m Frames b e events alive c h = record {
   held = h.held;
   cause = (c h.given h.sent).0;
   after = (c h.given h.sent).1;
+  told = (c h.given h.sent).2;
 }
 failed_in m (Failed x) b e events alive c h = absurd alive
 
 -- what was heard, said and held does not depend on the phase
 pub failed_as : {L X : Type 0} (m : Mechanism X) (b : Negotiating L X) (e : NegotiationError) (events : List LinkEvent) → HasFailure m e b events → HasFailure m e (record b { phase = Failed e }) events
 failed_as m b e events f =
-    record { given = f.given; sent = f.sent; heard = f.heard; wrote = f.wrote; framed = f.framed; held = f.held; cause = f.cause; after = f.after }
+    record { given = f.given; sent = f.sent; heard = f.heard; wrote = f.wrote; framed = f.framed; held = f.held; cause = f.cause; after = f.after; told = f.told }
 
 -- it failed after that, not by a body
 pub goes_failed : {L X : Type 0} (link : Ghosts L) (m : Mechanism X) (a b : Negotiating L X) (l k : ℕ) (es : List LinkEvent) (e : NegotiationError) → IsAlive b.phase
@@ -201,6 +203,7 @@ goes_refused {L} {X} link m a left e phase s cause =
             held = n.held;
             cause = c.0;
             after = c.1;
+            told = c.2;
           };
     }
 

@@ -111,6 +111,19 @@ IsCauseAfter causes owes turn e events given sent (by_body read told rest is cau
     (told ≡ sent) × ((read ≡ given) ⊎ ((body : SaslBody) × (read ≡ given ++ body ∷ []) × (turn ≡ Receive)))
 IsCauseAfter causes owes turn e events given sent (too_long x owed long is) = ⊤
 
+-- An end that fails by an outcome that refuses has written all that it sent: so a listener has written the outcome that it told, whole
+-- (part 5, section 5.3.2)
+abbrev pub IsOutcomeOut : NegotiationError → List LinkEvent → List SaslBody → Type 0
+IsOutcomeOut (Memory a) events sent = ⊤
+IsOutcomeOut (ProtocolHeaderMismatch h) events sent = ⊤
+IsOutcomeOut NotImplemented events sent = ⊤
+IsOutcomeOut (SaslError code payload) events sent = wrote_of events ≡ said sent
+IsOutcomeOut (ScramError kind) events sent = ⊤
+IsOutcomeOut (Io kind) events sent = ⊤
+IsOutcomeOut DecodeError events sent = ⊤
+IsOutcomeOut IllegalState events sent = ⊤
+IsOutcomeOut FramingError events sent = ⊤
+
 -- before the SASL header was read
 pub record HasHeader {L X : Type 0} (mechanism : Mechanism X) (n : Negotiating L X) (events : List LinkEvent) : Type 0 where
   pub read : read_of events ≡ n.codec.input
@@ -126,7 +139,8 @@ pub record HasFrames {L X : Type 0} (mechanism : Mechanism X) (n : Negotiating L
   pub framed : All HasSaslFrame sent
   pub held : mechanism.holds n.exchange given sent
 
--- after it failed: the mechanism is as it was before, with the bodies that it had taken and those that were queued
+-- after it failed: the mechanism is as it was before, with the bodies that it had taken and those that were queued; where an outcome
+-- refuses, all of them are written
 pub record HasFailure {L X : Type 0} (mechanism : Mechanism X) (e : NegotiationError) (n : Negotiating L X) (events : List LinkEvent) : Type 0 where
   pub given : List SaslBody
   pub sent : List SaslBody
@@ -136,6 +150,7 @@ pub record HasFailure {L X : Type 0} (mechanism : Mechanism X) (e : NegotiationE
   pub held : mechanism.holds n.exchange given sent
   pub cause : IsCaused (mechanism.causes n.exchange) (mechanism.owes n.exchange) e events
   pub after : IsCauseAfter (mechanism.causes n.exchange) (mechanism.owes n.exchange) (mechanism.turn_of n.exchange) e events given sent cause
+  pub told : IsOutcomeOut e events sent
 
 abbrev pub HasIn : {L X : Type 0} → Mechanism X → Phase → Negotiating L X → List LinkEvent → Type 0
 HasIn mechanism Header n events = HasHeader mechanism n events

@@ -249,6 +249,7 @@ impl<L: Link, X: Exchange> Negotiation<L, X> {
     fn take_body(&mut self, body: SaslBody, size: usize) -> Result<Step, AllocError>
         requires phase { self.old.phase ≡ Frames }
         requires turn { X.turn_of self.old.exchange ≡ Receive }
+        requires flushed { self.old.codec.output ≡ [] }
         requires frame { (start channel : ℕ) × HasBody 1 512 self.old.codec.input size start channel × SpellsSasl (drop start (take size self.old.codec.input)) body }
         ensures stepped { (left : ℕ) → Stepped L.Link X.Exchange self.old left (step_in result) self.new left }
         ensures less { result ≡ Ok Step.Goes → measure_of X.Exchange self.new < measure_of X.Exchange self.old }
@@ -268,6 +269,7 @@ impl<L: Link, X: Exchange> Negotiation<L, X> {
     fn on_frame(&mut self, size: usize, start: usize) -> Result<Step, AllocError>
         requires phase { self.old.phase ≡ Frames }
         requires turn { X.turn_of self.old.exchange ≡ Receive }
+        requires flushed { self.old.codec.output ≡ [] }
         requires frame { (channel : ℕ) × HasBody 1 512 self.old.codec.input size start channel }
         ensures stepped { (left : ℕ) → Stepped L.Link X.Exchange self.old left (step_in result) self.new left }
         ensures less { result ≡ Ok Step.Goes → measure_of X.Exchange self.new < measure_of X.Exchange self.old }
@@ -298,6 +300,7 @@ impl<L: Link, X: Exchange> Negotiation<L, X> {
     fn on_arrival(&mut self, arrival: Arrival) -> Result<Step, AllocError>
         requires phase { self.old.phase ≡ Frames }
         requires turn { X.turn_of self.old.exchange ≡ Receive }
+        requires flushed { self.old.codec.output ≡ [] }
         requires front { IsFront 1 512 self.old.codec.input arrival.front }
         ensures arrived { (left : ℕ) → ArrivesAt L.Link X.Exchange arrival self.old left (step_in result) self.new left }
         ensures less { result ≡ Ok Step.Goes → measure_of X.Exchange self.new < measure_of X.Exchange self.old }

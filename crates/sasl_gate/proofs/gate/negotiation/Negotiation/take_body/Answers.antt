@@ -14,6 +14,7 @@ returns-in-Ok-Refused-clause-stepped g c =
     let phase = rw (← c.self.view_is) at c.requires.phase in
     let f = rw (← c.self.view_is) at c.requires.frame in
     let turn = rw (← c.self.view_is) at c.requires.turn in
+    let out = rw (← c.self.view_is) at c.requires.flushed in
     let refused = rw c.in-Ok-Refused.field-0-is at c.in-Ok-Refused.ensures.refused in
     let kept = rw c.in-Ok-Refused.field-0-is at c.in-Ok-Refused.ensures.kept in
-    λ left. rw (← c.self.view_is, c.fail.ensures.failed, c.fail.ensures.ends, kept) (failed_body g.L.Link g.X.Exchange _ left c.in-Ok-Refused.error c.args.body c.args.size f.0 f.1 phase (g.met.X.Exchange.same_self c.self.inside.exchange) turn f.2 f.3 refused)
+    λ left. rw (← c.self.view_is, c.fail.ensures.failed, c.fail.ensures.ends, kept) (failed_body g.L.Link g.X.Exchange _ left c.in-Ok-Refused.error c.args.body c.args.size f.0 f.1 phase out (g.met.X.Exchange.same_self c.self.inside.exchange) turn f.2 f.3 refused)
