@@ -8,7 +8,7 @@ use Rattle.amqp_opening.specs.declared.authentication.SaslCall.TheVariants as la
 use Rattle.amqp_opening.specs.Authentication.{account_of_call, mechanism_of_call, IsAllowedAccount}
 use Rattle.amqp_ends.specs.Gates.{Agree, AreAlike, IsCollision, IsFairNegotiation, LacksMechanism}
 
-has_mechanism : (c d : SaslCall) → mechanism_of_call c ≡ mechanism_of_call d → LacksMechanism c d → ⊥
+pub has_mechanism : (c d : SaslCall) → mechanism_of_call c ≡ mechanism_of_call d → LacksMechanism c d → ⊥
 has_mechanism (layer.Client p hostname) d same lacks = lacks same
 has_mechanism (layer.Listener a) d same lacks = lacks
 

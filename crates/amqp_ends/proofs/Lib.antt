@@ -24,4 +24,6 @@ pub mod GateReplies
 pub mod Agreed
 pub mod Headers
 pub mod Passes
+pub mod ToldBodies
+pub mod Told
 pub mod Faced

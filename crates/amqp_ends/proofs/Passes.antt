@@ -43,16 +43,16 @@ layer_later [] (m ∷ more) l = absurd (omega (arith, l))
 layer_later (c ∷ calls) (m ∷ []) l = refl
 layer_later (c ∷ calls) (m ∷ n ∷ more) l = layer_later (c ∷ calls) (n ∷ more) l
 
-layer_then : (h later before : List Local) → h ≡ later ++ before → 1 ≤ length (made_in before) → layer_in (made_in h) ≡ layer_in (made_in before)
+pub layer_then : (h later before : List Local) → h ≡ later ++ before → 1 ≤ length (made_in before) → layer_in (made_in h) ≡ layer_in (made_in before)
 layer_then h later before split l = ap (λ (u : List Local). layer_in (made_in u)) split ∙ ap layer_in (made_in-append later before) ∙ layer_later (made_in before) (made_in later) l
 
-caused_called : (calls : List (ℕ × Call)) (e : NegotiationError) (events : List LinkEvent) → OpenCauseIn calls e events → 1 ≤ length calls
+pub caused_called : (calls : List (ℕ × Call)) (e : NegotiationError) (events : List LinkEvent) → OpenCauseIn calls e events → 1 ≤ length calls
 caused_called [] e events c = absurd c
 caused_called (call ∷ calls) e events c = omega arith
 
 -- ---- the last reply, when it was made
 
-record LastReply (h : List Local) (r : NamedReply) : Type 0 where
+pub record LastReply (h : List Local) (r : NamedReply) : Type 0 where
   pub later : List Local
   pub before : List Local
   pub split : h ≡ later ++ Replied r ∷ before
@@ -71,7 +71,7 @@ last_same (x ∷ xs) (y ∷ ys) a b e = last_same xs ys a b (cc e)
 then_reply : (x : Local) (h : List Local) (r : NamedReply) → LastReply h r → LastReply (x ∷ h) r
 then_reply x h r l = record { later = x ∷ l.later; before = l.before; split = ap (λ (u : List Local). x ∷ u) l.split; caused = l.caused }
 
-last_reply : (h : List Local) (rs : List NamedReply) (r : NamedReply) → AllCaused h → replied_in h ≡ rs ++ r ∷ [] → LastReply h r
+pub last_reply : (h : List Local) (rs : List NamedReply) (r : NamedReply) → AllCaused h → replied_in h ≡ rs ++ r ∷ [] → LastReply h r
 last_reply [] rs r c e = absurd (none_last rs r e)
 last_reply (Made at name call ∷ h) rs r c e = then_reply (Made at name call) h r (last_reply h rs r c e)
 last_reply (Polled at ∷ h) rs r c e = then_reply (Polled at) h r (last_reply h rs r c e)
@@ -85,46 +85,47 @@ last_reply (Replied q ∷ h) rs r c e =
 
 -- ---- an end that is refused has written its AMQP header
 
-module _ (h far : List Local) (left far_left : List ℕ) (a : AreStill h far left far_left) (agreed : Agree (layer_in (made_in h)) (layer_in (made_in far))) (faced : FacedWhenTold h far) where
-  -- its negotiation does not fail
-  negotiates : (later g : List Local) (name : ℕ) (e : NegotiationError) → h ≡ later ++ Replied (open_failed name (failed.Negotiation e)) ∷ g → OpenCauseIn (made_in g) e (link_in g) → ⊥
-  negotiates later g name e split c =
-      let told : Local = Replied (open_failed name (failed.Negotiation e)) in
-      let k : FacedOnce g far = faced later g name e split in
-      let calm : IsCalm (link_in g) = calm_before later (told ∷ g) (subst (λ (u : List Local). IsCalm (link_in u)) split a.calm) in
-      let near : layer_in (made_in h) ≡ layer_in (made_in g) = layer_then h later (told ∷ g) split (caused_called (made_in g) e (link_in g) c) in
-      let agrees : Agree (layer_in (made_in g)) (layer_in (made_in far)) = subst (λ (z : Option SaslCall). Agree z (layer_in (made_in far))) near agreed in
-      elim k.begun as (λ _. ⊥) [
-        | inl called ↦ agreed_not (layer_in (made_in g)) (layer_in (made_in k.before))
-            (subst (λ (z : Option SaslCall). Agree (layer_in (made_in g)) z) (layer_then far k.since k.before k.split called) agrees)
-            e (negotiation_fair g k.before calm k.faces e c)
-        | inr none ↦ agreed_not (layer_in (made_in g)) (layer_in (made_in far)) agrees e (silence_fair g k.before calm k.faces e none (layer_in (made_in far)) c)
-      ]
-
+module _ (h far : List Local) (left far_left : List ℕ) (a : AreStill h far left far_left) where
   -- its transport failed behind the headers
-  carries : (later g : List Local) (r : NamedReply) (e : TransportFault) → h ≡ later ++ Replied r ∷ g → IsHonestFault e → IsBrokenBy e g → HasHeader h
+  pub carries : (later g : List Local) (r : NamedReply) (e : TransportFault) → h ≡ later ++ Replied r ∷ g → IsHonestFault e → IsBrokenBy e g → HasHeader h
   carries later g r e split k b =
       fault_header h far (later ++ Replied r ∷ []) g (meets h far left far_left a) (meets_back h far left far_left a) (split ∙ sym (append_assoc later (Replied r ∷ []) g)) e k b
 
-  opens : (name : ℕ) (e : OpenError) → LastReply h (open_failed name e) → IsHonest (reply.OpenError e) → HasHeader h
-  opens name (failed.Negotiation e) l k = absurd (negotiates l.later l.before name e l.split l.caused)
-  opens name (failed.TransportError e) l k = carries l.later l.before (open_failed name (failed.TransportError e)) e l.split k l.caused
-  opens name failed.RemoteClosed l k = absurd k
-  opens name (failed.RemoteClosedWithError e) l k = absurd k
-  opens name failed.IllegalState l k = absurd k
-
   -- its refusal is honest
-  refused_honestly : (name : ℕ) (e : OpenError) (l : LastReply h (open_failed name e)) → IsHonest (reply.OpenError e)
+  pub refused_honestly : (name : ℕ) (e : OpenError) (l : LastReply h (open_failed name e)) → IsHonest (reply.OpenError e)
   refused_honestly name e l =
       let told : Local = Replied (open_failed name e) in
       opening_honest e (l.later ++ told ∷ []) l.before far (subst (λ (g : List Local). Meets g far) (l.split ∙ sym (append_assoc l.later (told ∷ []) l.before)) (meets h far left far_left a)) l.caused
 
-  refused_header : (name : ℕ) (e : OpenError) → LastReply h (open_failed name e) → HasHeader h
-  refused_header name e l = opens name e l (refused_honestly name e l)
+  module _ (agreed : Agree (layer_in (made_in h)) (layer_in (made_in far))) (faced : FacedWhenTold h far) where
+    -- its negotiation does not fail
+    negotiates : (later g : List Local) (name : ℕ) (e : NegotiationError) → h ≡ later ++ Replied (open_failed name (failed.Negotiation e)) ∷ g → OpenCauseIn (made_in g) e (link_in g) → ⊥
+    negotiates later g name e split c =
+        let told : Local = Replied (open_failed name (failed.Negotiation e)) in
+        let k : FacedOnce g far = faced later g name e split in
+        let calm : IsCalm (link_in g) = calm_before later (told ∷ g) (subst (λ (u : List Local). IsCalm (link_in u)) split a.calm) in
+        let near : layer_in (made_in h) ≡ layer_in (made_in g) = layer_then h later (told ∷ g) split (caused_called (made_in g) e (link_in g) c) in
+        let agrees : Agree (layer_in (made_in g)) (layer_in (made_in far)) = subst (λ (z : Option SaslCall). Agree z (layer_in (made_in far))) near agreed in
+        elim k.begun as (λ _. ⊥) [
+          | inl called ↦ agreed_not (layer_in (made_in g)) (layer_in (made_in k.before))
+              (subst (λ (z : Option SaslCall). Agree (layer_in (made_in g)) z) (layer_then far k.since k.before k.split called) agrees)
+              e (negotiation_fair g k.before calm k.faces e c)
+          | inr none ↦ agreed_not (layer_in (made_in g)) (layer_in (made_in far)) agrees e (silence_fair g k.before calm k.faces e none (layer_in (made_in far)) c)
+        ]
 
-  turned_down : IsTurnedDown h → HasHeader h
-  turned_down (none, (name, e, inl all)) = refused_header name e (last_reply h (pending name ∷ []) (open_failed name e) a.answered.caused all.0)
-  turned_down (none, (name, e, inr all)) = refused_header name e (last_reply h [] (open_failed name e) a.answered.caused all.0)
+    opens : (name : ℕ) (e : OpenError) → LastReply h (open_failed name e) → IsHonest (reply.OpenError e) → HasHeader h
+    opens name (failed.Negotiation e) l k = absurd (negotiates l.later l.before name e l.split l.caused)
+    opens name (failed.TransportError e) l k = carries l.later l.before (open_failed name (failed.TransportError e)) e l.split k l.caused
+    opens name failed.RemoteClosed l k = absurd k
+    opens name (failed.RemoteClosedWithError e) l k = absurd k
+    opens name failed.IllegalState l k = absurd k
+
+    refused_header : (name : ℕ) (e : OpenError) → LastReply h (open_failed name e) → HasHeader h
+    refused_header name e l = opens name e l (refused_honestly name e l)
+
+    turned_down : IsTurnedDown h → HasHeader h
+    turned_down (none, (name, e, inl all)) = refused_header name e (last_reply h (pending name ∷ []) (open_failed name e) a.answered.caused all.0)
+    turned_down (none, (name, e, inr all)) = refused_header name e (last_reply h [] (open_failed name e) a.answered.caused all.0)
 
 -- ---- an AMQP header stands behind an exchange that has passed
 
@@ -179,7 +180,7 @@ still_turned h far left far_left a = record {
   far_answered = a.answered;
 }
 
-vast_turned : (h far : List Local) → IsVast far ⊎ IsVast h → IsVast h ⊎ IsVast far
+pub vast_turned : (h far : List Local) → IsVast far ⊎ IsVast h → IsVast h ⊎ IsVast far
 vast_turned h far (inl v) = inr v
 vast_turned h far (inr v) = inl v
 
@@ -204,7 +205,7 @@ stands_so h far left far_left a (refused s w) = inl (turned_down h far left far_
 stands_so h far left far_left a (broken b) = inl (broken_header h far (meets h far left far_left a.still) (meets_back h far left far_left a.still) b)
 stands_so h far left far_left a (vast v) = absurd (a.few (inl v))
 
-read_all : (h far : List Local) (left far_left : List ℕ) → AreStill h far left far_left → left ≡ [] → read_in h ≡ wrote_in far
+pub read_all : (h far : List Local) (left far_left : List ℕ) → AreStill h far left far_left → left ≡ [] → read_in h ≡ wrote_in far
 read_all h far left far_left a l = sym (append-nil (read_in h)) ∙ ap (λ (u : List ℕ). read_in h ++ u) (sym l) ∙ a.reads
 
 -- two ends do not both wait there, nor one for another that has written its header

@@ -54,7 +54,7 @@ opposed_as (layer.Listener p) (layer.Client q host) o = (tt, tt)
 opposed_as (layer.Listener p) (layer.Listener q) (inl o) = absurd o.0
 opposed_as (layer.Listener p) (layer.Listener q) (inr o) = absurd o.1
 
-opposed : (calls others : List (ℕ × Call)) (c far : SaslCall) → AreOpposite calls others → layer_in calls ≡ Some c → layer_in others ≡ Some far → AreOpposed c far × AreOpposed far c
+pub opposed : (calls others : List (ℕ × Call)) (c far : SaslCall) → AreOpposite calls others → layer_in calls ≡ Some c → layer_in others ≡ Some far → AreOpposed c far × AreOpposed far c
 opposed calls others c far o e f =
     let at : (kind : PeerKind) → BeginsIn kind calls → IsLayerOf kind (Some c) = λ kind b. subst (λ (z : Option SaslCall). IsLayerOf kind z) e (layer_of kind calls b) in
     let there : (kind : PeerKind) → BeginsIn kind others → IsLayerOf kind (Some far) = λ kind b. subst (λ (z : Option SaslCall). IsLayerOf kind z) f (layer_of kind others b) in
@@ -62,7 +62,7 @@ opposed calls others c far o e f =
 
 -- ---- an end that waits has written a header
 
-said_enough : (bodies : List _) (after : List ℕ) → 8 ≤ length (said bodies ++ after)
+pub said_enough : (bodies : List _) (after : List ℕ) → 8 ≤ length (said bodies ++ after)
 said_enough bodies after = omega (arith, length-append (said bodies) after, length-append sasl_header (flat_map sasl_frame bodies))
 
 wrote_enough : (c : Option SaslCall) (h : List Local) → IsResting c h ⊎ RestsBehind h → 8 ≤ length (wrote_in h)

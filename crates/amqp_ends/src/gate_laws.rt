@@ -8,7 +8,7 @@ ghost use Rattle.amqp_peer.specs.History.{Local, Made, Polled, made_in, link_in,
 ghost use Rattle.amqp_peer.specs.Layers.{layer_in};
 ghost use Rattle.amqp_ends.specs.Gates.{Agree, AllFair, Faces, IsFairNegotiation};
 ghost use Rattle.amqp_ends.specs.Joined.{IsCalm};
-ghost use Rattle.amqp_ends.specs.Passes.{AreAgreed, FacedWhenTold, IsThrough};
+ghost use Rattle.amqp_ends.specs.Passes.{AreAgreed, AreCompared, FacedWhenTold, IsThrough, IsThroughOrRefused};
 
 /// Over a link that does not fail, the negotiation of an end that faces another fails only where one of them has a SASL layer and the
 /// other has none, where their mechanisms, users or passwords differ, or for a user, a password or a body of its own.
@@ -34,6 +34,13 @@ pub fn equal_ends_are_not_refused()
 /// what a link still holds for its end.
 pub fn equal_ends_pass()
     ensures { (h far : List Local) (left far_left : List ℕ) → AreAgreed h far left far_left → IsThrough h × IsThrough far }
+{}
+
+/// Where both were called with one mechanism, whether or not user and password are the same, and each has done what it can, each has written
+/// its AMQP header, or was refused by an outcome: neither waits for an outcome that the other did not write. `left` is what a link still
+/// holds for its end.
+pub fn refusals_are_told()
+    ensures { (h far : List Local) (left far_left : List ℕ) → AreCompared h far left far_left → IsThroughOrRefused h × IsThroughOrRefused far }
 {}
 
 /// That an end faced the other whenever it told of a negotiation that failed (`FacedWhenTold`) holds of two ends at which nothing happened,

@@ -2,6 +2,7 @@
 use Rattle.std.proofs.Common.{◌≡◌, ◌<◌, ◌≤◌, inl, inr, ℕ, Bool, true, false, List, [], ◌++◌, length, take, drop, Option, Some, None, Result, Ok, Err, refl, sym, ap, ◌∙◌, subst, append_assoc, arith}
 use Rattle.std.proofs.lemmas.List.{append-nil, take-append-drop}
 use Rattle.std.specs.declared.alloc.AllocError.{AllocError}
+use Rattle.amqp_sasl_bodies.specs.declared.sasl_body.SaslBody.{SaslBody}
 use Rattle.amqp_wire.specs.declared.link.Link.{Ghosts}
 use Rattle.amqp_wire.specs.declared.link.Stop.{Stop}
 use Rattle.amqp_wire.specs.declared.link.Stop.TheVariants.{Empty, End, Failed as FailedRead}
@@ -21,7 +22,7 @@ use Rattle.sasl_gate.specs.declared.gate.negotiation.GatePoll.TheVariants as gat
 use Rattle.sasl_gate.specs.declared.gate.negotiation.Phase.{Phase}
 use Rattle.sasl_gate.specs.declared.gate.negotiation.Phase.TheVariants.{Header as HeaderPhase, Frames, Failed}
 use Rattle.sasl_gate.specs.Frames.{Heard, said, sasl_header}
-use Rattle.sasl_gate.specs.Negotiation.{Negotiating, LinkCause, at_link as link_failed, HasFrames, HasFailure, HasIn, Has, IsAtRestOrFull as IsNegotiationAtRestOrFull, IsMemoryOr, GoesOn, IsPassed, Polled}
+use Rattle.sasl_gate.specs.Negotiation.{Negotiating, LinkCause, at_link as link_failed, IsOutcomeOut, HasFrames, HasFailure, HasIn, Has, IsAtRestOrFull as IsNegotiationAtRestOrFull, IsMemoryOr, GoesOn, IsPassed, Polled}
 use Rattle.sasl_gate.proofs.Gates.{only_sasl}
 use Rattle.sasl_gate.proofs.Negotiations.{flush_events, goes_flushed, heard_more, held_later}
 use Rattle.amqp_opening.specs.declared.opening.OpeningPoll.{OpeningPoll}
@@ -85,7 +86,7 @@ negotiation_with : {L X : Type 0} (m : Mechanism X) (p : Phase) (n : Negotiating
 negotiation_with m HeaderPhase n w events h = record { read = h.read; wrote = h.wrote; held = h.held }
 negotiation_with m Frames n w events h = record { given = h.given; sent = h.sent; heard = h.heard; wrote = h.wrote; framed = h.framed; held = h.held }
 negotiation_with m (Failed e) n w events h =
-    record { given = h.given; sent = h.sent; heard = h.heard; wrote = h.wrote; framed = h.framed; held = h.held; cause = h.cause; after = h.after }
+    record { given = h.given; sent = h.sent; heard = h.heard; wrote = h.wrote; framed = h.framed; held = h.held; cause = h.cause; after = h.after; told = h.told }
 
 at_with : {L X : Type 0} (m : Mechanism X) (s : Bool) (stage : Stage) (n : Negotiating L X) (w : L) (events : List LinkEvent) → HasAt m s stage n events → HasAt m s stage (record n { codec = record n.codec { link = w } }) events
 at_with m s Idle n w events h = absurd h
@@ -185,8 +186,8 @@ awaits_moved m o c before after more bytes stage r i w out h =
 
 -- it failed behind an exchange that has passed
 passed_ended : {X : Type 0} (m : Mechanism X) (x : X) (e : NegotiationError) (rest unwritten : List ℕ) (events : List LinkEvent) (cause : IsSaslCause m x e events) (h : HasPassed m x rest unwritten events)
-    → IsSaslCauseAfter m x e events h.given h.sent cause → HasEnding m true x e events
-passed_ended m x e rest unwritten events cause h about =
+    → IsSaslCauseAfter m x e events h.given h.sent cause → IsOutcomeOut e events h.sent → HasEnding m true x e events
+passed_ended m x e rest unwritten events cause h about told =
     record {
       guarded = inr (rest, unwritten, h);
       cause = cause;
@@ -201,12 +202,25 @@ passed_ended m x e rest unwritten events cause h about =
         behind = inr (h.turn, refl);
         held = h.held;
         about = about;
+        told = told;
       };
     }
 
+-- an error of the link is of no outcome
+link_told : (e : NegotiationError) (events : List LinkEvent) (sent : List SaslBody) → LinkCause e events → IsOutcomeOut e events sent
+link_told (Memory a) events sent c = tt
+link_told (ProtocolHeaderMismatch h) events sent c = tt
+link_told NotImplemented events sent c = tt
+link_told (SaslError code payload) events sent c = absurd c
+link_told (ScramError kind) events sent c = tt
+link_told (Io kind) events sent c = tt
+link_told DecodeError events sent c = tt
+link_told IllegalState events sent c = tt
+link_told FramingError events sent c = tt
+
 -- the link failed
 link_ending : {X : Type 0} (m : Mechanism X) (s : Bool) (x : X) (e : NegotiationError) (rest unwritten : List ℕ) (events : List LinkEvent) → HasIntro s m x rest unwritten events → LinkCause e events → HasEnding m s x e events
-link_ending m true x e rest unwritten events h c = passed_ended m x e rest unwritten events (in_negotiation (link_failed c)) h tt
+link_ending m true x e rest unwritten events h c = passed_ended m x e rest unwritten events (in_negotiation (link_failed c)) h tt (link_told e events h.sent c)
 link_ending m false x e rest unwritten events h c = record { guarded = (unwritten, h.wrote); cause = at_link c; exchange = tt }
 
 ends_link : {L X : Type 0} (m : Mechanism X) (o : Opened L X) (e : NegotiationError) (events : List LinkEvent) → Awaits m o events → LinkCause e events → HasEnding m o.has_sasl o.negotiation.exchange e events
@@ -324,7 +338,7 @@ ran_exchanged link m o left stage s out t =
 header_ending : {X : Type 0} (m : Mechanism X) (s : Bool) (x : X) (rest unwritten : List ℕ) (events : List LinkEvent) → HasIntro s m x rest unwritten events → 8 ≤ length rest → (take 8 rest ≡ amqp_header → ⊥)
     → HasEnding m s x NotImplemented events
 header_ending m true x rest unwritten events h l ne =
-    passed_ended m x NotImplemented rest unwritten events (at_amqp_header h.given h.sent rest h.heard h.held h.turn l ne refl) h (refl, refl)
+    passed_ended m x NotImplemented rest unwritten events (at_amqp_header h.given h.sent rest h.heard h.held h.turn l ne refl) h (refl, refl) tt
 header_ending m false x rest unwritten events h l ne =
     record {
       guarded = (unwritten, h.wrote);
@@ -408,6 +422,7 @@ failed_ending m s n e events t f =
         behind = inl refl;
         held = f.held;
         about = f.after;
+        told = f.told;
       };
     })
 

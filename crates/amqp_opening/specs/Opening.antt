@@ -14,7 +14,7 @@ use Rattle.sasl_exchange.specs.declared.error.NegotiationError.TheVariants.{Memo
 use Rattle.sasl_exchange.specs.declared.exchange.Exchange.{Ghosts as Mechanism}
 use Rattle.sasl_exchange.specs.declared.exchange.Turn.TheVariants.{Pass}
 use Rattle.sasl_gate.specs.Frames.{HasSaslFrame, Heard, said, sasl_header, IsOnlySasl}
-use Rattle.sasl_gate.specs.Negotiation.{Negotiating, LinkCause, IsCaused, IsHeard, IsCauseAfter, IsHeldUp, IsAtRest as IsNegotiationAtRest, Has}
+use Rattle.sasl_gate.specs.Negotiation.{Negotiating, LinkCause, IsCaused, IsHeard, IsCauseAfter, IsOutcomeOut, IsHeldUp, IsAtRest as IsNegotiationAtRest, Has}
 use Rattle.amqp_opening.specs.declared.opening.OpeningPoll.{OpeningPoll}
 use Rattle.amqp_opening.specs.declared.opening.OpeningPoll.TheVariants as poll
 use Rattle.amqp_opening.specs.declared.opening.Stage.{Stage}
@@ -117,7 +117,8 @@ IsSaslCauseAfter m x e events given sent (in_negotiation cause) = IsCauseAfter (
 IsSaslCauseAfter m x e events given sent (at_amqp_header read told rest heard held turn long other is) = (read ≡ given) × (told ≡ sent)
 
 -- an exchange that has ended by an error: the bodies that it had taken and those that were queued, each in a frame that spells it, and
--- then nothing, or the AMQP header once it had passed; of all that, `out` was not written
+-- then nothing, or the AMQP header once it had passed; of all that, `out` was not written. Where it ended by an outcome that refuses, its
+-- bodies were written
 pub record HasEndedSasl {X : Type 0} (m : Mechanism X) (x : X) (e : NegotiationError) (events : List LinkEvent) (cause : IsSaslCause m x e events) : Type 0 where
   pub given : List SaslBody
   pub sent : List SaslBody
@@ -129,6 +130,7 @@ pub record HasEndedSasl {X : Type 0} (m : Mechanism X) (x : X) (e : NegotiationE
   pub behind : (after ≡ []) ⊎ ((m.turn_of x ≡ Pass) × (after ≡ amqp_header))
   pub held : m.holds x given sent
   pub about : IsSaslCauseAfter m x e events given sent cause
+  pub told : IsOutcomeOut e events sent
 
 -- the exchange of an opening that has ended, if it has one
 abbrev pub HasEnded : {X : Type 0} (m : Mechanism X) (s : Bool) (x : X) (e : NegotiationError) (events : List LinkEvent) → IsOpeningCause m s x e events → Type 0

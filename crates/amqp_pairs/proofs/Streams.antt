@@ -1,5 +1,5 @@
 -- What is read of a SASL layer is what was written of it.
-use Rattle.std.proofs.Common.{◌≡◌, ◌+◌, ◌<◌, ◌≤◌, ◌^◌, inl, inr, ℕ, List, [], ◌∷◌, ◌++◌, length, take, drop, refl, sym, ap, ◌∙◌, subst, arith, append_assoc, length-append, append-nil, All, flat_map}
+use Rattle.std.proofs.Common.{◌≡◌, ◌⊎◌, ◌+◌, ◌<◌, ◌≤◌, ◌^◌, inl, inr, ℕ, List, [], ◌∷◌, ◌++◌, length, take, drop, refl, sym, ap, ◌∙◌, subst, arith, append_assoc, length-append, append-nil, All, flat_map}
 use Rattle.std.proofs.Math.Path.{ap₂}
 use Rattle.std.proofs.lemmas.List.{take_at, drop_at}
 use Rattle.std.proofs.lemmas.List.Elements.{All-head, All-tail}
@@ -12,7 +12,7 @@ use Rattle.amqp_value.proofs.Complete.{begins_no_other}
 use Rattle.amqp_wire.specs.Frame.{frame_of}
 use Rattle.amqp_wire.specs.Size.{size_of}
 use Rattle.amqp_wire.proofs.Cuts.{size_of-append}
-use Rattle.sasl_gate.specs.Frames.{Carries, HasSaslFrame, IsSaslFrame, canonical_of, sasl_frame, sasl_header}
+use Rattle.sasl_gate.specs.Frames.{Carries, HasSaslFrame, Heard, IsSaslFrame, canonical_of, said, sasl_frame, sasl_header}
 use Rattle.amqp_pairs.specs.Streams.{AreFirstSent, IsAfterSasl, IsPart, IsRead}
 
 -- ---- one frame
@@ -150,3 +150,30 @@ all_said read rest after given sent h p =
       sym (append-nil given) ∙ ap (λ (u : List SaslBody). given ++ u) (sym none) ∙ sym r.sent_is,
       left ∙ ap (λ (u : List SaslBody). flat_map sasl_frame u ++ after) none,
     )
+
+-- ---- what is read of bytes that were written, whatever follows them
+
+-- a rest that begins with no whole frame
+short_not : (piece more rest : List ℕ) (x : SaslBody) → IsSaslFrame piece x → IsPart rest ⊎ (length rest < 8) → rest ≡ piece ++ more → ⊥
+short_not piece more rest x f (inl p) e = part_not piece more rest x f p e
+short_not piece more rest x f (inr few) e = omega (arith, few, (frame_size piece more x f).1, ap length e, length-append piece more)
+
+frames_taken_of : (tail after rest : List ℕ) (given sent : List SaslBody) → All HasSaslFrame sent → IsPart rest ⊎ (length rest < 8) → Carries tail given rest
+    → tail ≡ flat_map sasl_frame sent ++ after → (others : List SaslBody) × (given ≡ sent ++ others)
+frames_taken_of tail after rest given [] a p c e = (given, refl)
+frames_taken_of tail after rest [] (y ∷ ys) a p c e =
+    absurd (short_not (sasl_frame y) (flat_map sasl_frame ys ++ after) rest y (written y (All-head HasSaslFrame y ys a)) p
+    (sym c ∙ e ∙ append_assoc (sasl_frame y) (flat_map sasl_frame ys) after))
+frames_taken_of tail after rest (x ∷ xs) (y ∷ ys) a p (piece, more, d, g, c) e =
+    let h = written y (All-head HasSaslFrame y ys a) in
+    let same = same_piece piece (sasl_frame y) more (flat_map sasl_frame ys ++ after) x y g h (sym d ∙ e ∙ append_assoc (sasl_frame y) (flat_map sasl_frame ys) after) in
+    let body : x ≡ y = same_body piece (sasl_frame y) x y g h same.0 in
+    let r = frames_taken_of more after rest xs ys (All-tail HasSaslFrame y ys a) p c same.1 in
+    (r.0, ap₂ (λ (b : SaslBody) (zs : List SaslBody). b ∷ zs) body r.1)
+
+-- an end that has read these bodies and has no whole frame left was given them
+pub all_taken : (read after rest : List ℕ) (given sent : List SaslBody) → All HasSaslFrame sent → IsPart rest ⊎ (length rest < 8) → Heard read given rest
+    → read ≡ said sent ++ after → (others : List SaslBody) × (given ≡ sent ++ others)
+all_taken read after rest given sent a p h e =
+    let both : sasl_header ++ h.tail ≡ sasl_header ++ (flat_map sasl_frame sent ++ after) = sym h.header ∙ e in
+    frames_taken_of h.tail after rest given sent a p h.frames (ap (drop 8) both)
