@@ -69,7 +69,7 @@ same_number n k h = same_key n k (sym (unsigned_tied n k) ∙ ap is_eq h)
 entry_of : (given : List LinkInput) (x : LeftDelivery) → IsAmong (input.Left x) given → x.delivery_id < 4294967296 → Entry given (x.delivery_id, record { link = x.handle; tag = x.delivery_tag })
 entry_of given x a s = record { delivery = x; among = a; is_handle = refl; is_number = refl; is_tag = refl; short = s }
 
-entered_keeps : (P : ℕ × Delivered → Type 0) → (number : ℕ) (v : Delivered) → ((k : ℕ) → number ≡ k → P (k, v)) → (ds : List (ℕ × Delivered)) → Each P ds → Each P (entered number v ds)
+pub entered_keeps : (P : ℕ × Delivered → Type 0) → (number : ℕ) (v : Delivered) → ((k : ℕ) → number ≡ k → P (k, v)) → (ds : List (ℕ × Delivered)) → Each P ds → Each P (entered number v ds)
 entered_keeps P number v p [] h = (p number refl, tt)
 entered_keeps P number v p (d ∷ ds) h = by (nat_cmp number d.0) refl (entered_keeps P number v p ds h.1)
   where
@@ -85,7 +85,7 @@ numbered_by false given x ds a s h =
     let v : Delivered = record { link = x.handle; tag = x.delivery_tag } in
     entered_keeps (Entry given) x.delivery_id v (λ k e. subst (λ (n : ℕ). Entry given (n, v)) e (entry_of given x a s)) ds h
 
-forgotten_keeps : (P : ℕ × Delivered → Type 0) → (number : ℕ) (ds : List (ℕ × Delivered)) → Each P ds → Each P (forgotten number ds)
+pub forgotten_keeps : (P : ℕ × Delivered → Type 0) → (number : ℕ) (ds : List (ℕ × Delivered)) → Each P ds → Each P (forgotten number ds)
 forgotten_keeps P number [] h = tt
 forgotten_keeps P number (d ∷ ds) h = by (nat_eq number d.0) (forgotten_keeps P number ds h.1)
   where
@@ -114,17 +114,17 @@ last_so : (b c : Bool) → (b && c) ≡ true → c ≡ true
 last_so true c h = h
 last_so false c h = absurd cc
 
-between_within : (first last : ℕ) → last < 4294967296 → (n : ℕ) → (nat_le first n && nat_le n last) ≡ true → is_within first last n ≡ true
+pub between_within : (first last : ℕ) → last < 4294967296 → (n : ℕ) → (nat_le first n && nat_le n last) ≡ true → is_within first last n ≡ true
 between_within first last l n h =
     let a : first ≤ n = at_most first n (first_so (nat_le first n) (nat_le n last) h) in
     let b : n ≤ last = at_most n last (last_so (nat_le first n) (nat_le n last) h) in
     le-leb (ahead first n) (ahead first last) (ahead_between first last n l a b)
 
-from_within : (first last : ℕ) → last < first → first < 4294967296 → (n : ℕ) → n < 4294967296 → nat_le first n ≡ true → is_within first last n ≡ true
+pub from_within : (first last : ℕ) → last < first → first < 4294967296 → (n : ℕ) → n < 4294967296 → nat_le first n ≡ true → is_within first last n ≡ true
 from_within first last o f n s h =
     le-leb (ahead first n) (ahead first last) (ahead_from first last n o f s (at_most first n h))
 
-up_to_within : (first last : ℕ) → last < first → first < 4294967296 → (n : ℕ) → nat_le n last ≡ true → is_within first last n ≡ true
+pub up_to_within : (first last : ℕ) → last < first → first < 4294967296 → (n : ℕ) → nat_le n last ≡ true → is_within first last n ≡ true
 up_to_within first last o f n h =
     le-leb (ahead first n) (ahead first last) (ahead_up_to first last n o f (at_most n last h))
 
