@@ -22,12 +22,13 @@ use Rattle.amqp_served.specs.declared.news.News.{News}
 use Rattle.amqp_served.specs.declared.news.News.TheVariants as news
 use Rattle.amqp_served_news.specs.News.{is_quiet_begin, is_quiet_accept, is_quiet_receive, is_quiet_settle, quietly, news_of_session, news_of_connection, news_of_link, news_of_lem}
 use Rattle.amqp_serve.specs.Answers.{counted_all}
+use Rattle.amqp_serve.specs.Deeds.{deeds_of, deeds_in}
 use Rattle.amqp_serve.specs.Endings.{WasServed}
 use Rattle.amqp_serve.specs.Ran.{Turn, calls, polls, waits, tells, forgets, IsTurn, Ran, told}
 use Rattle.amqp_transport.specs.declared.frames.Frame.{Frame}
 use Rattle.listen_laws.specs.Carried.{carried, AreAnew}
 use Rattle.listen_laws.specs.Ended.{ended_in}
-use Rattle.listen_laws.specs.Laws.{IsIdle, deeds_of, deeds_in}
+use Rattle.listen_laws.specs.Laws.{IsIdle}
 use Rattle.listen_laws.proofs.Totals.{total, total_nil, total_cons, total_append, value_weight}
 use Rattle.listen_laws.proofs.Weights.{is_given, given_of, of_input, of_called, of_place, of_links}
 use Rattle.listen_laws.proofs.Sessions.{of_reply, of_answer, of_kept, of_endpoint, of_sessions}

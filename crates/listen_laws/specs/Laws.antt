@@ -1,13 +1,14 @@
 -- What an end over a link has heard whose answers give deliveries (OASIS AMQP 1.0, part 2, section 2.6.14).
-use Rattle.std.specs.Prelude.{◌≡◌, ◌≤◌, ℕ, Bool, length, List, [], ◌∷◌, ◌++◌}
+use Rattle.std.specs.Prelude.{◌≡◌, ◌≤◌, ℕ, Bool, length, List, []}
 use Rattle.amqp_wire.specs.declared.link.Link.{Ghosts}
 use Rattle.amqp_links.specs.State.{seen as linked, no_links}
 use Rattle.amqp_sessions.specs.State.{seen, none_begun}
 use Rattle.amqp_end.specs.declared.end.End.{End}
-use Rattle.amqp_end.specs.Deeds.{Deed, heard_by}
+use Rattle.amqp_end.specs.Deeds.{heard_by}
 use Rattle.amqp_serve.specs.Answers.{counted_all}
+use Rattle.amqp_serve.specs.Deeds.{deeds_in}
 use Rattle.amqp_serve.specs.Endings.{WasServed}
-use Rattle.amqp_serve.specs.Ran.{Turn, calls, polls, waits, tells, forgets, IsTurn, Ran, told}
+use Rattle.amqp_serve.specs.Ran.{Turn, Ran, told}
 use Rattle.listen_laws.specs.Carried.{carried, AreAnew}
 use Rattle.listen_laws.specs.Ended.{ended_in}
 
@@ -17,22 +18,6 @@ pub record IsIdle {L : Type 0} (e : End L) : Type 0 where
   pub sessions : seen e.sessions ≡ none_begun
   pub links : linked e.links ≡ no_links accepts
   pub replies : e.replies.items ≡ []
-
--- what an end did in a turn, the newest first
-abbrev pub deeds_of : {L : Type 0} (link : Ghosts L) (old : End L) (t : Turn) (new : End L) → IsTurn link old t new
-    → List Deed
-deeds_of link old (calls name call) new k = k.2.deeds
-deeds_of link old polls new k = k.1.deeds
-deeds_of link old waits new k = []
-deeds_of link old (tells rs) new k = []
-deeds_of link old (forgets name) new k = []
-
--- in turns
-unfoldable pub deeds_in : {L : Type 0} (link : Ghosts L) (old : End L) (ts : List Turn) (new : End L)
-    → Ran link old ts new → List Deed
-unfolding Ran
-deeds_in link old [] new k = []
-deeds_in link old (t ∷ ts) new k = deeds_of link k.0 t new k.2 ++ deeds_in link old ts k.0 k.1
 
 -- of the messages that came in answers, each for a delivery that the frames have ended which the sessions heard
 abbrev pub MessagesCame : {L : Type 0} → Ghosts L → Type 0

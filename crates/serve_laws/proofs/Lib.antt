@@ -1,4 +1,5 @@
 pub mod History
+pub mod Deeds
 pub mod Frames
 pub mod Replies
 pub mod Calls

@@ -17,6 +17,7 @@ use Rattle.amqp_end.specs.Goes.{on_connection}
 use Rattle.amqp_end_streams.specs.Streams.{Serves}
 use Rattle.amqp_session_world.specs.Carried.{KeepsPromises}
 use Rattle.amqp_session_world.specs.Lives.{Life, unlived, lived}
+use Rattle.amqp_serve.specs.Deeds.{deeds_in}
 use Rattle.amqp_serve.specs.Ran.{Turn, calls, polls, waits, tells, forgets, IsTurn, Ran, told}
 use Rattle.answer_laws.specs.Answers.{AreOfSessions, IsTold}
 
@@ -100,3 +101,9 @@ LivesGo {L} link =
     (first : L) (cs : List (ℕ × ConnectionCall)) (answers : List NamedReply) (old new : End L) (ts : List Turn)
     (l : Life) (ran : Ran link old ts new) → Lived link first cs answers old l
     → Lived link first (called ts ++ cs) (answers ++ told ts) new (life_of link old ts new ran l)
+
+-- what it did since is what it does in those turns, and before
+abbrev pub LivesDo : {L : Type 0} → Ghosts L → Type 0
+LivesDo {L} link =
+    (old new : End L) (ts : List Turn) (l : Life) (ran : Ran link old ts new)
+    → (life_of link old ts new ran l).deeds ≡ deeds_in link old ts new ran ++ l.deeds
