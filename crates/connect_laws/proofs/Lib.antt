@@ -1,0 +1,10 @@
+mod Bringing
+mod Known
+mod Links
+mod Ranges
+mod Runs
+mod Sent
+mod Sides
+mod Steps
+mod Told
+mod Walks
