@@ -33,7 +33,7 @@ between_in d ds =
 around_in : (d : Disposition) (ds : List (ℕ × Delivered)) → last_of d < d.first → Each (IsIn d) (numbers_around d.first (last_of d) ds)
 around_in d ds o =
     each_both (IsIn d) (numbers_from d.first ds) (numbers_up_to (last_of d) ds)
-    (each_that (IsIn d) (nat_le d.first) (λ n h s. from_within d.first (last_of d) o s.first n s.number h) (keys_of ds))
+    (each_that (IsIn d) (nat_le d.first) (λ n h s. from_within d.first (last_of d) o s.first n s.delivery h) (keys_of ds))
     (each_that (IsIn d) (λ (n : ℕ). nat_le n (last_of d)) (λ n h s. up_to_within d.first (last_of d) o s.first n h) (keys_of ds))
 
 all_covered : (d : Disposition) (ds : List (ℕ × Delivered)) → Each (IsIn d) (covered d.first (last_of d) ds)

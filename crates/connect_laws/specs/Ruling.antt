@@ -71,7 +71,7 @@ told_in old (x ∷ xs) new h = told_of x old ++ told_in h.0 xs new h.1.1
 pub record AreShort (d : Disposition) (number : ℕ) : Type 0 where
   pub first : d.first < 4294967296
   pub last : last_of d < 4294967296
-  pub number : number < 4294967296
+  pub delivery : number < 4294967296
 
 -- The delivery with that tag has left on a session, and a Disposition of a receiver was heard there that covers its number and says that outcome.
 pub record Rules (heard : List (ℕ × LinkInput)) (tag : List ℕ) (outcome : Outcome) : Type 0 where

@@ -2,7 +2,6 @@
 ghost use Rattle.connect_laws.specs.Bringing.{SessionsBring};
 ghost use Rattle.connect_laws.specs.Ruling.{LinksTellOutcomes};
 
-#[tactic(auto, using(crate::proofs::Told::links_tell_outcomes))]
 /// An outcome that a call is told is that of the message which the call that it names has sent: the message was sent settled, and so it was
 /// accepted; or its delivery has left on a session, under a number, and the links have heard a Disposition of a receiver on that session that
 /// covers the number and says that outcome. The premises (`Asked`): the links do this from the start, and their calls attach senders, send and ask
