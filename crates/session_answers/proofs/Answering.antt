@@ -83,16 +83,14 @@ meant_stands p x s k read h reply.Ended m = record {
 meant_stands p x s k read h (reply.SessionError e) m = tt
 meant_stands p x s k read h reply.Pending m = tt
 
+heard_by : (p : Past) (x : Framed) (s : State) → Contains p.read x → Tables p s → AllStand (adding (put_heard x s) p) s.replies → AnswersAtMostOne x s → AllStand (adding (put_heard x s) p) (heard x s).replies
+heard_by p x s read h k (inl same) = same_stand (adding (put_heard x s) p) s.replies (heard x s).replies same k
+heard_by p x s read h k (inr one) =
+    same_stand (adding (put_heard x s) p) (s.replies ++ record { name = one.name; reply = of.Session one.answer } ∷ []) (heard x s).replies one.answers
+    (one_more (adding (put_heard x s) p) one.name one.answer s.replies k (meant_stands p x s one read h one.answer one.meant))
+
 pub heard_answers : (p : Past) (x : Framed) (s : State) → Contains p.read x → Tables p s → AllStand p s.replies → AllStand (adding (put_heard x s) p) (heard x s).replies
-heard_answers p x s read h k = by (answers_at_most_one x s)
-  where
-    abbrev q : Past
-    q = adding (put_heard x s) p
-    by : AnswersAtMostOne x s → AllStand q (heard x s).replies
-    by (inl same) = same_stand q s.replies (heard x s).replies same (answers_grow p q s.replies (grows_adding (put_heard x s) p) k)
-    by (inr one) =
-        same_stand q (s.replies ++ record { name = one.name; reply = of.Session one.answer } ∷ []) (heard x s).replies one.answers
-        (one_more q one.name one.answer s.replies (answers_grow p q s.replies (grows_adding (put_heard x s) p) k) (meant_stands p x s one read h one.answer one.meant))
+heard_answers p x s read h k = heard_by p x s read h (answers_grow p (adding (put_heard x s) p) s.replies (grows_adding (put_heard x s) p) k) (answers_at_most_one x s)
 
 -- ---- calls and stops
 

@@ -77,24 +77,30 @@ like q given s t s' e k = subst (λ (u : State). Step q given s u) (sym e) k
 same : (q : Past) (s s' : State) → s' ≡ s → AreStanding q s → Step q [] s s'
 same q s s' e k = like q [] s s s' e (quiet q s s refl k)
 
+-- a session that answers the peer's Begin, before it hears what came since
+abbrev joining : ℕ → SessionNumbers → ℕ → ℕ → IncomingSession → State → State
+joining name x channel limit incoming s = joined name incoming.channel (entered name channel (session.accepted (settings x limit) channel incoming) s)
+
+hears_early : (q : Past) (s t : State) (remote : ℕ) (o : Option (List Framed)) → lookup (nat_eq remote) t.early ≡ o → t.output ≡ s.output → Tables q t → AllStand q t.replies → Step q [] s (heard_early_at o remote t)
+hears_early q s t remote None e out h k = quiet q s t out (standing_of q t h k)
+hears_early q s t remote (Some xs) e out h k =
+    let u : State = record t { early = swap_remove_entry (nat_eq remote) t.early } in
+    let own : All (Contains q.read) xs = all_found (λ (e : ℕ × List Framed). All (Contains q.read) e.1) remote xs t.early e h.early in
+    let left : Tables q u = record { endpoints = h.endpoints; early = all_gone (λ (e : ℕ × List Framed). All (Contains q.read) e.1) (nat_eq remote) t.early h.early } in
+    let all = all_heard q xs u own left k in
+    record {
+      written = put_all xs u;
+      output = all_output q xs u ∙ ap (λ (o : List Framed). o ++ values_of (put_all xs u)) out;
+      standing = standing_of (adding (put_all xs u) q) (heard_all xs u) all.0 all.1;
+    }
+
 accepts : (q : Past) (name : ℕ) (x : SessionNumbers) (channel limit : ℕ) (incoming : IncomingSession) (s : State) → Contains q.read (framed_of (asking incoming)) → Contains q.accepted name → AreStanding q s
     → Step q [] s (accepted name x channel limit incoming s)
-accepts q name x channel limit incoming s read there k = by (lookup (nat_eq incoming.channel) t.early) refl
-  where
-    abbrev t : State
-    t = joined name incoming.channel (entered name channel (session.accepted (settings x limit) channel incoming) s)
-    tables : Tables q t
-    tables = joined_tables q name x channel limit incoming s (tables_of q s k)
-    answers : AllStand q t.replies
-    answers = one_more q name reply.Session s.replies k.replies ((framed_of (asking incoming), (tt, read)), inr there)
-    by : (o : Option (List Framed)) → lookup (nat_eq incoming.channel) t.early ≡ o → Step q [] s (heard_early_at o incoming.channel t)
-    by None e = quiet q s t refl (standing_of q t tables answers)
-    by (Some xs) e =
-        let u : State = record t { early = swap_remove_entry (nat_eq incoming.channel) t.early } in
-        let own : All (Contains q.read) xs = all_found (λ (e : ℕ × List Framed). All (Contains q.read) e.1) incoming.channel xs t.early e tables.early in
-        let left : Tables q u = record { endpoints = tables.endpoints; early = all_gone (λ (e : ℕ × List Framed). All (Contains q.read) e.1) (nat_eq incoming.channel) t.early tables.early } in
-        let all = all_heard q xs u own left answers in
-        record { written = put_all xs u; output = all_output q xs u; standing = standing_of (adding (put_all xs u) q) (heard_all xs u) all.0 all.1 }
+accepts q name x channel limit incoming s read there k =
+    let t : State = joining name x channel limit incoming s in
+    let tables : Tables q t = joined_tables q name x channel limit incoming s (tables_of q s k) in
+    let answers : AllStand q t.replies = one_more q name reply.Session s.replies k.replies ((framed_of (asking incoming), (tt, read)), inr there) in
+    hears_early q s t incoming.channel (lookup (nat_eq incoming.channel) t.early) refl refl tables answers
 
 moves : (m : Move) (q : Past) (s : State) → ((e : ℕ × ℕ) → Contains (endings_in m) e → Contains q.endings e) → AreStanding q s → Step q [] s (on m s)
 moves (move.Begun name x channel limit) q s g k =

@@ -30,7 +30,7 @@ use Rattle.amqp_session.specs.Frames.{heard_unanswered, heard_mapped, heard_endi
 use Rattle.amqp_session.specs.Hold.{first_leaving, releasing, released, reporting}
 use Rattle.amqp_session.specs.Links.{input_at, attach_at, attach_read, detach_at, transfer_at, hand_flow, echo, is_astray, flow_at}
 use Rattle.amqp_session.specs.State.{State, Framed, Made, handing, refuses}
-use Rattle.amqp_session.specs.Windows.{windows_flowed, transfer_read, is_report_due}
+use Rattle.amqp_session.specs.Windows.{session_flow, windows_flowed, transfer_read, is_report_due}
 use Rattle.amqp_sessions.specs.Laws.{IsEnd}
 
 -- an End is among these frames
@@ -153,7 +153,9 @@ detach_moves None x s = failing_moves fault.UnattachedHandle s
 detach_moves (Some r) x s = still s _ refl refl
 
 report_moves : (c : Bool) (s t : State) → t.output ≡ s.output → t.state ≡ s.state → Moves s (if c then reporting t else t)
-report_moves true s t o h = says s _ _ (ap (λ (xs : List Framed). xs ++ _) o) h
+report_moves true s t o h =
+    let x : Framed = record { channel = t.channel; body = b.Flow (session_flow t.windows) } in
+    says s (reporting t) x (ap (λ (xs : List Framed). xs ++ x ∷ []) o) h
 report_moves false s t o h = still s t o h
 
 transfer_moves : (o : Option Role) (x : Transfer) (payload : List ℕ) (s : State) → Moves s (transfer_at o x payload s).state

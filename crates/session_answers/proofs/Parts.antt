@@ -72,7 +72,8 @@ written_more Kind name p xs more ys e k =
 
 contains_under : (name : ℕ) (xs : List Framed) (x : Framed) → Contains xs x → Contains (under name xs) (name, x)
 contains_under name xs x k =
-    let within : k.0 < length (under name xs) = omega (arith, k.1, length-map xs (λ (y : Framed). (name, y))) in
+    let long : length (under name xs) ≡ length xs = length-map xs (λ (y : Framed). (name, y)) in
+    let within : k.0 < length (under name xs) = omega (arith, k.1, long) in
     (k.0, within, get_or-map (λ (y : Framed). (name, y)) xs k.0 x (name, x) k.1 ∙ ap (λ (y : Framed). (name, y)) k.2)
 
 pub end_written : (name : ℕ) (p : List (ℕ × Framed)) (xs : List Framed) → HasEnd xs → HasWritten IsEnd name (p ++ under name xs)

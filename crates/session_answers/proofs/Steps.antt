@@ -90,10 +90,10 @@ put_refusing name (Some e) = under name (having_refused e).session.output
 
 -- ---- the same sessions, or fewer
 
-record Keeps (p : Past) (s t : State) : Type 0 where
-  endpoints : All (EndpointStands p) s.endpoints → All (EndpointStands p) t.endpoints
-  early : t.early ≡ s.early
-  output : t.output ≡ s.output
+pub record Keeps (p : Past) (s t : State) : Type 0 where
+  pub endpoints : All (EndpointStands p) s.endpoints → All (EndpointStands p) t.endpoints
+  pub early : t.early ≡ s.early
+  pub output : t.output ≡ s.output
 
 keeps_same : (p : Past) (s t : State) → t.endpoints ≡ s.endpoints → t.early ≡ s.early → t.output ≡ s.output → Keeps p s t
 keeps_same p s t a b c = record { endpoints = λ h. subst (All (EndpointStands p)) (sym a) h; early = b; output = c }
