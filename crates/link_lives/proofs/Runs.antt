@@ -21,7 +21,7 @@ use Rattle.link_lives.proofs.Going.{keeps_same, keeps_then, told_more}
 use Rattle.link_lives.proofs.Deeds.{one_link_lives}
 
 -- what went, and what is to go
-both_go : (gave more new mid old xs ys : List Told) → gave ++ mid ≡ old ++ xs → more ++ new ≡ mid ++ ys → (gave ++ more) ++ new ≡ old ++ (xs ++ ys)
+pub both_go : (gave more new mid old xs ys : List Told) → gave ++ mid ≡ old ++ xs → more ++ new ≡ mid ++ ys → (gave ++ more) ++ new ≡ old ++ (xs ++ ys)
 both_go gave more new mid old xs ys p q =
     append_assoc gave more new ∙ (ap (λ zs. gave ++ zs) q ∙ (sym (append_assoc gave mid ys) ∙ (ap (λ zs. zs ++ ys) p ∙ append_assoc old xs ys)))
 
@@ -52,7 +52,7 @@ part_of_event session (Wrote other x) = append-nil (if nat_eq other session then
 part_of_event session (Sent m) = refl
 part_of_event session (Answered a) = refl
 
-on_more : (handle : ℕ) (xs ys : List Part) → on handle (xs ++ ys) ≡ on handle xs ++ on handle ys
+pub on_more : (handle : ℕ) (xs ys : List Part) → on handle (xs ++ ys) ≡ on handle xs ++ on handle ys
 on_more handle xs ys = filter-append (λ (x : Part). nat_eq x.transfer.handle handle) xs ys
 
 module _ (handle session n : ℕ) where
@@ -118,7 +118,7 @@ stands_as (Some k) (Some m) l es ps e f = (m, (refl, subst (λ x. Went x es ps m
     some_same : (k l : Called) → Some k ≡ Some l → k ≡ l
     some_same k l h = cc
 
-brought : (handle session n : ℕ) (s : SenderState) (log : List Entry) (t : Side) (v : SenderLives session s (own n log) t) → AreApart handle session n log
+pub brought : (handle session n : ℕ) (s : SenderState) (log : List Entry) (t : Side) (v : SenderLives session s (own n log) t) → AreApart handle session n log
     → on handle (parts_told session (told log)) ≡ on handle (transfers (sending.handed_all s v.moves))
 unfolding brings
 brought handle session n s log t v apart =

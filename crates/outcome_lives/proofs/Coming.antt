@@ -45,7 +45,7 @@ use Rattle.outcome_lives.proofs.Saying.{receivers_say}
 -- ---- the other way round
 
 -- the end speaks, and the other end listens
-hears_back : (e : Side) (steps : List Step) (entries : List Entry) (k : AreCarried steps entries) (c : ℕ) (p : MomentOf e steps entries k.made) (v : ℕ) (y : EndpointState)
+pub hears_back : (e : Side) (steps : List Step) (entries : List Entry) (k : AreCarried steps entries) (c : ℕ) (p : MomentOf e steps entries k.made) (v : ℕ) (y : EndpointState)
     (a : SessionLives v y (sessions_by p.since) p.sessions (sessions_at e k.made.view) p.goes.sessions_did) (q : MomentOf (other e) steps entries k.made) (n : ℕ) (x : EndpointState)
     (l : SessionLives n x (sessions_by q.since) q.sessions (sessions_at (other e) k.made.view) q.goes.sessions_did) → Listens c n x _ _ _ _ q → Speaks c v y _ _ _ _ p a
     → HearsFrom c _ _ _ _ q _ _ _ _ p (heard (moves l.steps)) (session.written y.session (moves a.steps))
@@ -53,11 +53,11 @@ hears_back Client steps entries k c p v y a q n x l listens talks = sessions_hea
 hears_back Listener steps entries k c p v y a q n x l listens talks = sessions_hear Client steps entries k c q n x l p v y a listens talks
 
 -- a receiver's session goes through a life, alone on its channel
-record SpeaksAt (c m : ℕ) (d : Called) (u : ReceiverState) (y : EndpointState) (none : Links) (all : List Both) (last : Sessions) (end : Links) (p : Moment none all last end) : Type 0 where
-  life : SessionLives d.session y (sessions_by p.since) p.sessions last p.goes.sessions_did
-  speaks : Speaks c d.session y none all last end p life
+pub record SpeaksAt (c m : ℕ) (d : Called) (u : ReceiverState) (y : EndpointState) (none : Links) (all : List Both) (last : Sessions) (end : Links) (p : Moment none all last end) : Type 0 where
+  pub life : SessionLives d.session y (sessions_by p.since) p.sessions last p.goes.sessions_did
+  pub speaks : Speaks c d.session y none all last end p life
 
-speaks_at : (acc : Bool) (c m : ℕ) (d : Called) (u : ReceiverState) (y : EndpointState) (all : List Both) (last : Sessions) (end : Links) (p : Moment (no_links acc) all last end) → IsSpeakingReceiver c m d u y (no_links acc) all last end p
+pub speaks_at : (acc : Bool) (c m : ℕ) (d : Called) (u : ReceiverState) (y : EndpointState) (all : List Both) (last : Sessions) (end : Links) (p : Moment (no_links acc) all last end) → IsSpeakingReceiver c m d u y (no_links acc) all last end p
     → SpeaksAt c m d u y (no_links acc) all last end p
 speaks_at acc c m d u y all last end p r =
     let s = sessions_are_new (no_links acc) all last end p r.once.made in
@@ -78,11 +78,11 @@ flow_one : (handle : ℕ) (x : FrameBody) → AreAmong (flow_on handle x) (flow_
 flow_one handle (b.Flow x) = flow_kept x (is_on handle x.handle)
 flow_one handle other = tt
 
-flows_kept : (handle : ℕ) (xs : List FrameBody) → AreAmong (flows_on handle xs) (flows xs)
+pub flows_kept : (handle : ℕ) (xs : List FrameBody) → AreAmong (flows_on handle xs) (flows xs)
 flows_kept handle [] = tt
 flows_kept handle (x ∷ xs) = among_both (flow_on handle x) (flows_on handle xs) (flow_in x) (flows xs) (flow_one handle x) (flows_kept handle xs)
 
-first_among : {X : Type 0} → (xs ys : List X) → AreFirst xs ys → AreAmong xs ys
+pub first_among : {X : Type 0} → (xs ys : List X) → AreFirst xs ys → AreAmong xs ys
 first_among xs ys p = among_whole xs p.later ys p.whole
 
 pub credit_is_carried : CreditIsCarried

@@ -1,0 +1,10 @@
+pub mod Sides
+pub mod Called
+pub mod Going
+pub mod Taking
+pub mod Timing
+pub mod Hearing
+pub mod Calling
+pub mod Accepting
+pub mod Deeds
+pub mod Runs

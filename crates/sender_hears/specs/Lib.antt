@@ -1,0 +1,4 @@
+pub mod Words
+pub mod Lives
+pub mod Deeds
+pub mod Laws
