@@ -214,6 +214,7 @@ deed_told {L} link at d c c' s s' l l' p x k = by d x
   where
     none : AllStand p []
     none = All-nil (λ (r : NamedReply). StandsAs p r.name r.reply)
+
     by : (d : Deed) → IsDeed link at c s l d c' s' l' → AllStand p (told_of d)
     by (end.Tells answers) x = all_told p s.replies answers c.replies l.replies x.3 k
     by (end.TellsFirst name answers) x = first_told p name answers (all_told p s.replies answers c.replies l.replies x.3 k)
@@ -313,11 +314,11 @@ pub behind_both : (a c : List (ℕ × Framed)) (es ds : List Deed) (p : Past) �
 behind_both a c es ds p =
     ap (λ (w : List (ℕ × Framed)). record { written = w; read = (p.read ++ read_by ds) ++ read_by es; accepted = (p.accepted ++ accepted_by ds) ++ accepted_by es; endings = (p.endings ++ endings_by ds) ++ endings_by es }) (append_assoc p.written a c)
     ∙ ap (λ (r : List Framed). record { written = p.written ++ (a ++ c); read = r; accepted = (p.accepted ++ accepted_by ds) ++ accepted_by es; endings = (p.endings ++ endings_by ds) ++ endings_by es })
-      (append_assoc p.read (read_by ds) (read_by es) ∙ ap (λ (u : List Framed). p.read ++ u) (sym (read_then es ds)))
+    (append_assoc p.read (read_by ds) (read_by es) ∙ ap (λ (u : List Framed). p.read ++ u) (sym (read_then es ds)))
     ∙ ap (λ (n : List ℕ). record { written = p.written ++ (a ++ c); read = p.read ++ read_by (es ++ ds); accepted = n; endings = (p.endings ++ endings_by ds) ++ endings_by es })
-      (append_assoc p.accepted (accepted_by ds) (accepted_by es) ∙ ap (λ (u : List ℕ). p.accepted ++ u) (sym (accepted_then es ds)))
+    (append_assoc p.accepted (accepted_by ds) (accepted_by es) ∙ ap (λ (u : List ℕ). p.accepted ++ u) (sym (accepted_then es ds)))
     ∙ ap (λ (e : List (ℕ × ℕ)). record { written = p.written ++ (a ++ c); read = p.read ++ read_by (es ++ ds); accepted = p.accepted ++ accepted_by (es ++ ds); endings = e })
-      (append_assoc p.endings (endings_by ds) (endings_by es) ∙ ap (λ (u : List (ℕ × ℕ)). p.endings ++ u) (sym (endings_then es ds)))
+    (append_assoc p.endings (endings_by ds) (endings_by es) ∙ ap (λ (u : List (ℕ × ℕ)). p.endings ++ u) (sym (endings_then es ds)))
 
 -- what was given, and is to be written still, from the start
 pub given_both : (es ds : List Deed) (out out' : List Framed) (a c : List (ℕ × Framed)) → map framed_of (given_by ds) ++ out ≡ values_of a → map framed_of (given_by es) ++ out' ≡ out ++ values_of c

@@ -69,6 +69,7 @@ moves_then s t u a c = record {
     early : (s.state ≡ state.EndSent) ⊎ HasEnd t.output → (s.state ≡ state.EndSent) ⊎ HasEnd u.output
     early (inl h) = inl h
     early (inr h) = inr (kept_end t.output c.more u.output c.output h)
+
     by : (t.state ≡ state.EndSent) ⊎ HasEnd u.output → (s.state ≡ state.EndSent) ⊎ HasEnd u.output
     by (inl h) = early (a.ended h)
     by (inr h) = inr h

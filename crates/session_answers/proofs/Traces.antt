@@ -61,7 +61,7 @@ near_stands near far near' far' name at act entry l t k =
     let ran : End Piped = t.ran in
     let ds : List Deed = t.goes.deeds in
     let d : DeedsStand (behind m.written l.deeds nothing) ds (seen mid.sessions) (seen ran.sessions) =
-        answers_stand piping at mid.connection (seen mid.sessions) (linked mid.links) ds ran.connection (seen ran.sessions) (linked ran.links) (behind m.written l.deeds nothing) t.goes.did m.standing in
+    answers_stand piping at mid.connection (seen mid.sessions) (linked mid.links) ds ran.connection (seen ran.sessions) (linked ran.links) (behind m.written l.deeds nothing) t.goes.did m.standing in
     let g = goes ds l.deeds (seen mid.sessions) (seen ran.sessions) m.written m.output m.told d in
     let there : Stands ran (lived at ds l) = record { written = g.0; output = g.1.0; standing = g.1.1.0; told = g.1.1.1 } in
     let same : seen near'.sessions ≡ seen ran.sessions = ap (λ (s : Sessions). seen s) t.told.sessions in
