@@ -15,6 +15,8 @@ rtlib = rt.rtlib
 
 _stamps = {}
 _stamp = rtlib.Crate.stamp
+_belows = {}
+_below = rtlib.Crate.below
 _made = rtlib.Crate.__init__
 
 
@@ -23,6 +25,13 @@ def stamp(crate):
     if crate.folder not in _stamps:
         _stamps[crate.folder] = _stamp(crate)
     return _stamps[crate.folder]
+
+
+def below(crate):
+    """The libraries below a crate, found once for each, and not along every path of crates.txt."""
+    if crate.folder not in _belows:
+        _belows[crate.folder] = _below(crate)
+    return _belows[crate.folder]
 
 
 def make(crate, *given, **named):
@@ -35,9 +44,15 @@ def forget(crate):
     _stamps.pop(crate.folder, None)
 
 
+def remember():
+    """From here on each sum is computed once."""
+    rtlib.Crate.stamp, rtlib.Crate.below = stamp, below
+
+
 def crates_of(folder):
     """The crates of a clone, lowest first."""
     os.chdir(os.path.realpath(folder))
-    rtlib.Crate.stamp, rtlib.Crate.__init__ = stamp, make
+    remember()
+    rtlib.Crate.__init__ = make
     rtlib.guarded()
     return sorted(rtlib.crates_below(os.getcwd()), key=lambda it: len(it.below()))

@@ -100,6 +100,15 @@ sending("a Transfer to a sender").hears(frame(4, Transfer(9, 0, tag(0), 0), M), 
 client("a Transfer on a channel that no session has").hears(frame(5, Transfer(0, 0, tag(0), 0), M), wrote=frame(0, Close(Error("amqp:not-found"))))
 client("an End on a channel that no session has").hears(frame(5, End()), wrote=frame(0, Close(Error("amqp:not-found"))))
 client("a Begin of the peer at a client").hears(frame(5, Begin(None)), wrote=frame(0, Close(Error("amqp:not-implemented"))))
+client("a second answer to one Begin").hears(frame(5, Begin(0)), wrote=frame(0, Close(Error("amqp:illegal-state"))))
+client("a Begin on a channel that is taken").hears(frame(4, Begin(0)), wrote=frame(0, Close(Error("amqp:illegal-state"))))
+client("an answer to the Begin of a session that is ended").hears(frame(4, End()), wrote=frame(0, End())) \
+    .hears(frame(4, Begin(0)), wrote=frame(0, Close(Error("amqp:not-found"))))
+client("the channels of a session that is ended are taken again").hears(frame(4, End()), wrote=frame(0, End())) \
+    .call("begin", "@ pending", wrote=frame(0, Begin(None))).hears(frame(4, Begin(0)), replies=["5 session"])
+client("a frame on a channel above the channel-max of both").hears(frame(256, End()), wrote=frame(0, Close(Error("amqp:connection:framing-error"))))
+client("an answer on a channel above it").hears(frame(256, Begin(0)), wrote=frame(0, Close(Error("amqp:connection:framing-error"))))
+client("a frame on the highest channel, which no session has").hears(frame(255, End()), wrote=frame(0, Close(Error("amqp:not-found"))))
 client("a second Open").hears(frame(0, Open("p")), wrote=frame(0, Close(Error("amqp:illegal-state"))))
 
 # ---- Flows (part 2, sections 2.5.6, 2.6.7 and 2.7.4)

@@ -2,6 +2,7 @@
 #![tactic(auto)]
 
 pub use amqp_link_words::{AcceptError, Disposal, LinkCall, LinkReply, NamedLinkReply, Sendable};
+pub use amqp_words;
 pub use call::{Call, SessionCall, SessionNumbers};
 pub use reply::{NamedReply, Reply, SessionReply};
 pub use step::{Act, Step};

@@ -1,7 +1,7 @@
 //! What came of a case.
 use amqp_fields::BaseError;
 use amqp_text::Binary;
-use amqp_value::ValueError;
+use amqp_value::{PayloadError, ValueError};
 use case_files::{NotationError, read_bytes};
 use std::alloc::{AllocError, Global};
 use std::fmt;
@@ -69,6 +69,15 @@ impl From<BaseError> for Refusal {
             BaseError::Memory(error) => Refusal::Memory(error),
             BaseError::Decode => Refusal::Decode,
             BaseError::Size => Refusal::Size,
+        }
+    }
+}
+
+impl From<PayloadError> for Refusal {
+    fn from(error: PayloadError) -> Self {
+        match error {
+            PayloadError::Memory(error) => Refusal::Memory(error),
+            PayloadError::Length => Refusal::Size,
         }
     }
 }

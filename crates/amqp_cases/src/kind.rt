@@ -14,16 +14,24 @@ pub enum Kind {
     Shown,
     /// `.fronts`: bytes, and how many of them the value at their front takes.
     Fronts,
+    /// `.skips`: the same, told without making the value.
+    Skips,
     /// `.sequences`: bytes, and how many values fill them.
     Sequences,
     /// `.hashes`: bytes that values fill, and how many different hashes they have.
     Hashes,
     /// `.bodies`: the body of a frame, and how it is written again.
     Bodies,
+    /// `.sizes`: the body of a frame, and how many bytes are written of it.
+    Sizes,
     /// `.sasl`: the body of a SASL frame, and how it is written again.
     Sasl,
     /// `.messages`: a message, and how it is written again.
     Messages,
+    /// `.pieces`: a message that comes in pieces of seven bytes, and how it is written again.
+    Pieces,
+    /// `.starts`: a message, and where its sections begin and the last ends.
+    Starts,
     /// `.faults`: bytes, and where and why they are no message.
     Faults,
 }
@@ -36,11 +44,15 @@ impl Kind {
             "values" => Some(Kind::Values),
             "shown" => Some(Kind::Shown),
             "fronts" => Some(Kind::Fronts),
+            "skips" => Some(Kind::Skips),
             "sequences" => Some(Kind::Sequences),
             "hashes" => Some(Kind::Hashes),
             "bodies" => Some(Kind::Bodies),
+            "sizes" => Some(Kind::Sizes),
             "sasl" => Some(Kind::Sasl),
             "messages" => Some(Kind::Messages),
+            "pieces" => Some(Kind::Pieces),
+            "starts" => Some(Kind::Starts),
             "faults" => Some(Kind::Faults),
             _ => None,
         }

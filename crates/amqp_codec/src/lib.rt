@@ -10,6 +10,7 @@ pub use amqp_data::{
 };
 pub use amqp_fields::{AnnotationMap, BaseError, FieldMap, TextMap};
 pub use amqp_frames::{FRAME_TYPE_AMQP, FrameBody, decode_body, encode_body};
+pub use amqp_message_pieces::decode_message_pieces;
 pub use amqp_messages::{Body, FromBody, Message, OneOrMore, decode_message, encode_message};
 pub use amqp_performatives::{
     Attach, Begin, Close, Detach, Disposition, End, Flow, Open, Performative, Transfer,
@@ -19,6 +20,8 @@ pub use amqp_sasl_bodies::{
     SaslResponse, decode_sasl, encode_sasl,
 };
 pub use amqp_sections::{Header, MessageId, Properties};
+pub use amqp_sizes::{body_size, performative_size};
+pub use amqp_skips::{section_start, skip_value};
 pub use amqp_termini::{
     Accepted, DeliveryState, Modified, Outcome, Received, Rejected, Released, Source, Target,
     TargetArchetype,

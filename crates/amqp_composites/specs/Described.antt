@@ -1,6 +1,6 @@
 -- Described lists (OASIS AMQP 1.0, part 1, section 1.4).
 use Rattle.std.specs.Prelude.{◌≡◌, List, Option, Some, None, Result, Ok, Err}
-use Rattle.amqp_data.specs.Data.{Amqp, Items, scalar, ulong, symbol, list, described}
+use Rattle.amqp_fields.specs.amqp_data.Data.{Amqp, Items, scalar, ulong, symbol, list, described}
 use Rattle.amqp_fields.specs.declared.error.BaseError.{BaseError}
 use Rattle.amqp_fields.specs.declared.error.BaseError.TheVariants as errors
 use Rattle.amqp_fields.specs.declared.fields.Fields.{Fields}

@@ -1,6 +1,6 @@
 -- Errors: their fields, in the order of the standard (OASIS AMQP 1.0, part 2, section 2.8.14).
 use Rattle.std.specs.Prelude.{None, List, Option, Some, [], refl, ◌∷◌, ◌≡◌}
-use Rattle.amqp_data.specs.Data.{Amqp, Items}
+use Rattle.amqp_fields.specs.amqp_data.Data.{Amqp, Items}
 use Rattle.amqp_fields.specs.Fields.{IsValid, ends_at, field_at, is_symbol, map_with, maybe, of_map, of_string, of_symbol, optional, string_in, symbol_in, trimmed, ◌>>=◌}
 use Rattle.amqp_fields.specs.Again.{IsField, HasKeys, each, field_ends, map_field, optional_is, required_is, string_field, symbol_field}
 use Rattle.amqp_composites.specs.declared.error.Error.{Error}

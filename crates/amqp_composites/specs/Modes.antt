@@ -1,6 +1,6 @@
 -- Roles and settle modes (OASIS AMQP 1.0, part 2, sections 2.8.1 to 2.8.3).
 use Rattle.std.specs.Prelude.{◌≡◌, ℕ, Bool, true, false, nat_eq, IsTrue, Option, Some, None, refl, ◌==◌, if◌then◌else◌}
-use Rattle.amqp_data.specs.Data.{Amqp, scalar, boolean, ubyte}
+use Rattle.amqp_fields.specs.amqp_data.Data.{Amqp, scalar, boolean, ubyte}
 use Rattle.amqp_fields.specs.Again.{IsField, Each}
 use Rattle.amqp_composites.specs.declared.modes.Role.{Role}
 use Rattle.amqp_composites.specs.declared.modes.Role.TheVariants as role

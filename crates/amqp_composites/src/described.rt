@@ -1,14 +1,14 @@
 //! Described lists, as values (OASIS AMQP 1.0, part 1, section 1.4).
 ghost use Rattle.std.specs.Prelude.{◌≡◌, Option, Some};
-ghost use Rattle.amqp_data.specs.Data.{scalar, ulong, list as list_of, described};
-ghost use Rattle.amqp_data.specs.View.{view};
+ghost use Rattle.amqp_fields.specs.amqp_data.Data.{scalar, ulong, list as list_of, described};
+ghost use Rattle.amqp_fields.specs.amqp_data.View.{view};
 ghost use Rattle.amqp_fields.specs.Left.{left};
 ghost use Rattle.amqp_fields.specs.Fields.{Makes};
 ghost use Rattle.amqp_composites.specs.Kind.{number_of};
 ghost use Rattle.amqp_composites.specs.Described.{GivesList, kind_in, list_in};
 
 use crate::kind::CompositeKind;
-use amqp_data::{Described, Value, ValueList};
+use amqp_fields::amqp_data::{Described, Value, ValueList};
 use amqp_fields::{BaseError, Fields};
 use std::alloc::Global;
 

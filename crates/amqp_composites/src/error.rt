@@ -6,7 +6,7 @@ ghost use Rattle.amqp_composites.specs.Error.{error_of, error_fields, error_in, 
 
 use crate::described::{list_value, read_list};
 use crate::kind::CompositeKind;
-use amqp_data::{Symbol, Text, Value, ValueList};
+use amqp_fields::amqp_data::{Symbol, Text, Value, ValueList};
 use amqp_fields::{BaseError, Field, FieldMap, FieldWriter, Fields};
 use std::alloc::Global;
 

@@ -3,7 +3,7 @@ ghost use Rattle.std.specs.Prelude.{◌≡◌};
 ghost use Rattle.amqp_composites.specs.declared.modes.Role.TheVariants.{Sender, Receiver};
 ghost use Rattle.amqp_composites.specs.Modes.{role_in, of_role, sender_mode_in, of_sender_mode, receiver_mode_in, of_receiver_mode, same_sender_mode, same_receiver_mode, role_again, sender_mode_again, receiver_mode_again, sender_modes_are, receiver_modes_are, sender_mode_number, receiver_mode_number};
 
-use amqp_data::Value;
+use amqp_fields::amqp_data::Value;
 use amqp_fields::{BaseError, Defaulted, Field};
 use std::alloc::Global;
 

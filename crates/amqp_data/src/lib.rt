@@ -3,6 +3,7 @@
 //! nested. What each value is as data is in specs/Data.antt.
 #![tactic(auto)]
 
+pub use amqp_text;
 pub use amqp_text::{Binary, Symbol, SymbolList, Text};
 pub use array::ArrayError;
 pub use kind::ElementKind;

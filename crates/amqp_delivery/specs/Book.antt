@@ -3,8 +3,8 @@ use Rattle.std.specs.Prelude.{◌≡◌, ℕ, ◌+◌, ◌-◌, ◌/◌, ◌%◌
 use Rattle.std.specs.Str.{bytes_eq}
 use Rattle.std.specs.Map.{lookup, set_value}
 use Rattle.indexmap.specs.IndexMap.{insert_entry, swap_remove_entry}
-use Rattle.amqp_composites.specs.declared.modes.ReceiverSettleMode.{ReceiverSettleMode}
-use Rattle.amqp_composites.specs.declared.modes.ReceiverSettleMode.TheVariants.{First, Second}
+use Rattle.amqp_termini.specs.amqp_composites.declared.modes.ReceiverSettleMode.{ReceiverSettleMode}
+use Rattle.amqp_termini.specs.amqp_composites.declared.modes.ReceiverSettleMode.TheVariants.{First, Second}
 use Rattle.amqp_termini.specs.declared.state.DeliveryState.{DeliveryState}
 use Rattle.amqp_delivery.specs.declared.orders.Order.{Order}
 use Rattle.amqp_delivery.specs.declared.orders.Order.TheVariants.{Disposition, Flow}

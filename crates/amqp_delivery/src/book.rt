@@ -14,9 +14,9 @@ use crate::ranges::RangeList;
 use crate::run::{Run, is_consecutive, is_same_mode};
 use crate::states::plain_copy;
 use crate::steps::Steps;
-use amqp_composites::modes::ReceiverSettleMode;
 use amqp_data::Binary;
 use amqp_termini::DeliveryState;
+use amqp_termini::amqp_composites::modes::ReceiverSettleMode;
 use indexmap::IndexMap;
 use std::alloc::{AllocError, Global};
 use std::marker::Model;
@@ -65,7 +65,7 @@ impl Model for BookState {
     ghost Value = { Shelf };
 
     ghost use Rattle.std.specs.Coded.{codes};
-    ghost use Rattle.amqp_fields.specs.contracts.map.FieldMap as map;
+    ghost use Rattle.amqp_termini.specs.amqp_fields.contracts.map.FieldMap as map;
 
     ghost coded = { Prim.hlevel (codes, map.the_row.coded) };
 

@@ -1,8 +1,8 @@
 //! What names a delivery, and what a disposer keeps of a link.
 ghost use Rattle.std.specs.Prelude.{◌≡◌, IfOk};
 
-use amqp_composites::modes::ReceiverSettleMode;
 use amqp_data::Binary;
+use amqp_termini::amqp_composites::modes::ReceiverSettleMode;
 use std::alloc::{AllocError, Global};
 
 /// When a receiver gives its sender credit anew (OASIS AMQP 1.0, part 2, section 2.6.7).

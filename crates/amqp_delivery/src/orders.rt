@@ -99,7 +99,7 @@ impl Model for OrderList {
     ghost Value = { Orders };
 
     ghost use Rattle.std.specs.Coded.{codes};
-    ghost use Rattle.amqp_fields.specs.contracts.map.FieldMap as map;
+    ghost use Rattle.amqp_termini.specs.amqp_fields.contracts.map.FieldMap as map;
 
     ghost coded = { Prim.hlevel (codes, map.the_row.coded) };
 

@@ -2,7 +2,7 @@
 ghost use Rattle.std.specs.Prelude.{◌≡◌, ◌+◌, ◌==◌};
 ghost use Rattle.amqp_delivery.specs.Book.{same_mode};
 
-use amqp_composites::modes::ReceiverSettleMode;
+use amqp_termini::amqp_composites::modes::ReceiverSettleMode;
 
 /// Deliveries with numbers in a row and one settle mode, which one Disposition speaks of (OASIS AMQP 1.0, part 2, section 2.7.6).
 #[derive(Clone, Copy, Debug)]

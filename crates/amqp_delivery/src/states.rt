@@ -5,9 +5,9 @@ ghost use Rattle.amqp_data.specs.View.{view, pairs_view};
 ghost use Rattle.amqp_data.specs.Same.{same, same_pairs};
 ghost use Rattle.amqp_delivery.specs.States.{IsPlain, is_plain};
 
-use amqp_composites::error::Error;
 use amqp_data::{Entry, Text};
-use amqp_fields::FieldMap;
+use amqp_termini::amqp_composites::error::Error;
+use amqp_termini::amqp_fields::FieldMap;
 use amqp_termini::{
     Accepted, Declared, DeliveryState, Modified, Outcome, Received, Rejected, Released,
     TransactionalState,

@@ -2,11 +2,11 @@
 use Rattle.std.proofs.Common.{◌≡◌, ℕ, ◌≤◌, List, [], ◌++◌, sym, ap, subst, ◌∙◌, arith}
 use Rattle.std.proofs.lemmas.List.{append-nil}
 use Rattle.std.specs.Prelude.{Result, Ok, Err}
-use Rattle.amqp_data.specs.Data.{Amqp, Items, list, no_items, item, items_depth}
+use Rattle.amqp_value.specs.amqp_data.Data.{Amqp, Items, list, no_items, item, items_depth}
 use Rattle.amqp_value.specs.Canonical.{canonical, canonical_items, AreSized}
-use Rattle.amqp_fields.specs.declared.error.BaseError.{BaseError}
-use Rattle.amqp_fields.specs.declared.error.BaseError.TheVariants as errors
-use Rattle.amqp_fields.specs.Fields.{MakesItems, trimmed}
+use Rattle.amqp_composites.specs.amqp_fields.declared.error.BaseError.{BaseError}
+use Rattle.amqp_composites.specs.amqp_fields.declared.error.BaseError.TheVariants as errors
+use Rattle.amqp_composites.specs.amqp_fields.Fields.{MakesItems, trimmed}
 use Rattle.amqp_described.specs.Writing.{numbered, Fits}
 use Rattle.amqp_described.specs.Bodies.{Put, Puts, Encodes}
 use Rattle.amqp_composites.specs.declared.kind.CompositeKind.{CompositeKind}

@@ -2,12 +2,12 @@
 use Rattle.std.proofs.Common.{◌≡◌, ℕ, ◌≤◌, List, ◌++◌, length, take, drop, refl, sym, subst, ◌∙◌}
 use Rattle.std.specs.Prelude.{Err}
 use Rattle.std.proofs.lemmas.List.{take-append-drop, length-take-le}
-use Rattle.amqp_data.specs.Data.{Amqp, depth}
+use Rattle.amqp_value.specs.amqp_data.Data.{Amqp, depth}
 use Rattle.amqp_value.specs.Grammar.{Spells}
 use Rattle.amqp_value.specs.declared.error.ValueError.{ValueError}
 use Rattle.amqp_value.specs.declared.error.ValueError.TheVariants as errors
 use Rattle.amqp_value.specs.ReadErrors.{IsReadError}
-use Rattle.amqp_fields.specs.declared.error.BaseError.{BaseError}
+use Rattle.amqp_composites.specs.amqp_fields.declared.error.BaseError.{BaseError}
 use Rattle.amqp_described.specs.Error.{of_value_error}
 use Rattle.amqp_described.specs.Reading.{Begins, ReadsFront}
 

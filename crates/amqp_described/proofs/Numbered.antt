@@ -1,13 +1,13 @@
 -- What is written behind a number.
 use Rattle.std.proofs.Common.{◌≡◌, ℕ, suc, ◌≤◌, List, ◌++◌, ◌∷◌, [], sym, ap, subst, ◌∙◌, append_assoc, arith}
 use Rattle.std.specs.Prelude.{Result, Ok, Err}
-use Rattle.amqp_data.specs.Data.{Amqp, scalar, ulong}
+use Rattle.amqp_value.specs.amqp_data.Data.{Amqp, scalar, ulong}
 use Rattle.amqp_value.specs.declared.error.ValueError.{ValueError}
 use Rattle.amqp_value.specs.declared.error.ValueError.TheVariants as value
 use Rattle.amqp_value.specs.Grammar.{described'}
 use Rattle.amqp_value.specs.Canonical.{canonical, IsSized}
 use Rattle.amqp_value.specs.Writing.{Writes}
-use Rattle.amqp_fields.specs.declared.error.BaseError.{BaseError}
+use Rattle.amqp_composites.specs.amqp_fields.declared.error.BaseError.{BaseError}
 use Rattle.amqp_described.specs.Error.{of_value_result}
 use Rattle.amqp_described.specs.Writing.{numbered, Added, Adds, PutsNumber}
 

@@ -1,10 +1,10 @@
 -- The body of a frame in bytes: the fields of a list behind a number, and the bytes behind them (part 2, section 2.3.2).
 use Rattle.std.specs.Prelude.{◌≡◌, ℕ, ◌≤◌, List, ◌++◌, Result, Ok, Err}
-use Rattle.amqp_data.specs.Data.{Items, list, items_depth}
+use Rattle.amqp_value.specs.amqp_data.Data.{Items, list, items_depth}
 use Rattle.amqp_value.specs.Canonical.{canonical, canonical_items, AreSized}
 use Rattle.amqp_value.specs.Grammar.{Spells}
-use Rattle.amqp_fields.specs.declared.error.BaseError.{BaseError}
-use Rattle.amqp_fields.specs.declared.error.BaseError.TheVariants as errors
+use Rattle.amqp_composites.specs.amqp_fields.declared.error.BaseError.{BaseError}
+use Rattle.amqp_composites.specs.amqp_fields.declared.error.BaseError.TheVariants as errors
 use Rattle.amqp_described.specs.Writing.{numbered, Fits}
 
 -- the one spelling of the list, and the payload

@@ -2,8 +2,8 @@
 use Rattle.std.specs.Prelude.{Result, Ok, Err}
 use Rattle.amqp_value.specs.declared.error.ValueError.{ValueError}
 use Rattle.amqp_value.specs.declared.error.ValueError.TheVariants as value
-use Rattle.amqp_fields.specs.declared.error.BaseError.{BaseError}
-use Rattle.amqp_fields.specs.declared.error.BaseError.TheVariants as body
+use Rattle.amqp_composites.specs.amqp_fields.declared.error.BaseError.{BaseError}
+use Rattle.amqp_composites.specs.amqp_fields.declared.error.BaseError.TheVariants as body
 
 -- a value that is too long or nested too deep has no size in a body
 abbrev pub of_value_error : ValueError → BaseError

@@ -1,11 +1,11 @@
 -- What is read of bytes.
 use Rattle.std.specs.Prelude.{◌≡◌, ℕ, ◌≤◌, List, length, take, Result, Ok, Err}
-use Rattle.amqp_data.specs.Data.{Amqp, Items, depth, items_depth}
-use Rattle.amqp_data.specs.View.{view}
-use Rattle.amqp_data.specs.declared.value.Value.{Value}
+use Rattle.amqp_value.specs.amqp_data.Data.{Amqp, Items, depth, items_depth}
+use Rattle.amqp_value.specs.amqp_data.View.{view}
+use Rattle.amqp_value.specs.amqp_data.declared.value.Value.{Value}
 use Rattle.amqp_value.specs.Grammar.{Spells, SpellAll}
-use Rattle.amqp_fields.specs.declared.error.BaseError.{BaseError}
-use Rattle.amqp_fields.specs.declared.error.BaseError.TheVariants as errors
+use Rattle.amqp_composites.specs.amqp_fields.declared.error.BaseError.{BaseError}
+use Rattle.amqp_composites.specs.amqp_fields.declared.error.BaseError.TheVariants as errors
 
 -- What was returned is the one thing of which this holds; it is refused exactly where it holds of none, unless memory ran out.
 abbrev pub IsTheOne : {A : Type 0} → Result A BaseError → (A → Type 0) → Type 0

@@ -1,10 +1,10 @@
 -- What is written of described values.
 use Rattle.std.specs.Prelude.{◌≡◌, ℕ, ◌≤◌, List, ◌++◌, ◌∷◌, [], Result, Ok, Err}
-use Rattle.amqp_data.specs.Data.{Amqp, scalar, ulong, described, depth}
+use Rattle.amqp_value.specs.amqp_data.Data.{Amqp, scalar, ulong, described, depth}
 use Rattle.amqp_value.specs.Grammar.{Spells}
 use Rattle.amqp_value.specs.Canonical.{canonical, IsSized}
-use Rattle.amqp_fields.specs.declared.error.BaseError.{BaseError}
-use Rattle.amqp_fields.specs.declared.error.BaseError.TheVariants as errors
+use Rattle.amqp_composites.specs.amqp_fields.declared.error.BaseError.{BaseError}
+use Rattle.amqp_composites.specs.amqp_fields.declared.error.BaseError.TheVariants as errors
 
 -- the value with a number as its descriptor (part 1, section 1.2)
 abbrev pub numbered : ℕ → Amqp → Amqp

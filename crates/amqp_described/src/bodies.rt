@@ -6,8 +6,8 @@ ghost use Rattle.amqp_described.specs.Bodies.{Puts};
 
 use crate::writing::write_described_fields;
 use amqp_composites::CompositeKind;
-use amqp_data::{Binary, ValueList};
-use amqp_fields::BaseError;
+use amqp_composites::amqp_fields::BaseError;
+use amqp_value::amqp_data::{Binary, ValueList};
 use std::alloc::Global;
 
 /// How deep the list of a performative or of a SASL body may be nested: the list's fields 32 levels deep, the list itself and

@@ -2,7 +2,7 @@
 ghost use Rattle.std.specs.Prelude.{◌≡◌};
 ghost use Rattle.amqp_described.specs.Error.{of_value_error};
 
-use amqp_fields::BaseError;
+use amqp_composites::amqp_fields::BaseError;
 use amqp_value::error::ValueError;
 
 /// The error of a body whose value has that error: `Size` where the value is too long or nested too deep.

@@ -1,6 +1,9 @@
 //! Described values in bytes (OASIS AMQP 1.0, part 1, section 1.2), read and written with the errors of bodies.
 #![tactic(auto)]
 
+pub use amqp_composites;
+pub use amqp_composites::amqp_fields;
+pub use amqp_value::amqp_data;
 pub use bodies::{LEVELS, put_alone, put_fields};
 pub use error::body_error;
 pub use reading::{read_front, read_whole};

@@ -3,8 +3,8 @@ ghost use Rattle.std.specs.Prelude.{◌≡◌};
 ghost use Rattle.amqp_described.specs.Reading.{ReadsFront, IsTheOne, Fill};
 
 use crate::error::body_error;
-use amqp_data::{Value, ValueList};
-use amqp_fields::BaseError;
+use amqp_composites::amqp_fields::BaseError;
+use amqp_value::amqp_data::{Value, ValueList};
 use amqp_value::{read_value_within, read_values};
 use std::alloc::Global;
 

@@ -1,14 +1,14 @@
 //! A value behind the number that says what it is, at the end of bytes.
 ghost use Rattle.std.specs.Prelude.{◌≡◌};
-ghost use Rattle.amqp_data.specs.Data.{scalar, binary, list, dict};
-ghost use Rattle.amqp_data.specs.View.{view, items_view};
+ghost use Rattle.amqp_value.specs.amqp_data.Data.{scalar, binary, list, dict};
+ghost use Rattle.amqp_value.specs.amqp_data.View.{view, items_view};
 ghost use Rattle.amqp_value.specs.Writing.{Writes};
 ghost use Rattle.amqp_described.specs.Error.{of_value_result};
 ghost use Rattle.amqp_described.specs.Writing.{numbered, Adds, PutsNumber};
 
 use crate::error::body_error;
-use amqp_data::{Binary, OrderedMap, Value};
-use amqp_fields::BaseError;
+use amqp_composites::amqp_fields::BaseError;
+use amqp_value::amqp_data::{Binary, OrderedMap, Value};
 use amqp_value::error::ValueError;
 use amqp_value::{write_binary, write_fields, write_list, write_map, write_value};
 

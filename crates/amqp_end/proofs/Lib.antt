@@ -3,3 +3,4 @@ pub mod Opened
 pub mod Passing
 pub mod Telling
 pub mod Waits
+pub mod Rests

@@ -131,5 +131,5 @@ did_passes link at [] p p' s s' l l' h = passes_still link p p' h.0
 did_passes link at (d ∷ ds) p p' s s' l l' h =
     passes_then link p h.0 p' (behind at ds []) (adds at d) (did_passes link at ds p h.0 s h.1 l h.2 h.3) (deed_passes link at d h.0 p' h.1 s' h.2 l' h.4)
 
-pub goes_passes : {L : Type 0} (link : Ghosts L) (at : ℕ) (calls : List (ℕ × ConnectionCall)) (a b : End L) (g : Going link at calls a b) → Passes link a.connection b.connection (behind at g.deeds [])
+pub goes_passes : {L : Type 0} (link : Ghosts L) (at : ℕ) {call : Option ℕ} (calls : List (ℕ × ConnectionCall)) (a b : End L) (g : Going link at call calls a b) → Passes link a.connection b.connection (behind at g.deeds [])
 goes_passes link at calls a b g = did_passes link at g.deeds a.connection b.connection (seen a.sessions) (seen b.sessions) (linked a.links) (linked b.links) g.did

@@ -3,8 +3,8 @@ use Rattle.std.proofs.Common.{◌≡◌, ◌∙◌, ℕ, List, [], ◌∷◌, �
 use Rattle.std.specs.Prelude.{map, filter}
 use Rattle.std.proofs.lemmas.List.Elements.{filter-append}
 use Rattle.amqp_words.specs.declared.reply.NamedReply.{NamedReply as ConnectionReply}
-use Rattle.amqp_link_words.specs.declared.link_reply.NamedLinkReply.{NamedLinkReply}
-use Rattle.amqp_calls.specs.declared.reply.NamedReply.{NamedReply}
+use Rattle.amqp_sessions.specs.amqp_link_words.declared.link_reply.NamedLinkReply.{NamedLinkReply}
+use Rattle.amqp_sessions.specs.amqp_calls.declared.reply.NamedReply.{NamedReply}
 use Rattle.amqp_end.specs.Answers.{of_connection, of_link, together, AreOrdered, answers_to, answers_to_others, with_first}
 
 pub ordered_together : (sessions fresh more all answers : List NamedReply) (connection c : List ConnectionReply) (links l : List NamedLinkReply) → fresh ≡ sessions → c ≡ connection → l ≡ links → more ≡ fresh ++ map of_connection c → all ≡ more ++ map of_link l → AreOrdered all answers

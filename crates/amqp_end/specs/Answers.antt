@@ -3,9 +3,9 @@ use Rattle.std.specs.Prelude.{ℕ, ◌==◌, not, List, ◌++◌, map, filter, I
 use Rattle.std.specs.List.Sorted.{IsNonDecreasingBy, IsStableByKey}
 use Rattle.std.specs.Ordering.{nat_cmp}
 use Rattle.amqp_words.specs.declared.reply.NamedReply.{NamedReply as ConnectionReply}
-use Rattle.amqp_link_words.specs.declared.link_reply.NamedLinkReply.{NamedLinkReply}
-use Rattle.amqp_calls.specs.declared.reply.NamedReply.{NamedReply}
-use Rattle.amqp_calls.specs.declared.reply.Reply.TheVariants.{Connection, Link}
+use Rattle.amqp_sessions.specs.amqp_link_words.declared.link_reply.NamedLinkReply.{NamedLinkReply}
+use Rattle.amqp_sessions.specs.amqp_calls.declared.reply.NamedReply.{NamedReply}
+use Rattle.amqp_sessions.specs.amqp_calls.declared.reply.Reply.TheVariants.{Connection, Link}
 
 -- an answer of the connection, and one of the links, among those of all
 abbrev pub of_connection : ConnectionReply → NamedReply

@@ -1,11 +1,11 @@
 -- Which calls an end takes (docs/SPECIFICATION.md, "Valid steps").
 use Rattle.std.specs.Prelude.{◌≡◌, ◌<◌, ℕ, false, Option, Some, None, ⊤}
-use Rattle.amqp_calls.specs.declared.call.Call.{Call}
-use Rattle.amqp_calls.specs.declared.call.Call.TheVariants.{Connection, Session, Link}
-use Rattle.amqp_calls.specs.declared.call.SessionCall.{SessionCall}
-use Rattle.amqp_calls.specs.declared.call.SessionCall.TheVariants.{Begin, Accept, End as EndCall}
-use Rattle.amqp_link_words.specs.declared.link_call.LinkCall.{LinkCall}
-use Rattle.amqp_link_words.specs.declared.link_call.LinkCall.TheVariants as link
+use Rattle.amqp_sessions.specs.amqp_calls.declared.call.Call.{Call}
+use Rattle.amqp_sessions.specs.amqp_calls.declared.call.Call.TheVariants.{Connection, Session, Link}
+use Rattle.amqp_sessions.specs.amqp_calls.declared.call.SessionCall.{SessionCall}
+use Rattle.amqp_sessions.specs.amqp_calls.declared.call.SessionCall.TheVariants.{Begin, Accept, End as EndCall}
+use Rattle.amqp_sessions.specs.amqp_link_words.declared.link_call.LinkCall.{LinkCall}
+use Rattle.amqp_sessions.specs.amqp_link_words.declared.link_call.LinkCall.TheVariants as link
 use Rattle.amqp_links.specs.May.{MayCall as MayCallFor, is_busy_on}
 use Rattle.amqp_links.specs.State.{State as Links, seen as linked}
 use Rattle.amqp_peer.specs.declared.peer.PeerKind.{PeerKind}

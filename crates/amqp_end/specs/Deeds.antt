@@ -1,10 +1,10 @@
 -- What an end with sessions and links does, one after another.
 use Rattle.std.specs.Prelude.{◌≡◌, ◌⊎◌, ℕ, List, [], ◌∷◌, ◌++◌, true, Some, Ok, Err}
-use Rattle.amqp_calls.specs.declared.call.SessionNumbers.{SessionNumbers}
-use Rattle.amqp_calls.specs.declared.reply.NamedReply.{NamedReply}
+use Rattle.amqp_sessions.specs.amqp_calls.declared.call.SessionNumbers.{SessionNumbers}
+use Rattle.amqp_sessions.specs.amqp_calls.declared.reply.NamedReply.{NamedReply}
 use Rattle.amqp_frames.specs.declared.shared.IncomingSession.{IncomingSession}
 use Rattle.amqp_frames.specs.declared.shared.LinkFrame.{LinkFrame}
-use Rattle.amqp_link_words.specs.declared.link_call.LinkCall.{LinkCall}
+use Rattle.amqp_sessions.specs.amqp_link_words.declared.link_call.LinkCall.{LinkCall}
 use Rattle.amqp_links.specs.declared.output.LinksOutput.TheVariants as out
 use Rattle.amqp_links.specs.Calling.{Calls}
 use Rattle.amqp_links.specs.Inputs.{input_read}

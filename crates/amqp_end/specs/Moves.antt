@@ -1,6 +1,6 @@
 -- What an end has its sessions do.
 use Rattle.std.specs.Prelude.{ℕ, List, Option}
-use Rattle.amqp_calls.specs.declared.call.SessionNumbers.{SessionNumbers}
+use Rattle.amqp_sessions.specs.amqp_calls.declared.call.SessionNumbers.{SessionNumbers}
 use Rattle.amqp_frames.specs.declared.shared.ConnectionStopReason.{ConnectionStopReason}
 use Rattle.amqp_session.specs.declared.error.BeginError.{BeginError}
 use Rattle.amqp_sessions.specs.State.{State, handed_out}

@@ -1,6 +1,6 @@
 -- The answers of an end with sessions and links, taken out of its parts.
 use Rattle.std.specs.Prelude.{◌≡◌, List, []}
-use Rattle.amqp_calls.specs.declared.reply.NamedReply.{NamedReply}
+use Rattle.amqp_sessions.specs.amqp_calls.declared.reply.NamedReply.{NamedReply}
 use Rattle.amqp_links.specs.State.{seen as linked}
 use Rattle.amqp_sessions.specs.State.{seen}
 use Rattle.amqp_end.specs.declared.end.End.{End}

@@ -1,14 +1,17 @@
 //! The calls of an end.
-ghost use Rattle.std.specs.Prelude.{◌≡◌, ℕ, [], ◌∷◌, OnOk};
-ghost use Rattle.amqp_end.specs.Goes.{Goes, GoesOn};
+ghost use Rattle.std.specs.Prelude.{◌≡◌, ℕ, [], ◌∷◌, Option, Some, OnOk, IfOk};
+ghost use Rattle.amqp_end.specs.Goes.{Goes, GoesOn, GoesOnFor, Seated};
+ghost use Rattle.amqp_end.specs.Named.{IsBy};
+ghost use Rattle.amqp_end.specs.Rests.{Rests};
 ghost use Rattle.amqp_peer.specs.Peering.{MayCall};
+ghost use Rattle.amqp_sessions.specs.State.{seen};
 
 use crate::end::{End, memory_of};
-use amqp_calls::{SessionCall, SessionNumbers};
 use amqp_composites::error::Error as AmqpError;
 use amqp_engine::AllocSessionError;
 use amqp_frames::ConnectionStopReason;
 use amqp_session::BeginError;
+use amqp_sessions::amqp_calls::{SessionCall, SessionNumbers};
 use amqp_text::Symbol;
 use amqp_wire::link::Link;
 use amqp_words::Call as ConnectionCall;
@@ -43,7 +46,8 @@ impl<L: Link> End<L> {
         call: ConnectionCall,
     ) -> Result<(), AllocError>
         requires { MayCall self.old.connection name call }
-        ensures { OnOk result (Goes L.Link at ((name, call) ∷ []) self.old self.new) }
+        ensures goes { OnOk result (Goes L.Link at (Some name) ((name, call) ∷ []) self.old self.new) }
+        ensures rests { OnOk result (Rests self.new) }
     {
         self.know(at);
         self.stop_sessions(&call)?;
@@ -78,7 +82,8 @@ impl<L: Link> End<L> {
         name: u64,
         call: SessionCall,
     ) -> Result<(), AllocError>
-        ensures { OnOk result (Goes L.Link at [] self.old self.new) }
+        ensures goes { OnOk result (Goes L.Link at (Some name) [] self.old self.new) }
+        ensures rests { OnOk result (Rests self.new) }
     {
         let session = self.ask(name, call)?;
         self.collect()?;
@@ -98,7 +103,7 @@ impl<L: Link> End<L> {
 
     /// Makes the call. The answer is the name of the session whose frames it writes.
     fn ask(&mut self, name: u64, call: SessionCall) -> Result<u64, AllocError>
-        ensures { OnOk result ((at : ℕ) → GoesOn L.Link at self.old self.new) }
+        ensures { OnOk result ((at : ℕ) → GoesOnFor L.Link at (Some name) self.old self.new) }
     {
         match call {
             SessionCall::Begin(numbers) => {
@@ -122,14 +127,14 @@ impl<L: Link> End<L> {
         session: u64,
         error: Option<Symbol>,
     ) -> Result<(), AllocError>
-        ensures { OnOk result ((at : ℕ) → GoesOn L.Link at self.old self.new) }
+        ensures { OnOk result ((at : ℕ) → GoesOnFor L.Link at (Some name) self.old self.new) }
     {
         self.sessions.end(name, session, error)
     }
 
     /// A channel for a session: none where the call of that name is refused, and answered so.
     fn seat(&mut self, name: u64) -> Result<Option<u16>, AllocError>
-        ensures ok { OnOk result ((at : ℕ) → GoesOn L.Link at self.old self.new) }
+        ensures { IfOk result (Seated L.Link name self.old self.new) }
     {
         if !self.connection.is_running() || !self.connection.is_open() {
             self.sessions.refuse(name, BeginError::IllegalState)?;
@@ -152,7 +157,7 @@ impl<L: Link> End<L> {
     }
 
     fn begin(&mut self, name: u64, numbers: SessionNumbers) -> Result<(), AllocError>
-        ensures { OnOk result ((at : ℕ) → GoesOn L.Link at self.old self.new) }
+        ensures { OnOk result ((at : ℕ) → GoesOnFor L.Link at (Some name) self.old self.new) }
     {
         let limit = self.frame_limit();
         match self.seat(name)? {
@@ -162,7 +167,7 @@ impl<L: Link> End<L> {
     }
 
     fn accept(&mut self, name: u64, numbers: SessionNumbers) -> Result<(), AllocError>
-        ensures { OnOk result ((at : ℕ) → GoesOn L.Link at self.old self.new) }
+        ensures { OnOk result ((at : ℕ) → GoesOnFor L.Link at (Some name) self.old self.new) }
     {
         if self.connection.incoming_session().is_none() {
             return self.sessions.await_begin(name, numbers);
@@ -176,7 +181,7 @@ impl<L: Link> End<L> {
         name: u64,
         numbers: SessionNumbers,
     ) -> Result<(), AllocError>
-        ensures { OnOk result ((at : ℕ) → GoesOn L.Link at self.old self.new) }
+        ensures { OnOk result ((at : ℕ) (call : Option ℕ) → IsBy call (seen self.old.sessions) name → GoesOnFor L.Link at call self.old self.new) }
     {
         let limit = self.frame_limit();
         let Some(channel) = self.seat(name)? else {

@@ -4,15 +4,16 @@ ghost use Rattle.std.specs.Borrow.{Lends, sem};
 ghost use Rattle.amqp_end.specs.contracts.end.End.{the_row};
 ghost use Rattle.amqp_end.specs.Asks.{IsNew, Takes, HasSession, TakesForLink, MayAskFor, MayAsk};
 ghost use Rattle.amqp_end.specs.Goes.{Goes, on_connection};
+ghost use Rattle.amqp_end.specs.Rests.{Rests};
 ghost use Rattle.amqp_links.specs.Forgetting.{forgotten};
 ghost use Rattle.amqp_links.specs.State.{seen as linked, no_links};
 ghost use Rattle.amqp_peer.specs.Peering.{fresh, link_of, with_link_of};
 ghost use Rattle.amqp_sessions.specs.State.{seen, none_begun};
 
-use amqp_calls::{Call, LinkCall, NamedReply, SessionCall};
 use amqp_links::Links;
 use amqp_peer::{Peer, PeerError, PeerKind};
 use amqp_sessions::Sessions;
+use amqp_sessions::amqp_calls::{Call, LinkCall, NamedReply, SessionCall};
 use amqp_wire::link::Link;
 use std::alloc::{AllocError, Global};
 use std::mem;
@@ -218,7 +219,8 @@ impl<L: Link> End<L> {
     /// memory is final: each later call and poll answers `Failed`.
     pub fn call(&mut self, at: u64, name: u64, call: Call) -> Result<(), EndError>
         requires { MayAsk self.old name call }
-        ensures ok { OnOk result (Goes L.Link at (on_connection name call) (record self.old { last = Some name }) self.new) }
+        ensures ok { OnOk result (Goes L.Link at (Some name) (on_connection name call) (record self.old { last = Some name }) self.new) }
+        ensures rests { OnOk result (Rests self.new) }
         ensures memory { OnErr result (self.new.failed ≡ true) }
         ensures failed { IsErrOf result EndError.Failed ↔ (self.old.failed ≡ true) }
     {
@@ -237,7 +239,8 @@ impl<L: Link> End<L> {
 
     fn make(&mut self, at: u64, name: u64, call: Call) -> Result<(), AllocError>
         requires { MayAsk self.old name call }
-        ensures ok { OnOk result (Goes L.Link at (on_connection name call) (record self.old { last = Some name }) self.new) }
+        ensures ok { OnOk result (Goes L.Link at (Some name) (on_connection name call) (record self.old { last = Some name }) self.new) }
+        ensures rests { OnOk result (Rests self.new) }
     {
         self.last = Some(name);
         match call {
@@ -250,7 +253,8 @@ impl<L: Link> End<L> {
     /// Goes on at the moment `at`, in milliseconds, until nothing more can be done. Want of memory is final: each later call and
     /// poll answers `Failed`.
     pub fn poll(&mut self, at: u64) -> Result<(), EndError>
-        ensures ok { OnOk result (Goes L.Link at [] self.old self.new) }
+        ensures ok { OnOk result (Goes L.Link at None [] self.old self.new) }
+        ensures rests { OnOk result (Rests self.new) }
         ensures memory { OnErr result (self.new.failed ≡ true) }
         ensures failed { IsErrOf result EndError.Failed ↔ (self.old.failed ≡ true) }
     {

@@ -1,15 +1,16 @@
 //! The links of an end: their calls, what they hear of their sessions, and what they write on them.
-ghost use Rattle.std.specs.Prelude.{◌≡◌, ℕ, [], OnOk};
+ghost use Rattle.std.specs.Prelude.{◌≡◌, ℕ, [], Some, OnOk};
 ghost use Rattle.amqp_end.specs.Asks.{limit_for};
-ghost use Rattle.amqp_end.specs.Goes.{Goes, GoesOn};
+ghost use Rattle.amqp_end.specs.Goes.{Goes, GoesOn, GoesOnFor};
+ghost use Rattle.amqp_end.specs.Rests.{Rests};
 ghost use Rattle.amqp_links.specs.May.{is_spent_on};
 ghost use Rattle.amqp_links.specs.State.{seen as linked};
 ghost use Rattle.amqp_sessions.specs.State.{seen};
 
 use crate::end::End;
-use amqp_calls::LinkCall;
 use amqp_data::Text;
 use amqp_links::LinksOutput;
+use amqp_sessions::amqp_calls::LinkCall;
 use amqp_wire::link::Link;
 use std::alloc::AllocError;
 
@@ -19,7 +20,8 @@ const HANDED_IN_A_ROW: u64 = 1 << 62;
 impl<L: Link> End<L> {
     /// Makes a call for a link: what it answers at once comes first, then what was read, then what the call writes.
     pub(crate) fn call_link(&mut self, at: u64, name: u64, call: LinkCall) -> Result<(), AllocError>
-        ensures { OnOk result (Goes L.Link at [] self.old self.new) }
+        ensures goes { OnOk result (Goes L.Link at (Some name) [] self.old self.new) }
+        ensures rests { OnOk result (Rests self.new) }
     {
         self.know(at);
         self.ask_links(name, call)?;
@@ -59,7 +61,7 @@ impl<L: Link> End<L> {
     }
 
     fn ask_links(&mut self, name: u64, call: LinkCall) -> Result<(), AllocError>
-        ensures { OnOk result ((at : ℕ) → GoesOn L.Link at self.old self.new) }
+        ensures { OnOk result ((at : ℕ) → GoesOnFor L.Link at (Some name) self.old self.new) }
     {
         let limit = self.limit_for(&call);
         self.links.call(name, call, limit)

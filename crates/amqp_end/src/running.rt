@@ -1,15 +1,17 @@
 //! How an end goes on: step by step of its connection, with what comes of each.
-ghost use Rattle.std.specs.Prelude.{◌≡◌, ℕ, [], ◌∷◌, ◌++◌, map, true, OnOk, IfOk};
+ghost use Rattle.std.specs.Prelude.{◌≡◌, ℕ, [], ◌∷◌, ◌++◌, map, true, None, OnOk, IfOk};
 ghost use Rattle.amqp_end.specs.Answers.{of_connection, of_link, AreOrdered, answers_to, answers_to_others};
 ghost use Rattle.amqp_end.specs.Goes.{Goes, GoesOn};
+ghost use Rattle.amqp_end.specs.Rests.{IsSaid, Rests};
 ghost use Rattle.amqp_end.specs.Taken.{TakenOut};
-ghost use Rattle.amqp_peer.specs.Hearing.{hears_in, IsOpenIn};
+ghost use Rattle.amqp_peer.specs.Hearing.{hears_in, IsOpenIn, waiting_in};
 ghost use Rattle.amqp_peer.specs.Held.{IsLate};
+ghost use Rattle.amqp_sessions.specs.State.{seen};
 
 use crate::end::{End, memory_of};
-use amqp_calls::{NamedLinkReply, NamedReply, Reply};
 use amqp_frames::ConnectionStopReason;
 use amqp_sessions::Waiting;
+use amqp_sessions::amqp_calls::{NamedLinkReply, NamedReply, Reply};
 use amqp_wire::link::Link;
 use amqp_words::ReplyList;
 use std::alloc::{AllocError, Global};
@@ -103,7 +105,8 @@ fn append(replies: &mut Vec<NamedReply>, fresh: Vec<NamedReply>) -> Result<(), A
 impl<L: Link> End<L> {
     /// Goes on until nothing more can be done.
     pub(crate) fn run(&mut self, at: u64) -> Result<(), AllocError>
-        ensures { OnOk result (Goes L.Link at [] self.old self.new) }
+        ensures goes { OnOk result (Goes L.Link at None [] self.old self.new) }
+        ensures rests { OnOk result (Rests self.new) }
     {
         self.know(at);
         self.exchange(at)?;
@@ -121,7 +124,8 @@ impl<L: Link> End<L> {
 
     /// Looks at the clock: calls with a time that is over are answered.
     pub(crate) fn look(&mut self) -> Result<(), AllocError>
-        ensures { OnOk result ((at : ℕ) → GoesOn L.Link at self.old self.new) }
+        ensures goes { OnOk result ((at : ℕ) → GoesOn L.Link at self.old self.new) }
+        ensures rests { OnOk result (Rests self.old → Rests self.new) }
     {
         self.look_at_links()?;
         self.collect()
@@ -130,13 +134,14 @@ impl<L: Link> End<L> {
     fn look_at_links(&mut self) -> Result<(), AllocError>
         ensures goes { OnOk result ((at : ℕ) → GoesOn L.Link at self.old self.new) }
         ensures connection { self.new.connection ≡ self.old.connection }
+        ensures sessions { self.new.sessions ≡ self.old.sessions }
     {
         self.links.look()
     }
 
     /// Goes on with the exchange of headers, where the connection has not begun.
     fn exchange(&mut self, at: u64) -> Result<(), AllocError>
-        ensures { OnOk result (Goes L.Link at [] self.old self.new) }
+        ensures { OnOk result (Goes L.Link at None [] self.old self.new) }
     {
         if self.connection.is_running() {
             return Ok(());
@@ -149,7 +154,8 @@ impl<L: Link> End<L> {
 
     /// The connection goes on, step by step, until nothing more can be done.
     pub(crate) fn steps(&mut self, at: u64) -> Result<(), AllocError>
-        ensures { OnOk result (Goes L.Link at [] self.old self.new) }
+        ensures goes { OnOk result (Goes L.Link at None [] self.old self.new) }
+        ensures rests { OnOk result (Rests self.new) }
     {
         if !self.connection.is_running() {
             return Ok(());
@@ -167,7 +173,8 @@ impl<L: Link> End<L> {
     /// One step of the connection, and what comes of it; whether another may follow.
     fn advance(&mut self, at: u64) -> Result<bool, AllocError>
         requires { IsLate self.old.connection.held }
-        ensures { OnOk result (GoesOn L.Link at self.old self.new) }
+        ensures goes { OnOk result (GoesOn L.Link at self.old self.new) }
+        ensures rests { OnOk result (Rests self.new) }
     {
         match self.connection.step(at) {
             Ok(more) => {
@@ -180,7 +187,8 @@ impl<L: Link> End<L> {
 
     /// Takes up what the connection has read for the sessions, and writes what they say to it.
     pub(crate) fn take_up(&mut self) -> Result<(), AllocError>
-        ensures { OnOk result ((at : ℕ) → GoesOn L.Link at self.old self.new) }
+        ensures goes { OnOk result ((at : ℕ) → GoesOn L.Link at self.old self.new) }
+        ensures rests { OnOk result (Rests self.new) }
     {
         self.hear()?;
         self.accept_waiting()?;
@@ -203,7 +211,8 @@ impl<L: Link> End<L> {
 
     /// Where the connection stops for a fault, no frame of the peer has stopped it: the clock is looked at first.
     fn look_at_fault(&mut self) -> Result<(), AllocError>
-        ensures { OnOk result ((at : ℕ) → GoesOn L.Link at self.old self.new) }
+        ensures goes { OnOk result ((at : ℕ) → GoesOn L.Link at self.old self.new) }
+        ensures said { OnOk result (IsSaid self.old → IsSaid self.new) }
     {
         if self.has_concluded || !self.has_fault() {
             return Ok(());
@@ -213,7 +222,8 @@ impl<L: Link> End<L> {
 
     /// The sessions and their links hear the frames that the connection has read for them. After each the clock is looked at.
     fn hear(&mut self) -> Result<(), AllocError>
-        ensures { OnOk result ((at : ℕ) → GoesOn L.Link at self.old self.new) }
+        ensures goes { OnOk result ((at : ℕ) → GoesOn L.Link at self.old self.new) }
+        ensures heard { OnOk result (waiting_in self.new.connection.held ≡ []) }
     {
         'frames: while let Some(frame) = self.connection.take_incoming() {
             self.sessions.on_frame(frame)?;
@@ -240,7 +250,8 @@ impl<L: Link> End<L> {
 
     /// Gives the frames of the sessions to the connection, and their channels back, while it is open.
     pub(crate) fn hand_over(&mut self) -> Result<(), AllocError>
-        ensures { OnOk result ((at : ℕ) → GoesOn L.Link at self.old self.new) }
+        ensures goes { OnOk result ((at : ℕ) → GoesOn L.Link at self.old self.new) }
+        ensures said { OnOk result (IsSaid self.new) }
     {
         if !self.connection.is_open() {
             return Ok(());
@@ -254,7 +265,8 @@ impl<L: Link> End<L> {
     fn write(&mut self) -> Result<(), AllocError>
         requires late { IsLate self.old.connection.held }
         requires opened { hears_in self.old.connection.held ≡ true → IsOpenIn self.old.connection.held }
-        ensures { OnOk result ((at : ℕ) → GoesOn L.Link at self.old self.new) }
+        ensures goes { OnOk result ((at : ℕ) → GoesOn L.Link at self.old self.new) }
+        ensures written { OnOk result ((seen self.new.sessions).output ≡ []) }
     {
         'frames: while let Some(frame) = self.sessions.take_output() {
             match self.connection.send(frame) {
@@ -267,7 +279,9 @@ impl<L: Link> End<L> {
 
     /// Gives the channels of sessions that are ended back to the connection.
     fn give_back(&mut self)
-        ensures { (at : ℕ) → GoesOn L.Link at self.old self.new }
+        ensures goes { (at : ℕ) → GoesOn L.Link at self.old self.new }
+        ensures output { (seen self.new.sessions).output ≡ (seen self.old.sessions).output }
+        ensures freed { (seen self.new.sessions).freed ≡ [] }
     {
         'channels: while let Some(channel) = self.sessions.take_freed() {
             self.connection.deallocate_session(channel);
@@ -276,7 +290,8 @@ impl<L: Link> End<L> {
 
     /// Tells the sessions and their links once that the connection has stopped.
     fn conclude(&mut self) -> Result<(), AllocError>
-        ensures { OnOk result ((at : ℕ) → GoesOn L.Link at self.old self.new) }
+        ensures goes { OnOk result ((at : ℕ) → GoesOn L.Link at self.old self.new) }
+        ensures said { OnOk result (IsSaid self.old → IsSaid self.new) }
     {
         if self.has_concluded {
             return Ok(());
@@ -302,7 +317,8 @@ impl<L: Link> End<L> {
 
     /// Takes in the answers that are new, in the order of their names.
     pub(crate) fn collect(&mut self) -> Result<(), AllocError>
-        ensures { OnOk result ((at : ℕ) → GoesOn L.Link at self.old self.new) }
+        ensures goes { OnOk result ((at : ℕ) → GoesOn L.Link at self.old self.new) }
+        ensures said { OnOk result (IsSaid self.old → IsSaid self.new) }
     {
         let fresh = self.take_answers()?;
         append(&mut self.replies, fresh)

@@ -10,7 +10,7 @@ use Rattle.amqp_transport.specs.declared.frames.Frame.{Frame}
 use Rattle.amqp_engine.specs.Heard.{AllUnclosed}
 use Rattle.amqp_engine.specs.Phases.{kind_of, IsClose}
 use Rattle.amqp_transport.specs.Kinds.{amqp_again}
-use Rattle.amqp_words.specs.declared.call.Call.{Call}
+use Rattle.amqp_peer.specs.amqp_words.declared.call.Call.{Call}
 use Rattle.amqp_peer.specs.declared.prepared.Prepared.{Prepared}
 use Rattle.amqp_peer.specs.Causes.{prepared_in}
 use Rattle.amqp_peer.specs.History.{Local, made_in, given_in, sent_in}

@@ -1,7 +1,7 @@
 -- An end faced the other whenever it told of a negotiation that failed: each step keeps that so.
 use Rattle.std.proofs.Common.{◌≡◌, ◌⊎◌, ◌≤◌, ℕ, List, [], ◌∷◌, ◌++◌, length, refl, sym, ap, ◌∙◌, subst, append_assoc}
-use Rattle.amqp_words.specs.declared.call.Call.{Call}
-use Rattle.amqp_words.specs.declared.open_error.OpenError.TheVariants as failed
+use Rattle.amqp_peer.specs.amqp_words.declared.call.Call.{Call}
+use Rattle.amqp_peer.specs.amqp_words.declared.open_error.OpenError.TheVariants as failed
 use Rattle.amqp_peer.specs.History.{Local, Made, Polled, AtLink, Exchanged, Got, Put, Replied, IsInside, made_in, read_in, wrote_in}
 use Rattle.amqp_peer.specs.Replies.{open_failed}
 use Rattle.amqp_ends.specs.Gates.{Faces}

@@ -18,8 +18,8 @@ use Rattle.amqp_opening.specs.Authentication.{MadeFor, HasAllowedTexts, holds_by
 use Rattle.amqp_opening.specs.Opening.{HasEnding, HasEndedSasl, IsPlainCause, IsSaslCause, IsSaslCauseAfter, at_amqp_header, at_plain_header, in_negotiation}
 use Rattle.amqp_opening.specs.Opening.{at_link as at_plain_link}
 use Rattle.amqp_pairs.specs.Streams.{IsSaid}
-use Rattle.amqp_words.specs.declared.call.Call.{Call}
-use Rattle.amqp_words.specs.declared.call.Call.TheVariants.{Open, Accept, Close}
+use Rattle.amqp_peer.specs.amqp_words.declared.call.Call.{Call}
+use Rattle.amqp_peer.specs.amqp_words.declared.call.Call.TheVariants.{Open, Accept, Close}
 use Rattle.amqp_peer.specs.declared.peer.PeerKind.{PeerKind}
 use Rattle.amqp_peer.specs.declared.peer.PeerKind.TheVariants.{Client, Listener}
 use Rattle.amqp_peer.specs.Causes.{MadeIn, IsOpenCause, OpenCauseIn, not_allowed, in_opening}

@@ -3,11 +3,11 @@ use Rattle.std.proofs.Common.{◌≡◌, ℕ, List, [], ◌∷◌, ◌++◌, Opt
 use Rattle.amqp_opening.specs.declared.authentication.SaslCall.{SaslCall}
 use Rattle.amqp_wire.specs.Events.{wrote_of}
 use Rattle.amqp_wire.proofs.Events.{wrote_of-append}
-use Rattle.amqp_words.specs.declared.call.Call.{Call}
-use Rattle.amqp_words.specs.declared.open_error.OpenError.TheVariants as failed
-use Rattle.amqp_words.specs.declared.reply.Reply.{Reply}
-use Rattle.amqp_words.specs.declared.reply.Reply.TheVariants as reply
-use Rattle.amqp_words.specs.declared.reply.NamedReply.{NamedReply}
+use Rattle.amqp_peer.specs.amqp_words.declared.call.Call.{Call}
+use Rattle.amqp_peer.specs.amqp_words.declared.open_error.OpenError.TheVariants as failed
+use Rattle.amqp_peer.specs.amqp_words.declared.reply.Reply.{Reply}
+use Rattle.amqp_peer.specs.amqp_words.declared.reply.Reply.TheVariants as reply
+use Rattle.amqp_peer.specs.amqp_words.declared.reply.NamedReply.{NamedReply}
 use Rattle.amqp_peer.specs.Causes.{AllCaused, HasCause}
 use Rattle.amqp_peer.specs.History.{Local, Made, Polled, AtLink, Exchanged, Got, Put, Replied, made_in, link_in, replied_in, read_in, wrote_in, IsInside}
 use Rattle.amqp_peer.specs.Layers.{layer_in}

@@ -12,7 +12,7 @@ use Rattle.sasl_gate.specs.Frames.{HasSaslFrame, Heard, said, sasl_header}
 use Rattle.sasl_gate.specs.Negotiation.{LinkCause}
 use Rattle.amqp_opening.specs.Opening.{amqp_header}
 use Rattle.amqp_pairs.specs.Streams.{IsAfterSasl, IsSaid}
-use Rattle.amqp_words.specs.declared.call.Call.{Call}
+use Rattle.amqp_peer.specs.amqp_words.declared.call.Call.{Call}
 use Rattle.amqp_peer.specs.Causes.{has_layer, is_layer, IsLayerWritten, IsTail, IsTied}
 use Rattle.amqp_peer.specs.History.{Local, made_in, read_in, wrote_in}
 use Rattle.amqp_peer.specs.Layers.{layer_in}

@@ -13,7 +13,7 @@ use Rattle.amqp_opening.specs.declared.authentication.SaslCall.{SaslCall}
 use Rattle.amqp_opening.specs.Opening.{amqp_header}
 use Rattle.amqp_pairs.specs.Streams.{IsRead}
 use Rattle.amqp_pairs.proofs.Streams.{all_said, first_said}
-use Rattle.amqp_words.specs.declared.call.Call.{Call}
+use Rattle.amqp_peer.specs.amqp_words.declared.call.Call.{Call}
 use Rattle.amqp_peer.specs.Causes.{EndsExchange, HasHeader, IsBroken, IsBrokenBy, IsLayerWritten, TransportCause, has_layer}
 use Rattle.amqp_peer.specs.History.{Local, Made, Polled, AtLink, Exchanged, Got, Put, Replied, Once, made_in, link_in, read_in, wrote_in}
 use Rattle.amqp_peer.specs.Layers.{layer_in, HasExchange, IsAwaiting, for_layer, for_body, for_header, IsResting}

@@ -27,12 +27,12 @@ use Rattle.amqp_opening.specs.declared.authentication.Authentication.TheVariants
 use Rattle.amqp_opening.specs.Authentication.{peer_mechanism}
 use Rattle.amqp_opening.specs.Opening.{IsOpeningCause, in_negotiation, at_amqp_header, at_plain_header}
 use Rattle.amqp_opening.specs.Opening.{at_link as at_plain_link}
-use Rattle.amqp_words.specs.declared.call.Call.{Call}
-use Rattle.amqp_words.specs.declared.open_error.OpenError.{OpenError}
-use Rattle.amqp_words.specs.declared.open_error.OpenError.TheVariants as failed
-use Rattle.amqp_words.specs.declared.reply.Reply.{Reply}
-use Rattle.amqp_words.specs.declared.reply.Reply.TheVariants as reply
-use Rattle.amqp_words.specs.declared.reply.NamedReply.{NamedReply}
+use Rattle.amqp_peer.specs.amqp_words.declared.call.Call.{Call}
+use Rattle.amqp_peer.specs.amqp_words.declared.open_error.OpenError.{OpenError}
+use Rattle.amqp_peer.specs.amqp_words.declared.open_error.OpenError.TheVariants as failed
+use Rattle.amqp_peer.specs.amqp_words.declared.reply.Reply.{Reply}
+use Rattle.amqp_peer.specs.amqp_words.declared.reply.Reply.TheVariants as reply
+use Rattle.amqp_peer.specs.amqp_words.declared.reply.NamedReply.{NamedReply}
 use Rattle.amqp_peer.specs.Causes.{IsShut, IsOther, IsOpenCause, not_allowed, in_opening, OpenCauseIn, TransportCause, IsBrokenBy, ConnectionCause, HasCause, AllCaused}
 use Rattle.amqp_peer.specs.Said.{HasOtherFirst, HasStray}
 use Rattle.amqp_peer.specs.History.{Local, Made, Polled, AtLink, Exchanged, Got, Put, Replied, made_in, link_in, given_in, replied_in, read_in, wrote_in, Once}

@@ -27,3 +27,5 @@ pub mod Passes
 pub mod ToldBodies
 pub mod Told
 pub mod Faced
+pub mod Parts
+pub mod Serving

@@ -11,11 +11,11 @@ use Rattle.amqp_opening.specs.Authentication.{turn_by}
 use Rattle.amqp_opening.specs.Opening.{amqp_header}
 use Rattle.amqp_pairs.specs.Streams.{IsRead}
 use Rattle.amqp_pairs.proofs.Streams.{all_behind, first_said}
-use Rattle.amqp_words.specs.declared.call.Call.{Call}
-use Rattle.amqp_words.specs.declared.open_error.OpenError.{OpenError}
-use Rattle.amqp_words.specs.declared.open_error.OpenError.TheVariants as failed
-use Rattle.amqp_words.specs.declared.reply.Reply.TheVariants as reply
-use Rattle.amqp_words.specs.declared.reply.NamedReply.{NamedReply}
+use Rattle.amqp_peer.specs.amqp_words.declared.call.Call.{Call}
+use Rattle.amqp_peer.specs.amqp_words.declared.open_error.OpenError.{OpenError}
+use Rattle.amqp_peer.specs.amqp_words.declared.open_error.OpenError.TheVariants as failed
+use Rattle.amqp_peer.specs.amqp_words.declared.reply.Reply.TheVariants as reply
+use Rattle.amqp_peer.specs.amqp_words.declared.reply.NamedReply.{NamedReply}
 use Rattle.amqp_peer.specs.Causes.{AllCaused, HasCause, HasHeader, IsBrokenBy, IsLayerWritten, OpenCauseIn, is_layer}
 use Rattle.amqp_peer.specs.History.{Local, Made, Polled, AtLink, Exchanged, Got, Put, Replied, made_in, link_in, replied_in, read_in, wrote_in}
 use Rattle.amqp_peer.specs.Layers.{layer_in, HasExchange, HasLayer, IsResting}

@@ -13,7 +13,7 @@ use Rattle.amqp_opening.specs.Authentication.{turn_by}
 use Rattle.amqp_opening.specs.Opening.{amqp_header}
 use Rattle.amqp_pairs.specs.Streams.{IsAfterSasl, IsPart, IsRead, IsSaid}
 use Rattle.amqp_pairs.proofs.Streams.{all_behind, all_said, first_said, no_frame_after, written}
-use Rattle.amqp_words.specs.declared.call.Call.{Call}
+use Rattle.amqp_peer.specs.amqp_words.declared.call.Call.{Call}
 use Rattle.amqp_peer.specs.Causes.{BeginsWithOpen, IsLayerWritten, has_layer, is_layer}
 use Rattle.amqp_peer.specs.History.{Local, made_in, sent_in, read_in, wrote_in}
 use Rattle.amqp_peer.specs.Layers.{layer_in, HasExchange}

@@ -5,7 +5,7 @@ use Rattle.amqp_transport.specs.declared.frames.Frame.{Frame}
 use Rattle.amqp_transport.specs.Kinds.{amqp_again}
 use Rattle.amqp_engine.specs.Sentence.{AllWithin, read_limit, read_limit_by, write_limit, write_limit_by}
 use Rattle.amqp_engine.specs.State.{open_frame, close_frame, IsFramed}
-use Rattle.amqp_words.specs.declared.call.Call.{Call}
+use Rattle.amqp_peer.specs.amqp_words.declared.call.Call.{Call}
 use Rattle.amqp_peer.specs.declared.prepared.Prepared.{Prepared}
 use Rattle.amqp_peer.specs.Causes.{prepared_in, largest_of, IsRefusedAt, StartsWithin}
 use Rattle.amqp_peer.specs.History.{Local, made_in, given_in, sent_in, read_in, wrote_in, Once}

@@ -10,7 +10,7 @@ use Rattle.amqp_opening.specs.declared.authentication.Authentication.{Authentica
 use Rattle.amqp_opening.specs.declared.opening.Stage.{Stage}
 use Rattle.amqp_opening.specs.declared.opening.Stage.TheVariants as stage
 use Rattle.amqp_opening.specs.Opening.{Opened}
-use Rattle.amqp_words.specs.declared.call.Call.{Call}
+use Rattle.amqp_peer.specs.amqp_words.declared.call.Call.{Call}
 use Rattle.amqp_peer.specs.declared.held.Held.{Held}
 use Rattle.amqp_peer.specs.declared.held.Held.TheVariants.{Early, Late, Unopened, Moving}
 use Rattle.amqp_peer.specs.declared.peer.Progress.{Progress}

@@ -23,10 +23,10 @@ use Rattle.amqp_pairs.specs.Mechanisms.{Listening}
 use Rattle.amqp_pairs.specs.Streams.{IsPart}
 use Rattle.amqp_pairs.proofs.Failing.{read_first}
 use Rattle.amqp_pairs.proofs.Streams.{all_taken}
-use Rattle.amqp_words.specs.declared.call.Call.{Call}
-use Rattle.amqp_words.specs.declared.open_error.OpenError.{OpenError}
-use Rattle.amqp_words.specs.declared.open_error.OpenError.TheVariants as failed
-use Rattle.amqp_words.specs.declared.reply.Reply.TheVariants as reply
+use Rattle.amqp_peer.specs.amqp_words.declared.call.Call.{Call}
+use Rattle.amqp_peer.specs.amqp_words.declared.open_error.OpenError.{OpenError}
+use Rattle.amqp_peer.specs.amqp_words.declared.open_error.OpenError.TheVariants as failed
+use Rattle.amqp_peer.specs.amqp_words.declared.reply.Reply.TheVariants as reply
 use Rattle.amqp_peer.specs.Causes.{AllCaused, HasHeader, MadeIn, OpenCauseIn, IsOpenCause, not_allowed, in_opening}
 use Rattle.amqp_peer.specs.History.{Local, Replied, made_in, link_in, sent_in, replied_in, read_in, wrote_in}
 use Rattle.amqp_peer.specs.Layers.{layer_in, HasExchange, IsAwaiting, for_layer, for_body, for_header, IsResting, IsRestingWith}

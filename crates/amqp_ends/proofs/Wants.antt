@@ -9,11 +9,11 @@ use Rattle.amqp_engine.specs.Heard.{AllUnclosed}
 use Rattle.amqp_engine.specs.Sentence.{bytes_of_all}
 use Rattle.amqp_opening.specs.declared.authentication.SaslCall.{SaslCall}
 use Rattle.amqp_opening.specs.Opening.{amqp_header}
-use Rattle.amqp_words.specs.declared.call.Call.{Call}
-use Rattle.amqp_words.specs.declared.call.Call.TheVariants.{Close as CloseCall}
-use Rattle.amqp_words.specs.declared.open_error.OpenError.{OpenError}
-use Rattle.amqp_words.specs.declared.reply.Reply.TheVariants as reply
-use Rattle.amqp_words.specs.declared.reply.NamedReply.{NamedReply}
+use Rattle.amqp_peer.specs.amqp_words.declared.call.Call.{Call}
+use Rattle.amqp_peer.specs.amqp_words.declared.call.Call.TheVariants.{Close as CloseCall}
+use Rattle.amqp_peer.specs.amqp_words.declared.open_error.OpenError.{OpenError}
+use Rattle.amqp_peer.specs.amqp_words.declared.reply.Reply.TheVariants as reply
+use Rattle.amqp_peer.specs.amqp_words.declared.reply.NamedReply.{NamedReply}
 use Rattle.amqp_peer.specs.declared.peer.PeerKind.{PeerKind}
 use Rattle.amqp_peer.specs.declared.peer.PeerKind.TheVariants.{Client, Listener}
 use Rattle.amqp_peer.specs.Causes.{BeginsWithOpen, EndsWithClose, HasHeader, IsReadTo, IsTied, HasCause, AllCaused, prepared_in}

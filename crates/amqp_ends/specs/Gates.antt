@@ -16,10 +16,10 @@ use Rattle.amqp_opening.specs.declared.authentication.SaslCall.{SaslCall}
 use Rattle.amqp_opening.specs.declared.authentication.SaslCall.TheVariants as layer
 use Rattle.amqp_opening.specs.Authentication.{account_of_call, mechanism_of_call, MadeFor, HasAllowedTexts, holds_by, owes_by, stored_for}
 use Rattle.amqp_opening.specs.Opening.{amqp_header}
-use Rattle.amqp_words.specs.declared.open_error.OpenError.TheVariants as failed
-use Rattle.amqp_words.specs.declared.reply.Reply.{Reply}
-use Rattle.amqp_words.specs.declared.reply.Reply.TheVariants as reply
-use Rattle.amqp_words.specs.declared.reply.NamedReply.{NamedReply}
+use Rattle.amqp_peer.specs.amqp_words.declared.open_error.OpenError.TheVariants as failed
+use Rattle.amqp_peer.specs.amqp_words.declared.reply.Reply.{Reply}
+use Rattle.amqp_peer.specs.amqp_words.declared.reply.Reply.TheVariants as reply
+use Rattle.amqp_peer.specs.amqp_words.declared.reply.NamedReply.{NamedReply}
 use Rattle.amqp_peer.specs.Causes.{IsTied}
 use Rattle.amqp_peer.specs.History.{Local, made_in, read_in, wrote_in}
 use Rattle.amqp_peer.specs.Layers.{layer_in, HasLayer}

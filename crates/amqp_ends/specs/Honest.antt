@@ -7,10 +7,10 @@ use Rattle.amqp_engine.specs.declared.error.Error.{Error as ConnectionFault}
 use Rattle.amqp_engine.specs.declared.error.Error.TheVariants as connection
 use Rattle.sasl_exchange.specs.declared.error.NegotiationError.{NegotiationError}
 use Rattle.sasl_exchange.specs.declared.error.NegotiationError.TheVariants.{Memory, ProtocolHeaderMismatch, NotImplemented, SaslError, ScramError, Io, DecodeError, IllegalState, FramingError}
-use Rattle.amqp_words.specs.declared.open_error.OpenError.TheVariants as failed
-use Rattle.amqp_words.specs.declared.reply.Reply.{Reply}
-use Rattle.amqp_words.specs.declared.reply.Reply.TheVariants as reply
-use Rattle.amqp_words.specs.declared.reply.NamedReply.{NamedReply}
+use Rattle.amqp_peer.specs.amqp_words.declared.open_error.OpenError.TheVariants as failed
+use Rattle.amqp_peer.specs.amqp_words.declared.reply.Reply.{Reply}
+use Rattle.amqp_peer.specs.amqp_words.declared.reply.Reply.TheVariants as reply
+use Rattle.amqp_peer.specs.amqp_words.declared.reply.NamedReply.{NamedReply}
 
 -- the transport fails for the idle time or for the size of a frame: never for the link, nor for the type or the body of a frame
 abbrev pub IsHonestFault : TransportFault → Type 0

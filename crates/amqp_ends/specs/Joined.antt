@@ -5,7 +5,7 @@ use Rattle.amqp_wire.specs.declared.link.Held.TheVariants as held
 use Rattle.amqp_wire.specs.Events.{LinkEvent, NotRead, NotWritten, Includes}
 use Rattle.amqp_transport.specs.declared.frames.Frame.{Frame}
 use Rattle.amqp_transport.specs.Kinds.{amqp_again}
-use Rattle.amqp_words.specs.declared.call.Call.{Call}
+use Rattle.amqp_peer.specs.amqp_words.declared.call.Call.{Call}
 use Rattle.amqp_peer.specs.Calls.{IsClose}
 use Rattle.amqp_peer.specs.Causes.{IsTied}
 use Rattle.amqp_peer.specs.History.{Local, link_in, given_in, read_in, wrote_in}

@@ -5,3 +5,4 @@ pub mod Quiet
 pub mod Wants
 pub mod Gates
 pub mod Passes
+pub mod Streams

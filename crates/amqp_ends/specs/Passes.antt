@@ -6,7 +6,7 @@ use Rattle.sasl_exchange.specs.declared.exchange.Turn.TheVariants.{Pass}
 use Rattle.sasl_exchange.specs.Exchange.{refused_with}
 use Rattle.amqp_opening.specs.declared.authentication.SaslCall.{SaslCall}
 use Rattle.amqp_opening.specs.Authentication.{mechanism_of_call, HasAllowedTexts, turn_by}
-use Rattle.amqp_words.specs.declared.open_error.OpenError.TheVariants as failed
+use Rattle.amqp_peer.specs.amqp_words.declared.open_error.OpenError.TheVariants as failed
 use Rattle.amqp_peer.specs.Causes.{HasHeader}
 use Rattle.amqp_peer.specs.History.{Local, Replied, made_in, replied_in, wrote_in}
 use Rattle.amqp_peer.specs.Layers.{layer_in, HasExchange}

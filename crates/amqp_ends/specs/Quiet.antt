@@ -5,8 +5,8 @@ use Rattle.amqp_opening.specs.declared.authentication.SaslCall.{SaslCall}
 use Rattle.amqp_opening.specs.Opening.{amqp_header}
 use Rattle.amqp_engine.specs.Sentence.{bytes_of_all}
 use Rattle.sasl_gate.specs.Frames.{HasSaslFrame, said}
-use Rattle.amqp_words.specs.declared.call.Call.{Call}
-use Rattle.amqp_words.specs.declared.call.Call.TheVariants.{Open, Accept, Close}
+use Rattle.amqp_peer.specs.amqp_words.declared.call.Call.{Call}
+use Rattle.amqp_peer.specs.amqp_words.declared.call.Call.TheVariants.{Open, Accept, Close}
 use Rattle.amqp_peer.specs.declared.peer.PeerKind.{PeerKind}
 use Rattle.amqp_peer.specs.declared.peer.PeerKind.TheVariants.{Client, Listener}
 use Rattle.amqp_peer.specs.Causes.{IsTied}

@@ -1,8 +1,8 @@
 -- What a call waits for where nothing is in flight (OASIS AMQP 1.0, part 2, section 2.4).
 use Rattle.std.specs.Prelude.{◌≡◌, ◌⊎◌, ◌≤◌, ℕ, List, [], ◌∷◌, ◌++◌, length, Option}
-use Rattle.amqp_words.specs.declared.call.Call.{Call}
-use Rattle.amqp_words.specs.declared.call.Call.TheVariants.{Close}
-use Rattle.amqp_words.specs.declared.open_error.OpenError.{OpenError}
+use Rattle.amqp_peer.specs.amqp_words.declared.call.Call.{Call}
+use Rattle.amqp_peer.specs.amqp_words.declared.call.Call.TheVariants.{Close}
+use Rattle.amqp_peer.specs.amqp_words.declared.open_error.OpenError.{OpenError}
 use Rattle.amqp_peer.specs.Causes.{AllCaused, IsBroken, HasHeader, IsTied}
 use Rattle.amqp_peer.specs.History.{Local, made_in, link_in, replied_in, read_in, wrote_in}
 use Rattle.amqp_peer.specs.Layers.{layer_in, HasLayer}

@@ -2,7 +2,7 @@
 ghost use Rattle.std.specs.Prelude.{◌≡◌, ◌⊎◌, ◌≤◌, ℕ, List, [], ◌∷◌, ◌++◌, length, Option};
 ghost use Rattle.sasl_exchange.specs.declared.error.NegotiationError.{NegotiationError};
 ghost use Rattle.amqp_opening.specs.declared.authentication.SaslCall.{SaslCall};
-ghost use Rattle.amqp_words.specs.declared.call.Call.{Call};
+ghost use Rattle.amqp_peer.specs.amqp_words.declared.call.Call.{Call};
 ghost use Rattle.amqp_peer.specs.Causes.{AllCaused, OpenCauseIn};
 ghost use Rattle.amqp_peer.specs.History.{Local, Made, Polled, made_in, link_in, replied_in, read_in, wrote_in, IsInside};
 ghost use Rattle.amqp_peer.specs.Layers.{layer_in};

@@ -7,6 +7,7 @@ pub mod Runs
 pub mod Steps
 pub mod Says
 pub mod Seats
+pub mod Answered
 pub mod Handed
 pub mod Beats
 pub mod Closers

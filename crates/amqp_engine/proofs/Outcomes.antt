@@ -12,8 +12,8 @@ use Rattle.amqp_wire.specs.Frame.{IsFront}
 use Rattle.amqp_wire.specs.Codec.{Codec}
 use Rattle.amqp_wire.proofs.Events.{includes_left, includes_right, read_of-append, reads_in-append}
 use Rattle.amqp_composites.specs.declared.error.Error.{Error as AmqpError}
-use Rattle.amqp_frames.specs.declared.body.FrameBody.{FrameBody}
-use Rattle.amqp_frames.specs.declared.body.FrameBody.TheVariants as b
+use Rattle.amqp_transport.specs.amqp_frames.declared.body.FrameBody.{FrameBody}
+use Rattle.amqp_transport.specs.amqp_frames.declared.body.FrameBody.TheVariants as b
 use Rattle.amqp_transport.specs.declared.frames.Frame.{Frame}
 use Rattle.amqp_transport.specs.declared.idle_clock.IdleClock.{IdleClock}
 use Rattle.amqp_transport.specs.declared.transport.Error.{Error as TransportFault}
@@ -134,6 +134,7 @@ told_refusal : {L : Type 0} (at : ℕ) (old : State L) (events : List LinkEvent)
 told_refusal at old events given queued rejection.IllegalState new w r = (w, r)
 told_refusal at old events given queued rejection.NotImplemented new w r = (w, r)
 told_refusal at old events given queued rejection.NotFound new w r = (w, r)
+told_refusal at old events given queued rejection.FramingError new w r = (w, r)
 
 -- an error of the transport, which ends the engine
 told_fault : {L : Type 0} (at : ℕ) (old s : State L) (events : List LinkEvent) (e : TransportFault) (result : Result EngineStep Error) (new : State L) → result ≡ Err (error.TransportError e) → new ≡ failing s → (IsCalm old → IsFault at old events e) → IsTold at old events [] [] result new

@@ -2,7 +2,7 @@
 use Rattle.std.proofs.Common.{◌≡◌, ◌≤◌, ◌+◌, inl, inr, ℕ, length, Some, None, refl, sym, subst, arith}
 use Rattle.amqp_data.specs.Data.{items_depth}
 use Rattle.amqp_value.specs.Canonical.{AreSized, canonical, canonical_items, canonical_scalar, laid}
-use Rattle.amqp_frames.specs.Body.{body_values}
+use Rattle.amqp_transport.specs.amqp_frames.Body.{body_values}
 use Rattle.amqp_transport.specs.declared.frames.Frame.{Frame}
 use Rattle.amqp_transport.specs.Kinds.{no_frame, amqp_oversized, amqp_bytes}
 use Rattle.amqp_engine.specs.declared.phase.Phase.{Phase}
@@ -52,22 +52,25 @@ close_depth = refl
 close_small : IsSmall (close_frame None)
 close_small = record { least = omega (arith, close_length); sized = λ o. o close_sized (omega (arith, close_depth)) }
 
-rejection_length : (why : Rejection) → length (amqp_bytes (close_frame (Some (error_for why)))) ≤ 40
+rejection_length : (why : Rejection) → length (amqp_bytes (close_frame (Some (error_for why)))) ≤ 60
 unfolding canonical_items canonical canonical_scalar laid
 rejection_length rejection.IllegalState = omega arith
 rejection_length rejection.NotImplemented = omega arith
 rejection_length rejection.NotFound = omega arith
+rejection_length rejection.FramingError = omega arith
 
 rejection_sized : (why : Rejection) → AreSized (body_values (close_frame (Some (error_for why))).body)
 unfolding AreSized canonical_items canonical canonical_scalar laid
 rejection_sized rejection.IllegalState = ((tt, (((tt, ((omega arith, tt), omega arith)), tt), omega arith)), tt)
 rejection_sized rejection.NotImplemented = ((tt, (((tt, ((omega arith, tt), omega arith)), tt), omega arith)), tt)
 rejection_sized rejection.NotFound = ((tt, (((tt, ((omega arith, tt), omega arith)), tt), omega arith)), tt)
+rejection_sized rejection.FramingError = ((tt, (((tt, ((omega arith, tt), omega arith)), tt), omega arith)), tt)
 
 rejection_depth : (why : Rejection) → items_depth (body_values (close_frame (Some (error_for why))).body) ≤ 34
 rejection_depth rejection.IllegalState = omega arith
 rejection_depth rejection.NotImplemented = omega arith
 rejection_depth rejection.NotFound = omega arith
+rejection_depth rejection.FramingError = omega arith
 
 rejection_small : (why : Rejection) → IsSmall (close_frame (Some (error_for why)))
 rejection_small why = record { least = omega (arith, rejection_length why); sized = λ o. o (rejection_sized why) (rejection_depth why) }

@@ -12,9 +12,9 @@ use Rattle.amqp_engine.specs.declared.engine.EngineStep.{EngineStep}
 use Rattle.amqp_engine.specs.declared.error.Error.{Error}
 use Rattle.amqp_engine.specs.declared.phase.Phase.{Phase}
 use Rattle.amqp_engine.specs.declared.phase.Phase.TheVariants as p
-use Rattle.amqp_frames.specs.declared.body.FrameBody.{FrameBody}
-use Rattle.amqp_frames.specs.declared.body.FrameBody.TheVariants as b
-use Rattle.amqp_frames.specs.Session.{of_session}
+use Rattle.amqp_transport.specs.amqp_frames.declared.body.FrameBody.{FrameBody}
+use Rattle.amqp_transport.specs.amqp_frames.declared.body.FrameBody.TheVariants as b
+use Rattle.amqp_transport.specs.amqp_frames.Session.{of_session}
 use Rattle.amqp_engine.specs.declared.sessions.Plan.{Plan}
 use Rattle.amqp_engine.specs.State.{State}
 use Rattle.amqp_engine.specs.Machine.{arrived, arrived_answer, admitted, admitted_answer, plan_of, received, answer_to}

@@ -1,10 +1,10 @@
 -- What the reason of a stop says of the frames that were read.
 use Rattle.std.proofs.Common.{◌≡◌, ◌⊎◌, inl, inr, ℕ, List, [], ◌∷◌, ◌++◌, Option, Some, None, refl, sym, ap, ◌∙◌, subst}
-use Rattle.amqp_performatives.specs.declared.close.Close.{Close}
+use Rattle.amqp_transport.specs.amqp_performatives.declared.close.Close.{Close}
 use Rattle.amqp_composites.specs.declared.error.Error.{Error as AmqpError}
-use Rattle.amqp_frames.specs.declared.shared.ConnectionStopReason.{ConnectionStopReason}
-use Rattle.amqp_frames.specs.declared.shared.ConnectionStopReason.TheVariants as why
-use Rattle.amqp_frames.specs.declared.body.FrameBody.TheVariants as b
+use Rattle.amqp_transport.specs.amqp_frames.declared.shared.ConnectionStopReason.{ConnectionStopReason}
+use Rattle.amqp_transport.specs.amqp_frames.declared.shared.ConnectionStopReason.TheVariants as why
+use Rattle.amqp_transport.specs.amqp_frames.declared.body.FrameBody.TheVariants as b
 use Rattle.amqp_transport.specs.declared.frames.Frame.{Frame}
 use Rattle.amqp_engine.specs.declared.phase.Phase.{Phase}
 use Rattle.amqp_engine.specs.declared.phase.Phase.TheVariants as p

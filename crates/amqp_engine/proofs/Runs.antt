@@ -21,7 +21,7 @@ use Rattle.amqp_transport.specs.Stream.{Joined, Grew, frames_of}
 use Rattle.amqp_transport.specs.Wire.{Wire, FlushedTo}
 use Rattle.amqp_engine.specs.declared.phase.Phase.{Phase}
 use Rattle.amqp_engine.specs.declared.phase.Phase.TheVariants as p
-use Rattle.amqp_frames.specs.declared.shared.ConnectionStopReason.{ConnectionStopReason}
+use Rattle.amqp_transport.specs.amqp_frames.declared.shared.ConnectionStopReason.{ConnectionStopReason}
 use Rattle.amqp_engine.specs.declared.connection.Settings.{Settings}
 use Rattle.amqp_engine.specs.Calls.{IsTooLarge}
 use Rattle.amqp_engine.specs.Heard.{IsHeard}

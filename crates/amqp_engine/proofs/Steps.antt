@@ -2,9 +2,9 @@
 use Rattle.std.proofs.Common.{arith, ◌≡◌, ℕ, List, [], ◌∷◌, ◌++◌, Bool, true, false, Option, Some, None, Result, Ok, Err, refl, sym, ap, ◌∙◌, subst}
 use Rattle.amqp_wire.specs.declared.link.Link.{Ghosts}
 use Rattle.amqp_composites.specs.declared.error.Error.{Error as AmqpError}
-use Rattle.amqp_frames.specs.declared.body.FrameBody.{FrameBody}
-use Rattle.amqp_frames.specs.declared.body.FrameBody.TheVariants as b
-use Rattle.amqp_frames.specs.Session.{of_session}
+use Rattle.amqp_transport.specs.amqp_frames.declared.body.FrameBody.{FrameBody}
+use Rattle.amqp_transport.specs.amqp_frames.declared.body.FrameBody.TheVariants as b
+use Rattle.amqp_transport.specs.amqp_frames.Session.{of_session}
 use Rattle.amqp_transport.specs.declared.frames.Frame.{Frame}
 use Rattle.amqp_transport.specs.declared.transport.Error.{Error as TransportFault}
 use Rattle.amqp_transport.specs.declared.transport.Error.TheVariants as fault
@@ -15,8 +15,8 @@ use Rattle.amqp_transport.specs.Causes.{kept_after}
 use Rattle.amqp_transport.specs.Kinds.{no_frame, amqp_spells}
 use Rattle.amqp_transport.specs.Stream.{Grew, frames_of}
 use Rattle.amqp_transport.specs.Wire.{Wire}
-use Rattle.amqp_performatives.specs.declared.open.Open.{Open}
-use Rattle.amqp_frames.specs.declared.shared.ConnectionStopReason.{ConnectionStopReason}
+use Rattle.amqp_transport.specs.amqp_performatives.declared.open.Open.{Open}
+use Rattle.amqp_transport.specs.amqp_frames.declared.shared.ConnectionStopReason.{ConnectionStopReason}
 use Rattle.amqp_engine.specs.declared.phase.Rejection.{Rejection}
 use Rattle.amqp_engine.specs.declared.phase.Rejection.TheVariants as rejection
 use Rattle.amqp_engine.specs.declared.engine.EngineStep.{EngineStep}

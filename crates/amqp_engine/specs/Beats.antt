@@ -1,7 +1,7 @@
 -- What the frames of a step make of the heartbeat (OASIS AMQP 1.0, part 2, section 2.4.5).
 use Rattle.std.specs.Prelude.{◌≡◌, ℕ, List, [], ◌∷◌, false, Some, None, ⊤}
-use Rattle.amqp_frames.specs.declared.body.FrameBody.{FrameBody}
-use Rattle.amqp_frames.specs.declared.body.FrameBody.TheVariants as b
+use Rattle.amqp_transport.specs.amqp_frames.declared.body.FrameBody.{FrameBody}
+use Rattle.amqp_transport.specs.amqp_frames.declared.body.FrameBody.TheVariants as b
 use Rattle.amqp_transport.specs.declared.frames.Frame.{Frame}
 use Rattle.amqp_transport.specs.declared.heart_beat.HeartBeat.{HeartBeat}
 use Rattle.amqp_transport.specs.Clocks.{IsDue, periods}

@@ -1,5 +1,5 @@
 -- What each call of an engine does, by what the link and the transport answer in it.
-use Rattle.std.specs.Prelude.{◌≡◌, ◌<◌, ◌≤◌, ◌+◌, ◌^◌, ◌⊎◌, ℕ, Bool, true, false, length, slice_set, Option, Some, None, Result, Ok, Err}
+use Rattle.std.specs.Prelude.{◌≡◌, ◌<◌, ◌≤◌, ◌+◌, ◌^◌, ◌⊎◌, ℕ, Bool, true, false, length, Option, Some, None, Result, Ok, Err}
 use Rattle.amqp_wire.specs.declared.link.Link.{Ghosts}
 use Rattle.amqp_wire.specs.declared.link.IoKind.TheVariants.{End}
 use Rattle.amqp_transport.specs.declared.frames.Frame.{Frame}
@@ -21,10 +21,10 @@ use Rattle.amqp_engine.specs.declared.error.Error.TheVariants as error
 use Rattle.amqp_engine.specs.declared.phase.Phase.{Phase}
 use Rattle.amqp_engine.specs.declared.phase.Phase.TheVariants as p
 use Rattle.amqp_engine.specs.declared.phase.Rejection.{Rejection}
-use Rattle.amqp_frames.specs.declared.shared.IncomingSession.{IncomingSession}
+use Rattle.amqp_transport.specs.amqp_frames.declared.shared.IncomingSession.{IncomingSession}
 use Rattle.amqp_engine.specs.declared.error.AllocSessionError.{AllocSessionError}
 use Rattle.amqp_engine.specs.declared.error.AllocSessionError.TheVariants as alloc
-use Rattle.amqp_engine.specs.Channels.{Channels, TakesFrame, TakesSession, first_free, seat_taken}
+use Rattle.amqp_engine.specs.Channels.{Channels, TakesFrame, TakesSession, first_free, seat_taken, seat_freed}
 use Rattle.amqp_engine.specs.Errors.{error_of}
 use Rattle.amqp_engine.specs.Machine.{received, answer_to}
 use Rattle.amqp_engine.specs.Phases.{has_failed, is_open}
@@ -164,4 +164,4 @@ Allocates old (Err (alloc.Memory a)) new = new ≡ old
 
 -- a channel is free again
 abbrev pub freed : {L : Type 0} → State L → ℕ → State L
-freed s channel = with_channels s (record s.channels { seats = slice_set s.channels.seats channel false })
+freed s channel = with_channels s (seat_freed channel s.channels)

@@ -1,21 +1,23 @@
 -- The channels of sessions, and what came on them.
-use Rattle.std.specs.Prelude.{◌≡◌, ℕ, ◌+◌, ◌<◌, ◌==◌, Bool, true, false, not, List, [], ◌∷◌, ◌++◌, map, filter, vec_len, Option, Some, None}
+use Rattle.std.specs.Prelude.{◌≡◌, ℕ, ◌+◌, ◌<◌, nat_eq, Bool, true, false, List, [], ◌∷◌, ◌++◌, map, slice_set, Option, Some, None, if◌then◌else◌}
 use Prim.Native.Nat.{zero, suc}
-use Rattle.std.specs.Vec.{vec_capacity}
+use Rattle.std.specs.List.{list_any}
 use Rattle.std.specs.VecDeque.{deque_len, deque_capacity}
-use Rattle.amqp_frames.specs.declared.body.FrameBody.{FrameBody}
-use Rattle.amqp_frames.specs.declared.body.FrameBody.TheVariants as b
-use Rattle.amqp_frames.specs.declared.shared.IncomingSession.{IncomingSession}
-use Rattle.amqp_frames.specs.declared.shared.SessionFrame.{SessionFrame}
+use Rattle.indexmap.specs.IndexSet.{spare, swap_remove_by}
+use Rattle.amqp_transport.specs.amqp_frames.declared.body.FrameBody.{FrameBody}
+use Rattle.amqp_transport.specs.amqp_frames.declared.body.FrameBody.TheVariants as b
+use Rattle.amqp_transport.specs.amqp_frames.declared.shared.IncomingSession.{IncomingSession}
+use Rattle.amqp_transport.specs.amqp_frames.declared.shared.SessionFrame.{SessionFrame}
 use Rattle.amqp_transport.specs.declared.frames.Frame.{Frame}
 use Rattle.amqp_engine.specs.declared.sessions.Plan.{Plan}
 use Rattle.amqp_engine.specs.declared.sessions.Plan.TheVariants as plan
 use Rattle.amqp_engine.specs.declared.sessions.Sessions.{Sessions}
 
--- of each channel of this end whether a session has it; the peer's channels on which it has begun a session; the frames that wait;
--- the sessions that the peer asks for
+-- of each channel of this end whether a session has it; those whose Begin the peer has answered; the peer's channels on which it has
+-- begun a session; the frames that wait; the sessions that the peer asks for
 pub record Channels : Type 0 where
   pub seats : List Bool
+  pub answered : List ℕ
   pub remotes : List ℕ
   pub incoming : List Frame
   pub begun : List IncomingSession
@@ -28,17 +30,39 @@ abbrev pub frames_in : List SessionFrame → List Frame
 frames_in xs = map frame_in xs
 
 abbrev pub channels_of : Sessions → Channels
-channels_of s = record { seats = s.seats.items; remotes = s.remotes.items; incoming = frames_in s.incoming.items; begun = s.begun.items }
+channels_of s = record { seats = s.seats.items; answered = s.answered.keys; remotes = s.remotes.keys; incoming = frames_in s.incoming.items; begun = s.begun.items }
 
 -- no sessions
 abbrev pub no_channels : Channels
-no_channels = record { seats = []; remotes = []; incoming = []; begun = [] }
+no_channels = record { seats = []; answered = []; remotes = []; incoming = []; begun = [] }
 
 -- there is room for what one frame may add
 pub record HasRoom (s : Sessions) : Type 0 where
-  pub remotes : vec_len s.remotes < vec_capacity s.remotes
+  pub answered : 0 < spare s.answered
+  pub remotes : 0 < spare s.remotes
   pub incoming : deque_len s.incoming < deque_capacity s.incoming
   pub begun : deque_len s.begun < deque_capacity s.begun
+
+-- the channel is one of these
+abbrev pub is_among : ℕ → List ℕ → Bool
+is_among channel channels = list_any (nat_eq channel) channels
+
+-- it is one of them from here on
+abbrev pub with_channel : ℕ → List ℕ → List ℕ
+with_channel channel channels = if is_among channel channels then channels else channels ++ channel ∷ []
+
+abbrev pub with_named : Option ℕ → List ℕ → List ℕ
+with_named None channels = channels
+with_named (Some channel) channels = with_channel channel channels
+
+-- it is none of them from here on: the last takes its place
+abbrev pub without_channel : ℕ → List ℕ → List ℕ
+without_channel channel channels = swap_remove_by (nat_eq channel) channels
+
+-- the channel of this end that a Begin names
+abbrev pub named_in : FrameBody → Option ℕ
+named_in (b.Begin x) = x.remote_channel
+named_in body = None
 
 -- the session that a Begin asks for
 abbrev pub asked_in : ℕ → FrameBody → Option IncomingSession
@@ -55,9 +79,9 @@ with_asked xs (Some x) = xs ++ x ∷ []
 -- a frame is taken in as is planned
 abbrev pub taken_in : Plan → Channels → Frame → Channels
 taken_in plan.Deliver c x = record c { incoming = c.incoming ++ x ∷ [] }
-taken_in plan.Answer c x = record c { remotes = c.remotes ++ x.channel ∷ []; incoming = c.incoming ++ x ∷ [] }
-taken_in plan.End c x = record c { remotes = filter (λ d. not (d == x.channel)) c.remotes; incoming = c.incoming ++ x ∷ [] }
-taken_in plan.Ask c x = record c { remotes = c.remotes ++ x.channel ∷ []; begun = with_asked c.begun (asked x) }
+taken_in plan.Answer c x = record c { answered = with_named (named_in x.body) c.answered; remotes = with_channel x.channel c.remotes; incoming = c.incoming ++ x ∷ [] }
+taken_in plan.End c x = record c { remotes = without_channel x.channel c.remotes; incoming = c.incoming ++ x ∷ [] }
+taken_in plan.Ask c x = record c { remotes = with_channel x.channel c.remotes; begun = with_asked c.begun (asked x) }
 taken_in (plan.Reject why) c x = c
 
 -- the first channel that no session has
@@ -71,6 +95,10 @@ abbrev pub seat_taken : List Bool → ℕ → List Bool
 seat_taken [] channel = true ∷ []
 seat_taken (x ∷ seats) zero = true ∷ seats
 seat_taken (x ∷ seats) (suc channel) = x ∷ seat_taken seats channel
+
+-- that channel is free, and a session that has it next is not answered yet
+abbrev pub seat_freed : ℕ → Channels → Channels
+seat_freed channel c = record c { seats = slice_set c.seats channel false; answered = without_channel channel c.answered }
 
 -- how many of the first channels are taken
 abbrev pub taken_up_to : ℕ → List Bool → ℕ

@@ -1,7 +1,7 @@
 -- What a frame that is read does.
 use Rattle.std.specs.Prelude.{ℕ, Result, Ok, Err}
-use Rattle.amqp_frames.specs.declared.body.FrameBody.{FrameBody}
-use Rattle.amqp_frames.specs.declared.body.FrameBody.TheVariants as b
+use Rattle.amqp_transport.specs.amqp_frames.declared.body.FrameBody.{FrameBody}
+use Rattle.amqp_transport.specs.amqp_frames.declared.body.FrameBody.TheVariants as b
 use Rattle.amqp_transport.specs.declared.frames.Frame.{Frame}
 use Rattle.amqp_engine.specs.declared.engine.EngineStep.{EngineStep}
 use Rattle.amqp_engine.specs.declared.engine.EngineStep.TheVariants.{Worked}
@@ -12,7 +12,7 @@ use Rattle.amqp_engine.specs.declared.phase.Phase.TheVariants as p
 use Rattle.amqp_engine.specs.declared.phase.Rejection.TheVariants as rejection
 use Rattle.amqp_engine.specs.declared.sessions.Plan.{Plan}
 use Rattle.amqp_engine.specs.declared.sessions.Plan.TheVariants as plan
-use Rattle.amqp_engine.specs.Plans.{is_among, planned, rejection_told}
+use Rattle.amqp_engine.specs.Plans.{planned, rejection_told}
 use Rattle.amqp_engine.specs.Channels.{taken_in}
 use Rattle.amqp_engine.specs.State.{State, entered, remote_reason, answered_reason}
 
@@ -29,7 +29,7 @@ awaited_answer body = Err IllegalState
 
 -- a frame of a session, as is planned
 abbrev pub plan_of : {L : Type 0} → State L → Frame → Plan
-plan_of s x = planned (is_among x.channel s.channels.remotes) s.settings.is_listener s.channels.seats x.body
+plan_of s x = planned s.settings s.channels x
 
 abbrev pub phase_after : Plan → Phase → Phase
 phase_after (plan.Reject why) phase = p.Rejected why

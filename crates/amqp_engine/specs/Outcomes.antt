@@ -16,7 +16,7 @@ use Rattle.amqp_engine.specs.declared.error.Error.TheVariants as error
 use Rattle.amqp_engine.specs.declared.phase.Phase.{Phase}
 use Rattle.amqp_engine.specs.declared.phase.Phase.TheVariants as p
 use Rattle.amqp_engine.specs.declared.phase.Rejection.{Rejection}
-use Rattle.amqp_frames.specs.Session.{of_session}
+use Rattle.amqp_transport.specs.amqp_frames.Session.{of_session}
 use Rattle.amqp_engine.specs.declared.sessions.Plan.{Plan}
 use Rattle.amqp_engine.specs.Channels.{Channels, taken_in}
 use Rattle.amqp_engine.specs.Machine.{plan_of, phase_after}

@@ -1,9 +1,9 @@
 -- How far an engine is (OASIS AMQP 1.0, part 2, section 2.4.6).
 use Rattle.std.specs.Prelude.{Bool, true, false}
-use Rattle.amqp_frames.specs.declared.body.FrameBody.{FrameBody}
-use Rattle.amqp_frames.specs.declared.body.FrameBody.TheVariants as b
-use Rattle.amqp_frames.specs.declared.shared.ConnectionState.{ConnectionState}
-use Rattle.amqp_frames.specs.declared.shared.ConnectionState.TheVariants as state
+use Rattle.amqp_transport.specs.amqp_frames.declared.body.FrameBody.{FrameBody}
+use Rattle.amqp_transport.specs.amqp_frames.declared.body.FrameBody.TheVariants as b
+use Rattle.amqp_transport.specs.amqp_frames.declared.shared.ConnectionState.{ConnectionState}
+use Rattle.amqp_transport.specs.amqp_frames.declared.shared.ConnectionState.TheVariants as state
 use Rattle.amqp_engine.specs.declared.phase.BodyKind.{BodyKind}
 use Rattle.amqp_engine.specs.declared.phase.BodyKind.TheVariants as kind
 use Rattle.amqp_engine.specs.declared.phase.Phase.{Phase}

@@ -1,35 +1,48 @@
--- What becomes of a frame of a session (OASIS AMQP 1.0, part 2, section 2.5).
-use Rattle.std.specs.Prelude.{ℕ, ◌==◌, Bool, true, false, List, Option, Some, None, slice_index_or, if◌then◌else◌}
-use Rattle.std.specs.List.{list_any}
-use Rattle.amqp_frames.specs.declared.body.FrameBody.{FrameBody}
-use Rattle.amqp_frames.specs.declared.body.FrameBody.TheVariants as b
+-- What becomes of a frame of a session (OASIS AMQP 1.0, part 2, sections 2.5 and 2.7.1).
+use Rattle.std.specs.Prelude.{ℕ, nat_lt, Bool, true, false, Option, Some, None, slice_index_or, if◌then◌else◌}
+use Rattle.amqp_transport.specs.amqp_frames.declared.body.FrameBody.{FrameBody}
+use Rattle.amqp_transport.specs.amqp_frames.declared.body.FrameBody.TheVariants as b
+use Rattle.amqp_transport.specs.declared.frames.Frame.{Frame}
+use Rattle.amqp_engine.specs.declared.connection.Settings.{Settings}
 use Rattle.amqp_engine.specs.declared.error.Error.{Error}
 use Rattle.amqp_engine.specs.declared.error.Error.TheVariants as error
 use Rattle.amqp_engine.specs.declared.phase.Rejection.{Rejection}
 use Rattle.amqp_engine.specs.declared.phase.Rejection.TheVariants as rejection
 use Rattle.amqp_engine.specs.declared.sessions.Plan.{Plan}
 use Rattle.amqp_engine.specs.declared.sessions.Plan.TheVariants as plan
+use Rattle.amqp_engine.specs.Channels.{Channels, is_among}
 
--- the channel is one of these
-abbrev pub is_among : ℕ → List ℕ → Bool
-is_among channel channels = list_any (λ c. c == channel) channels
+-- A Begin that answers names a channel on which this end has a session, whose Begin is not answered yet; a second answer is out of
+-- order (part 2, section 2.5.1).
+abbrev pub answer_plan : Bool → Bool → Plan
+answer_plan false is_answered = plan.Reject rejection.NotFound
+answer_plan true true = plan.Reject rejection.IllegalState
+answer_plan true false = plan.Answer
 
--- A Begin on a channel where a session is begun is out of order. One that answers names a channel on which this end has a session;
--- another asks for a session, at an end that takes some.
-abbrev pub begin_plan : Bool → Bool → List Bool → Option ℕ → Plan
-begin_plan true is_listener seats asked = plan.Reject rejection.IllegalState
-begin_plan false is_listener seats (Some channel) = if slice_index_or seats channel false then plan.Answer else plan.Reject rejection.NotFound
-begin_plan false true seats None = plan.Ask
-begin_plan false false seats None = plan.Reject rejection.NotImplemented
+-- a Begin on a channel where a session is begun is out of order; one that names no channel asks for a session, at an end that takes some
+abbrev pub begin_plan : Bool → Bool → Channels → Option ℕ → Plan
+begin_plan true is_listener c named = plan.Reject rejection.IllegalState
+begin_plan false is_listener c (Some channel) = answer_plan (slice_index_or c.seats channel false) (is_among channel c.answered)
+begin_plan false true c None = plan.Ask
+begin_plan false false c None = plan.Reject rejection.NotImplemented
 
 -- other frames come on a channel where the peer has begun a session
-abbrev pub planned : Bool → Bool → List Bool → FrameBody → Plan
-planned is_known is_listener seats (b.Begin x) = begin_plan is_known is_listener seats x.remote_channel
-planned is_known is_listener seats (b.End x) = if is_known then plan.End else plan.Reject rejection.NotFound
-planned is_known is_listener seats body = if is_known then plan.Deliver else plan.Reject rejection.NotFound
+abbrev pub known_plan : Bool → Bool → Channels → FrameBody → Plan
+known_plan is_known is_listener c (b.Begin x) = begin_plan is_known is_listener c x.remote_channel
+known_plan is_known is_listener c (b.End x) = if is_known then plan.End else plan.Reject rejection.NotFound
+known_plan is_known is_listener c body = if is_known then plan.Deliver else plan.Reject rejection.NotFound
+
+-- no frame comes on a channel above the highest that both ends take (part 2, section 2.7.1)
+abbrev pub within_plan : Bool → Plan → Plan
+within_plan true q = plan.Reject rejection.FramingError
+within_plan false q = q
+
+abbrev pub planned : Settings → Channels → Frame → Plan
+planned s c x = within_plan (nat_lt s.channel_max x.channel) (known_plan (is_among x.channel c.remotes) s.is_listener c x.body)
 
 -- what the end's own caller is told of a rejection
 abbrev pub rejection_told : Rejection → Error
 rejection_told rejection.IllegalState = error.IllegalState
 rejection_told rejection.NotImplemented = error.NotImplemented
 rejection_told rejection.NotFound = error.NotFound
+rejection_told rejection.FramingError = error.IllegalState

@@ -1,6 +1,6 @@
 -- What an engine keeps of both ends' Opens (OASIS AMQP 1.0, part 2, section 2.7.1).
 use Rattle.std.specs.Prelude.{Bool, true, false, max, min}
-use Rattle.amqp_performatives.specs.declared.open.Open.{Open}
+use Rattle.amqp_transport.specs.amqp_performatives.declared.open.Open.{Open}
 use Rattle.amqp_engine.specs.declared.connection.Settings.{Settings}
 use Rattle.amqp_engine.specs.declared.connection.EndKind.{EndKind}
 use Rattle.amqp_engine.specs.declared.connection.EndKind.TheVariants.{Client, Listener}

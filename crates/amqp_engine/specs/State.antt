@@ -1,11 +1,11 @@
 -- What an engine is, and what a frame that it reads or writes makes of it.
 use Rattle.std.specs.Prelude.{ℕ, List, ◌++◌, codes, max, Option, Some, None, if◌then◌else◌}
 use Rattle.amqp_composites.specs.declared.error.Error.{Error as AmqpError}
-use Rattle.amqp_performatives.specs.declared.open.Open.{Open}
-use Rattle.amqp_frames.specs.declared.body.FrameBody.{FrameBody}
-use Rattle.amqp_frames.specs.declared.body.FrameBody.TheVariants as b
-use Rattle.amqp_frames.specs.declared.shared.ConnectionStopReason.{ConnectionStopReason}
-use Rattle.amqp_frames.specs.declared.shared.ConnectionStopReason.TheVariants as why
+use Rattle.amqp_transport.specs.amqp_performatives.declared.open.Open.{Open}
+use Rattle.amqp_transport.specs.amqp_frames.declared.body.FrameBody.{FrameBody}
+use Rattle.amqp_transport.specs.amqp_frames.declared.body.FrameBody.TheVariants as b
+use Rattle.amqp_transport.specs.amqp_frames.declared.shared.ConnectionStopReason.{ConnectionStopReason}
+use Rattle.amqp_transport.specs.amqp_frames.declared.shared.ConnectionStopReason.TheVariants as why
 use Rattle.amqp_transport.specs.declared.frames.Frame.{Frame}
 use Rattle.amqp_transport.specs.declared.heart_beat.HeartBeat.{HeartBeat}
 use Rattle.amqp_transport.specs.Clocks.{periods}
@@ -104,11 +104,12 @@ close_phase (Some error) = p.Discarding
 abbrev pub closing : {L : Type 0} → State L → Option AmqpError → State L
 closing s error = record (queueing s (close_frame error)) { phase = close_phase error; reason = own_reason error }
 
--- the error of a rejection (part 2, sections 2.8.15 and 2.8.16)
+-- the error of a rejection (part 2, sections 2.7.1, 2.8.15 and 2.8.16)
 abbrev pub condition_of : Rejection → List ℕ
 condition_of rejection.IllegalState = codes "amqp:illegal-state"
 condition_of rejection.NotImplemented = codes "amqp:not-implemented"
 condition_of rejection.NotFound = codes "amqp:not-found"
+condition_of rejection.FramingError = codes "amqp:connection:framing-error"
 
 abbrev pub error_for : Rejection → AmqpError
 error_for r = record { condition = condition_of r; description = None; info = None }

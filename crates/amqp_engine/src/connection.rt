@@ -2,7 +2,7 @@
 ghost use Rattle.std.specs.Prelude.{◌≡◌, max};
 ghost use Rattle.amqp_engine.specs.Settings.{settings_of, settings_of_end, open_of};
 
-use amqp_performatives::open::Open;
+use amqp_transport::amqp_performatives::open::Open;
 
 /// The end that has made the connection.
 #[derive(Debug, Drop)]

@@ -11,7 +11,7 @@ ghost use Rattle.amqp_engine.specs.Machine.{awaited, awaited_answer, arrived, ar
 ghost use Rattle.amqp_engine.specs.Sentence.{Ran};
 ghost use Rattle.amqp_engine.specs.Outcomes.{Stepped, HasClosed};
 ghost use Rattle.amqp_engine.specs.Errors.{error_of};
-ghost use Rattle.amqp_frames.specs.Session.{of_session};
+ghost use Rattle.amqp_transport.specs.amqp_frames.Session.{of_session};
 ghost use Rattle.amqp_engine.specs.Calls.{OpensTo, Writes, failing_by, Puts, Reads, ReadsOrWants, Rejects, Works, Answers, Acts, Flushes, Steps, Sends, Takes, TakesAsked, Allocates, freed};
 
 use crate::connection::{EndKind, Settings};
@@ -20,12 +20,12 @@ use crate::error::{AllocSessionError, Error};
 use crate::phase::{Phase, Rejection};
 use crate::sessions::{Plan, Sessions};
 use amqp_composites::error::Error as AmqpError;
-use amqp_frames::{
+use amqp_text::Symbol;
+use amqp_transport::amqp_frames::{
     ConnectionState, ConnectionStopReason, FrameBody, IncomingSession, SessionFrame, let_go,
 };
-use amqp_performatives::close::Close;
-use amqp_performatives::open::Open;
-use amqp_text::Symbol;
+use amqp_transport::amqp_performatives::close::Close;
+use amqp_transport::amqp_performatives::open::Open;
 use amqp_transport::{AmqpFrames, Flush, Frame, HeartBeat, Next, Transport, transport};
 use amqp_wire::link::{IoKind, Link};
 use std::alloc::{AllocError, Global};
@@ -75,8 +75,8 @@ impl<L: Link> Drop for ConnectionEngine<L> {
 impl<L: Link> Model for ConnectionEngine<L> {
     ghost use Rattle.amqp_engine.specs.State.{State};
     ghost use Rattle.amqp_engine.specs.Channels.{channels_of};
-    ghost use Rattle.amqp_frames.specs.contracts.shared.ConnectionStopReason as stop_reason;
-    ghost use Rattle.amqp_frames.specs.contracts.shared.IncomingSession as asked;
+    ghost use Rattle.amqp_transport.specs.amqp_frames.contracts.shared.ConnectionStopReason as stop_reason;
+    ghost use Rattle.amqp_transport.specs.amqp_frames.contracts.shared.IncomingSession as asked;
     ghost use Rattle.amqp_transport.specs.contracts.frames.Frame as frame;
     ghost use Rattle.std.specs.Coded.{codes};
 
@@ -123,6 +123,7 @@ impl Rejection {
             Rejection::IllegalState => symbol(alloc, b"amqp:illegal-state"),
             Rejection::NotImplemented => symbol(alloc, b"amqp:not-implemented"),
             Rejection::NotFound => symbol(alloc, b"amqp:not-found"),
+            Rejection::FramingError => symbol(alloc, b"amqp:connection:framing-error"),
         };
         match condition {
             Ok(condition) => Ok(AmqpError {
@@ -380,7 +381,7 @@ impl<L: Link> ConnectionEngine<L> {
         match self.transport.poll_next(at) {
             Ok(Next::Frame(frame)) => match SessionFrame::new(frame.channel, frame.body) {
                 Ok(frame) => {
-                    let plan = self.sessions.plan(self.settings.is_listener, &frame);
+                    let plan = self.sessions.plan(self.settings, &frame);
                     self.sessions.take(plan, frame);
                     self.follow(plan)
                 }
@@ -515,8 +516,8 @@ impl<L: Link> ConnectionEngine<L> {
     /// Writes what is queued, and then does one thing: it queues a Close that is owed, or the empty frame that is due, or reads
     /// at most one frame. `Stopped` exactly where the stop reason is told.
     ///
-    /// `IllegalState`, `NotImplemented` and `NotFound` say that the frame that was read may not come now, begins a session that
-    /// this end does not take, or names no session. The engine goes on: the next step queues the Close that is owed.
+    /// `IllegalState`, `NotImplemented` and `NotFound` say that the frame that was read may not come now or on that channel, begins
+    /// a session that this end does not take, or names no session. The engine goes on: the next step queues the Close that is owed.
     ///
     /// `TransportError` ends the engine, and the connection has stopped then. `Io` says that the link failed or its input ended,
     /// `IdleTimeoutElapsed` that no frame came for the idle time, `DecodeError`, `NotImplemented` and `FramingError` that what was

@@ -4,7 +4,7 @@ ghost use Rattle.amqp_engine.specs.Stops.{error_of_stop};
 
 use crate::drops::discard;
 use amqp_composites::error::Error as AmqpError;
-use amqp_frames::ConnectionStopReason;
+use amqp_transport::amqp_frames::ConnectionStopReason;
 use amqp_transport::transport;
 use std::alloc::AllocError;
 use thiserror::Error as ErrorDerive;
@@ -18,7 +18,7 @@ pub enum Error {
     /// The transport failed, or a frame is too large for the peer.
     #[error("TransportError")]
     TransportError(transport::Error),
-    /// A frame came out of order, or the connection is not open.
+    /// A frame came out of order or on a channel that is too high, or the connection is not open.
     #[error("IllegalState")]
     IllegalState,
     /// The peer began a session at an end that takes none.

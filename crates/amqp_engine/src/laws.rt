@@ -1,13 +1,15 @@
 //! What follows of the contracts, over the whole life of a connection.
-ghost use Rattle.std.specs.Prelude.{◌≡◌, ℕ, Bool, List, Option, None, Result, Ok, ◌<◌, ◌+◌, ◌↔◌, true};
+ghost use Rattle.std.specs.Prelude.{◌≡◌, ℕ, Bool, List, [], ◌∷◌, Option, None, Some, Result, Ok, ◌<◌, ◌≤◌, ◌+◌, ◌↔◌, true, false};
 ghost use Rattle.amqp_wire.specs.Events.{wrote_of};
 ghost use Rattle.amqp_transport.specs.Wire.{Wire};
 ghost use Rattle.amqp_engine.specs.declared.connection.EndKind.{EndKind};
 ghost use Rattle.amqp_engine.specs.Calls.{OpensTo, Steps, Sends};
-ghost use Rattle.amqp_engine.specs.Channels.{first_free, taken_up_to};
+ghost use Rattle.amqp_transport.specs.amqp_frames.Session.{of_session};
+ghost use Rattle.amqp_transport.specs.declared.frames.Frame.{Frame};
+ghost use Rattle.amqp_engine.specs.Channels.{first_free, taken_up_to, is_among, named_in};
 ghost use Rattle.amqp_engine.specs.Faults.{OwesTooMuch};
-ghost use Rattle.amqp_engine.specs.Outcomes.{Stepped, HasClosed};
-ghost use Rattle.amqp_engine.specs.Phases.{is_stopped};
+ghost use Rattle.amqp_engine.specs.Outcomes.{Stepped, HasClosed, IsHanded};
+ghost use Rattle.amqp_engine.specs.Phases.{is_open, is_stopped};
 ghost use Rattle.amqp_engine.specs.declared.engine.EngineStep.{EngineStep};
 ghost use Rattle.amqp_engine.specs.declared.engine.EngineStep.TheVariants as step;
 ghost use Rattle.amqp_engine.specs.declared.error.Error.{Error};
@@ -48,4 +50,13 @@ pub fn tells_of_its_call<L: Link>()
 /// The lowest free channel is above the highest exactly where the sessions on channels up to the highest number one more than it.
 pub fn counts_sessions()
     ensures { (highest : ℕ) (seats : List Bool) → (highest < first_free seats) ↔ (taken_up_to (highest + 1) seats ≡ highest + 1) }
+{}
+
+/// A Begin of this end is answered once (part 2, section 2.5.1): where one that names a channel of this end leaves the connection open,
+/// that channel was not answered before, and is from then on through all that is read. No frame of a session above the highest channel
+/// leaves it open (section 2.7.1).
+pub fn answers_once<L: Link>()
+    ensures first { (old new : State L) (x : Frame) (channel : ℕ) → is_open old.phase ≡ true → named_in x.body ≡ Some channel → IsHanded old (x ∷ []) new → is_open new.phase ≡ true → (is_among channel old.channels.answered ≡ false) × (is_among channel new.channels.answered ≡ true) }
+    ensures stays { (old new : State L) (given : List Frame) (channel : ℕ) → IsHanded old given new → is_among channel old.channels.answered ≡ true → is_among channel new.channels.answered ≡ true }
+    ensures within { (old new : State L) (x : Frame) → is_open old.phase ≡ true → of_session x.body ≡ true → IsHanded old (x ∷ []) new → is_open new.phase ≡ true → x.channel ≤ old.settings.channel_max }
 {}

@@ -2,7 +2,7 @@
 ghost use Rattle.std.specs.Prelude.{◌≡◌};
 ghost use Rattle.amqp_engine.specs.Phases.{kind_of, state_of, is_stopped, has_failed, is_open};
 
-use amqp_frames::{ConnectionState, FrameBody};
+use amqp_transport::amqp_frames::{ConnectionState, FrameBody};
 
 /// What a frame is for a connection.
 #[derive(Clone, Copy, Debug, PartialEq, Eq)]
@@ -38,6 +38,8 @@ pub enum Rejection {
     NotImplemented,
     /// A channel that names no session.
     NotFound,
+    /// A channel above the highest that both ends take (part 2, section 2.7.1).
+    FramingError,
 }
 
 /// How far an engine is.

@@ -1,12 +1,15 @@
 //! The channels of sessions, and what came on them (OASIS AMQP 1.0, part 2, section 2.5).
-ghost use Rattle.std.specs.Prelude.{◌≡◌, ◌==◌, ◌<◌, ◌≤◌, ◌++◌, ◌∷◌, [], not, filter, false, true, length, slice_index_or, slice_set, option_map, OnOk, OnErr, Some, None};
-ghost use Rattle.amqp_engine.specs.Plans.{is_among, planned, begin_plan, rejection_told};
-ghost use Rattle.amqp_engine.specs.Channels.{frame_in, asked, channels_of, taken_in, HasRoom, first_free, seat_taken, first_of, TakesFrame, TakesSession};
+ghost use Rattle.std.specs.Prelude.{◌≡◌, ◌<◌, ◌≤◌, [], false, length, slice_index_or, option_map, OnOk, OnErr};
+ghost use Rattle.indexmap.specs.IndexSet.{spare};
+ghost use Rattle.amqp_engine.specs.Plans.{planned, known_plan, begin_plan, answer_plan, rejection_told};
+ghost use Rattle.amqp_engine.specs.Channels.{frame_in, asked, named_in, channels_of, is_among, with_channel, without_channel, taken_in, HasRoom, first_free, seat_taken, seat_freed, first_of, TakesFrame, TakesSession};
 
+use crate::connection::Settings;
 use crate::drops::discard;
 use crate::error::Error;
 use crate::phase::Rejection;
-use amqp_frames::{FrameBody, IncomingSession, SessionFrame, let_go};
+use amqp_transport::amqp_frames::{FrameBody, IncomingSession, SessionFrame, let_go};
+use indexmap::IndexSet;
 use std::alloc::{AllocError, Global};
 use std::collections::VecDeque;
 
@@ -26,12 +29,13 @@ pub enum Plan {
 }
 
 /// The sessions of a connection, by their channels, and what came for them.
-#[derive(Debug)]
 pub struct Sessions {
     /// Of each channel of this end, from 0 on, whether a session has it.
     seats: Vec<bool>,
+    /// The channels of this end whose Begin the peer has answered.
+    answered: IndexSet<u16>,
     /// The peer's channels on which it has begun a session, and not ended it.
-    remotes: Vec<u16>,
+    remotes: IndexSet<u16>,
     /// The frames that wait, in order.
     incoming: VecDeque<SessionFrame>,
     /// The sessions that the peer asks for, in order.
@@ -43,11 +47,13 @@ impl Drop for Sessions {
     fn drop(self) {
         let Sessions {
             seats,
+            answered,
             remotes,
             incoming,
             begun,
         } = self;
         drop(seats);
+        drop(answered);
         drop(remotes);
         drop(incoming);
         drop(begun);
@@ -63,61 +69,30 @@ fn is_taken(seats: &[bool], channel: u16) -> bool
     }
 }
 
-fn is_among(channels: &[u16], channel: u16) -> bool
-    ensures { result ≡ is_among channel channels.now }
+/// The channel is one of these.
+fn add(channels: &mut IndexSet<u16>, channel: u16)
+    requires { 0 < spare channels.old }
+    ensures { channels.new.keys ≡ with_channel channel channels.old.keys }
 {
-    channels.contains(&channel)
+    let Ok(_) = channels.insert(channel) else {
+        unreachable!()
+    };
 }
 
-fn without(channels: &mut Vec<u16>, ended: u16)
-    ensures { channels.new.items ≡ filter (λ c. not (c == ended)) channels.old.items }
+/// The channel is none of these.
+fn remove(channels: &mut IndexSet<u16>, channel: u16)
+    ensures { channels.new.keys ≡ without_channel channel channels.old.keys }
 {
-    channels.retain(|channel| *channel != ended);
+    channels.swap_remove(&channel);
 }
 
-fn plan_begin(is_known: bool, is_listener: bool, seats: &[bool], asked: Option<u16>) -> Plan
-    ensures { result ≡ begin_plan is_known is_listener seats.now asked }
-{
-    if is_known {
-        return Plan::Reject(Rejection::IllegalState);
-    }
-    match asked {
-        Some(channel) => {
-            if is_taken(seats, channel) {
-                Plan::Answer
-            } else {
-                Plan::Reject(Rejection::NotFound)
-            }
-        }
-        None => {
-            if is_listener {
-                Plan::Ask
-            } else {
-                Plan::Reject(Rejection::NotImplemented)
-            }
-        }
-    }
-}
-
-fn plan_for(is_known: bool, is_listener: bool, seats: &[bool], body: &FrameBody) -> Plan
-    ensures { result ≡ planned is_known is_listener seats.now body.now }
+/// The channel of this end that a Begin names.
+fn named(body: &FrameBody) -> Option<u16>
+    ensures { result ≡ named_in body.now }
 {
     match body {
-        FrameBody::Begin(begin) => plan_begin(is_known, is_listener, seats, begin.remote_channel),
-        FrameBody::End(_) => {
-            if is_known {
-                Plan::End
-            } else {
-                Plan::Reject(Rejection::NotFound)
-            }
-        }
-        _ => {
-            if is_known {
-                Plan::Deliver
-            } else {
-                Plan::Reject(Rejection::NotFound)
-            }
-        }
+        FrameBody::Begin(begin) => begin.remote_channel,
+        _ => None,
     }
 }
 
@@ -148,11 +123,12 @@ fn ask(frame: SessionFrame) -> Option<IncomingSession>
 impl Sessions {
     /// No sessions; takes no memory.
     pub(crate) fn new(alloc: Global) -> Self
-        ensures { channels_of result ≡ record { seats = []; remotes = []; incoming = []; begun = [] } }
+        ensures { channels_of result ≡ record { seats = []; answered = []; remotes = []; incoming = []; begun = [] } }
     {
         Sessions {
             seats: Vec::new(alloc),
-            remotes: Vec::new(alloc),
+            answered: IndexSet::new(alloc),
+            remotes: IndexSet::new(alloc),
             incoming: VecDeque::new(alloc),
             begun: VecDeque::new(alloc),
         }
@@ -163,17 +139,73 @@ impl Sessions {
         ensures same { channels_of self.new ≡ channels_of self.old }
         ensures room { OnOk result (HasRoom self.new) }
     {
+        self.answered.reserve(1)?;
         self.remotes.reserve(1)?;
         self.incoming.reserve(1)?;
         self.begun.reserve(1)
     }
 
     /// What becomes of the frame.
-    pub(crate) fn plan(&self, is_listener: bool, frame: &SessionFrame) -> Plan
-        ensures { result ≡ planned (is_among frame.now.channel self.now.remotes.items) is_listener self.now.seats.items frame.now.body }
+    pub(crate) fn plan(&self, settings: Settings, frame: &SessionFrame) -> Plan
+        ensures { result ≡ planned settings (channels_of self.now) (frame_in frame.now) }
     {
-        let is_known = is_among(self.remotes.as_slice(), frame.channel());
-        plan_for(is_known, is_listener, self.seats.as_slice(), frame.body())
+        if frame.channel() > settings.channel_max {
+            return Plan::Reject(Rejection::FramingError);
+        }
+        let is_known = self.remotes.contains(&frame.channel());
+        self.plan_for(is_known, settings.is_listener, frame.body())
+    }
+
+    fn plan_for(&self, is_known: bool, is_listener: bool, body: &FrameBody) -> Plan
+        ensures { result ≡ known_plan is_known is_listener (channels_of self.now) body.now }
+    {
+        match body {
+            FrameBody::Begin(begin) => self.plan_begin(is_known, is_listener, begin.remote_channel),
+            FrameBody::End(_) => {
+                if is_known {
+                    Plan::End
+                } else {
+                    Plan::Reject(Rejection::NotFound)
+                }
+            }
+            _ => {
+                if is_known {
+                    Plan::Deliver
+                } else {
+                    Plan::Reject(Rejection::NotFound)
+                }
+            }
+        }
+    }
+
+    fn plan_begin(&self, is_known: bool, is_listener: bool, named: Option<u16>) -> Plan
+        ensures { result ≡ begin_plan is_known is_listener (channels_of self.now) named }
+    {
+        if is_known {
+            return Plan::Reject(Rejection::IllegalState);
+        }
+        match named {
+            Some(channel) => self.plan_answer(channel),
+            None => {
+                if is_listener {
+                    Plan::Ask
+                } else {
+                    Plan::Reject(Rejection::NotImplemented)
+                }
+            }
+        }
+    }
+
+    fn plan_answer(&self, channel: u16) -> Plan
+        ensures { result ≡ answer_plan (slice_index_or self.now.seats.items channel false) (is_among channel self.now.answered.keys) }
+    {
+        if !is_taken(self.seats.as_slice(), channel) {
+            return Plan::Reject(Rejection::NotFound);
+        }
+        if self.answered.contains(&channel) {
+            return Plan::Reject(Rejection::IllegalState);
+        }
+        Plan::Answer
     }
 
     /// Takes the frame in, as is planned.
@@ -184,15 +216,18 @@ impl Sessions {
         match plan {
             Plan::Deliver => self.incoming.push_back_reserved(frame),
             Plan::Answer => {
-                self.remotes.push_reserved(frame.channel());
+                if let Some(channel) = named(frame.body()) {
+                    add(&mut self.answered, channel);
+                }
+                add(&mut self.remotes, frame.channel());
                 self.incoming.push_back_reserved(frame);
             }
             Plan::End => {
-                without(&mut self.remotes, frame.channel());
+                remove(&mut self.remotes, frame.channel());
                 self.incoming.push_back_reserved(frame);
             }
             Plan::Ask => {
-                self.remotes.push_reserved(frame.channel());
+                add(&mut self.remotes, frame.channel());
                 if let Some(session) = ask(frame) {
                     self.begun.push_back_reserved(session);
                 }
@@ -225,8 +260,9 @@ impl Sessions {
 
     /// Frees the channel.
     pub(crate) fn free(&mut self, channel: u16)
-        ensures { channels_of self.new ≡ record (channels_of self.old) { seats = slice_set self.old.seats.items channel false } }
+        ensures { channels_of self.new ≡ seat_freed channel (channels_of self.old) }
     {
+        remove(&mut self.answered, channel);
         let channel = usize::from(channel);
         if channel < self.seats.len() {
             self.seats[channel] = false;
@@ -261,7 +297,7 @@ impl Rejection {
         ensures { result ≡ rejection_told self }
     {
         match self {
-            Rejection::IllegalState => Error::IllegalState,
+            Rejection::IllegalState | Rejection::FramingError => Error::IllegalState,
             Rejection::NotImplemented => Error::NotImplemented,
             Rejection::NotFound => Error::NotFound,
         }

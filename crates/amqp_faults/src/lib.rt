@@ -4,9 +4,9 @@
 pub use fault::{Fault, Reason};
 pub use values::fault_in;
 
-mod blocks;
+pub mod blocks;
 pub mod fault;
-mod form;
+pub mod form;
 mod front;
-mod scalars;
+pub mod scalars;
 pub mod values;

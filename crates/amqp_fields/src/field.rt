@@ -7,8 +7,8 @@ ghost use Rattle.amqp_fields.specs.Again.{symbols_again};
 ghost use Rattle.amqp_fields.specs.Fields.{Gives, Makes, MakesItems, IsThere, bool_in, ubyte_in, ushort_in, uint_in, ulong_in, timestamp_in, binary_in, string_in, symbol_in, symbols_in, all_symbols, of_bool, of_ubyte, of_ushort, of_uint, of_ulong, of_timestamp, of_binary, of_string, of_symbol, symbol_items, of_symbols};
 
 use crate::error::BaseError;
+use amqp_data::amqp_text::symbol::SymbolError;
 use amqp_data::{Binary, ElementKind, Symbol, SymbolList, Text, Timestamp, Value, ValueArray};
-use amqp_text::symbol::SymbolError;
 use std::alloc::Global;
 use std::vec::IntoIter;
 

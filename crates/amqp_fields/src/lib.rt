@@ -1,6 +1,7 @@
 //! The fields of described lists (OASIS AMQP 1.0, part 1, section 1.4): reading them from values, writing them.
 #![tactic(auto)]
 
+pub use amqp_data;
 pub use defaulted::Defaulted;
 pub use error::BaseError;
 pub use field::Field;

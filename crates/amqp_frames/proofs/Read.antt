@@ -3,13 +3,13 @@ use Rattle.std.proofs.Common.{◌≡◌, ℕ, ◌<◌, ◌≤◌, List, [], ◌+
 use Rattle.std.proofs.lemmas.List.{length-append, take-append-drop, take_at, drop_at}
 use Rattle.std.proofs.lemmas.Option.{none-some, same_Some}
 use Rattle.std.specs.Prelude.{Some, None, Result, Ok, Err}
-use Rattle.amqp_data.specs.Data.{Amqp, depth}
-use Rattle.amqp_data.specs.View.{view}
-use Rattle.amqp_data.specs.declared.value.Value.{Value}
-use Rattle.amqp_value.specs.Grammar.{Spells, scalar', empty_list, list', map', array', described'}
-use Rattle.amqp_fields.specs.declared.error.BaseError.{BaseError}
-use Rattle.amqp_fields.specs.declared.error.BaseError.TheVariants as errors
-use Rattle.amqp_fields.specs.Fields.{Gives}
+use Rattle.amqp_described.specs.amqp_data.Data.{Amqp, depth}
+use Rattle.amqp_described.specs.amqp_data.View.{view}
+use Rattle.amqp_described.specs.amqp_data.declared.value.Value.{Value}
+use Rattle.amqp_described.specs.amqp_value.Grammar.{Spells, scalar', empty_list, list', map', array', described'}
+use Rattle.amqp_described.specs.amqp_fields.declared.error.BaseError.{BaseError}
+use Rattle.amqp_described.specs.amqp_fields.declared.error.BaseError.TheVariants as errors
+use Rattle.amqp_described.specs.amqp_fields.Fields.{Gives}
 use Rattle.amqp_described.specs.Reading.{IsTheOne, Begins, ReadsFront}
 use Rattle.amqp_performatives.specs.declared.performative.Performative.{Performative}
 use Rattle.amqp_performatives.specs.Performative.{performative_in}

@@ -1,14 +1,14 @@
 -- What was written of a body is read again.
 use Rattle.std.proofs.Common.{◌≡◌, ℕ, List, sym, subst}
 use Rattle.std.specs.Prelude.{Some, Result, Ok, Err, IfOk, OnOk}
-use Rattle.amqp_data.specs.Data.{Items, list}
-use Rattle.amqp_value.specs.Canonical.{canonical}
-use Rattle.amqp_fields.specs.declared.error.BaseError.{BaseError}
-use Rattle.amqp_fields.specs.Fields.{MakesItems, trimmed}
+use Rattle.amqp_described.specs.amqp_data.Data.{Items, list}
+use Rattle.amqp_described.specs.amqp_value.Canonical.{canonical}
+use Rattle.amqp_described.specs.amqp_fields.declared.error.BaseError.{BaseError}
+use Rattle.amqp_described.specs.amqp_fields.Fields.{MakesItems, trimmed}
 use Rattle.amqp_described.specs.Writing.{numbered}
 use Rattle.amqp_described.specs.Bodies.{Puts}
 use Rattle.amqp_performatives.specs.declared.performative.Performative.{Performative}
-use Rattle.amqp_composites.specs.Kind.{number_of}
+use Rattle.amqp_described.specs.amqp_composites.Kind.{number_of}
 use Rattle.amqp_performatives.specs.Performative.{performative_in, kind_of_performative, performative_fields, IsPerformativeValid, read_again, performative_again}
 use Rattle.amqp_frames.specs.declared.body.FrameBody.{FrameBody}
 use Rattle.amqp_frames.specs.Body.{framed, SpellsBody, performative'}

@@ -1,11 +1,11 @@
 -- What the body of a frame says (OASIS AMQP 1.0, part 2, section 2.3.2).
 use Rattle.std.specs.Prelude.{◌≡◌, ℕ, ◌≤◌, List, [], ◌∷◌, ◌++◌, Option, Some, None}
-use Rattle.amqp_data.specs.Data.{Amqp, Items, no_items, item, depth}
-use Rattle.amqp_value.specs.Grammar.{Spells}
-use Rattle.amqp_composites.specs.declared.kind.CompositeKind.TheVariants as kind
+use Rattle.amqp_described.specs.amqp_data.Data.{Amqp, Items, no_items, item, depth}
+use Rattle.amqp_described.specs.amqp_value.Grammar.{Spells}
+use Rattle.amqp_described.specs.amqp_composites.declared.kind.CompositeKind.TheVariants as kind
 use Rattle.amqp_performatives.specs.declared.performative.Performative.{Performative}
 use Rattle.amqp_performatives.specs.declared.performative.Performative.TheVariants as p
-use Rattle.amqp_composites.specs.Described.{composite}
+use Rattle.amqp_described.specs.amqp_composites.Described.{composite}
 use Rattle.amqp_performatives.specs.Attach.{attach_fields, written}
 use Rattle.amqp_performatives.specs.Begin.{begin_fields}
 use Rattle.amqp_performatives.specs.Close.{close_fields}

@@ -1,12 +1,12 @@
 //! The body of a frame from its bytes (OASIS AMQP 1.0, part 2, section 2.3.2).
 ghost use Rattle.std.specs.Prelude.{◌≡◌};
 ghost use Rattle.amqp_described.specs.Reading.{IsTheOne};
-ghost use Rattle.amqp_fields.specs.Fields.{Gives};
+ghost use Rattle.amqp_described.specs.amqp_fields.Fields.{Gives};
 ghost use Rattle.amqp_frames.specs.Body.{framed, alone as alone_body, SpellsBody};
 
 use crate::body::FrameBody;
+use amqp_described::amqp_fields::BaseError;
 use amqp_described::{LEVELS, read_front};
-use amqp_fields::BaseError;
 use amqp_performatives::performative::Performative;
 use bytes::Bytes;
 use std::alloc::Global;

@@ -3,8 +3,8 @@ ghost use Rattle.std.specs.Prelude.{◌≡◌, true, false, IfOk, IfErr};
 ghost use Rattle.amqp_frames.specs.Session.{of_session};
 
 use crate::body::FrameBody;
-use amqp_composites::error::Error as AmqpError;
-use amqp_data::Binary;
+use amqp_described::amqp_composites::error::Error as AmqpError;
+use amqp_described::amqp_data::Binary;
 use amqp_performatives::attach::Attach;
 use amqp_performatives::begin::Begin;
 use amqp_performatives::detach::Detach;

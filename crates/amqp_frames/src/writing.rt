@@ -4,10 +4,10 @@ ghost use Rattle.amqp_frames.specs.Body.{SpellsBody, body_values, body_payload, 
 ghost use Rattle.amqp_described.specs.Bodies.{Encodes};
 
 use crate::body::FrameBody;
-use amqp_composites::CompositeKind;
-use amqp_data::Binary;
+use amqp_described::amqp_composites::CompositeKind;
+use amqp_described::amqp_data::Binary;
+use amqp_described::amqp_fields::BaseError;
 use amqp_described::{put_alone, put_fields};
-use amqp_fields::BaseError;
 use amqp_performatives::attach::attach_list;
 use amqp_performatives::begin::begin_list;
 use amqp_performatives::close::close_list;

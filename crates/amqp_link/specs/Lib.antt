@@ -5,3 +5,5 @@ pub mod Rules
 pub mod Link
 pub mod Parting
 pub mod Accept
+pub use Rattle.amqp_frames.specs as amqp_frames
+pub use Rattle.amqp_frames.specs.amqp_performatives

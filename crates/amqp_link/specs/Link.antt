@@ -4,8 +4,8 @@ use Rattle.std.specs.VecDeque.{deque_len, deque_capacity}
 use Rattle.amqp_composites.specs.declared.error.Error.{Error as AmqpError}
 use Rattle.amqp_composites.specs.declared.modes.Role.{Role}
 use Rattle.amqp_composites.specs.declared.modes.Role.TheVariants as role
-use Rattle.amqp_performatives.specs.declared.attach.Attach.{Attach}
-use Rattle.amqp_performatives.specs.declared.detach.Detach.{Detach}
+use Rattle.amqp_frames.specs.amqp_performatives.declared.attach.Attach.{Attach}
+use Rattle.amqp_frames.specs.amqp_performatives.declared.detach.Detach.{Detach}
 use Rattle.amqp_frames.specs.declared.body.FrameBody.{FrameBody}
 use Rattle.amqp_frames.specs.declared.body.FrameBody.TheVariants as b
 use Rattle.amqp_frames.specs.declared.shared.LinkFrame.{LinkFrame}

@@ -1,6 +1,6 @@
 -- Numbers of deliveries, which are modulo 2^32 (OASIS AMQP 1.0, part 2, section 2.8.10), and the Flows that tell of them.
 use Rattle.std.specs.Prelude.{ℕ, ◌+◌, ◌-◌, ◌%◌, Bool, false, Some, None}
-use Rattle.amqp_performatives.specs.declared.flow.Flow.{Flow}
+use Rattle.amqp_frames.specs.amqp_performatives.declared.flow.Flow.{Flow}
 
 -- how far a is behind b
 abbrev pub minus : ℕ → ℕ → ℕ

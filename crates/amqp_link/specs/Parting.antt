@@ -1,11 +1,11 @@
 -- How calls detach, close and abandon a link (OASIS AMQP 1.0, part 2, sections 2.6.4 to 2.6.6).
 use Rattle.std.specs.Prelude.{◌≡◌, ℕ, Bool, true, false, List, Option, Some, None, if◌then◌else◌}
 use Rattle.amqp_composites.specs.declared.error.Error.{Error as AmqpError}
-use Rattle.amqp_performatives.specs.declared.attach.Attach.{Attach}
-use Rattle.amqp_performatives.specs.declared.detach.Detach.{Detach}
+use Rattle.amqp_frames.specs.amqp_performatives.declared.attach.Attach.{Attach}
+use Rattle.amqp_frames.specs.amqp_performatives.declared.detach.Detach.{Detach}
 use Rattle.amqp_frames.specs.declared.body.FrameBody.TheVariants as b
 use Rattle.amqp_frames.specs.declared.shared.SessionStopReason.{SessionStopReason}
-use Rattle.amqp_termini.specs.declared.unsettled.UnsettledDelivery.{UnsettledDelivery}
+use Rattle.amqp_frames.specs.amqp_termini.declared.unsettled.UnsettledDelivery.{UnsettledDelivery}
 use Rattle.amqp_link.specs.declared.endpoint.DetachPoll.{DetachPoll}
 use Rattle.amqp_link.specs.declared.endpoint.DetachPoll.TheVariants.{Pending, Done, Failed}
 use Rattle.amqp_link.specs.declared.endpoint.LinkPhase.{LinkPhase}

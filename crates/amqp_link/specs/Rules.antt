@@ -5,10 +5,10 @@ use Rattle.amqp_composites.specs.declared.modes.Role.{Role}
 use Rattle.amqp_composites.specs.declared.modes.Role.TheVariants as role
 use Rattle.amqp_composites.specs.declared.modes.SenderSettleMode.{SenderSettleMode}
 use Rattle.amqp_composites.specs.declared.modes.SenderSettleMode.TheVariants.{Mixed}
-use Rattle.amqp_termini.specs.declared.source.Source.{Source}
-use Rattle.amqp_termini.specs.declared.target_archetype.TargetArchetype.{TargetArchetype}
-use Rattle.amqp_termini.specs.declared.target_archetype.TargetArchetype.TheVariants as archetype
-use Rattle.amqp_performatives.specs.declared.attach.Attach.{Attach}
+use Rattle.amqp_frames.specs.amqp_termini.declared.source.Source.{Source}
+use Rattle.amqp_frames.specs.amqp_termini.declared.target_archetype.TargetArchetype.{TargetArchetype}
+use Rattle.amqp_frames.specs.amqp_termini.declared.target_archetype.TargetArchetype.TheVariants as archetype
+use Rattle.amqp_frames.specs.amqp_performatives.declared.attach.Attach.{Attach}
 use Rattle.amqp_link.specs.declared.error.AttachFault.{AttachFault}
 use Rattle.amqp_link.specs.declared.error.AttachFault.TheVariants as fault
 

@@ -10,9 +10,9 @@ use crate::rules::fault_of;
 use crate::settings::AcceptSettings;
 use amqp_composites::modes::Role;
 use amqp_data::Text;
-use amqp_performatives::attach::Attach;
-use amqp_termini::source::Source;
-use amqp_termini::target_archetype::TargetArchetype;
+use amqp_frames::amqp_performatives::attach::Attach;
+use amqp_frames::amqp_termini::source::Source;
+use amqp_frames::amqp_termini::target_archetype::TargetArchetype;
 use std::alloc::{AllocError, Global};
 
 fn other_role(role: Role) -> Role

@@ -9,8 +9,8 @@ use crate::rules::fault_of;
 use amqp_composites::error::Error as AmqpError;
 use amqp_composites::modes::Role;
 use amqp_frames::LinkFrame;
-use amqp_performatives::attach::Attach;
-use amqp_performatives::detach::Detach;
+use amqp_frames::amqp_performatives::attach::Attach;
+use amqp_frames::amqp_performatives::detach::Detach;
 use std::alloc::{AllocError, Global};
 use std::collections::VecDeque;
 

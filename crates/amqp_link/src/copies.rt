@@ -2,8 +2,8 @@
 ghost use Rattle.std.specs.Prelude.{◌≡◌, IfOk};
 
 use amqp_fields::Field;
+use amqp_frames::amqp_performatives::attach::Attach;
 use amqp_frames::{ConnectionStopReason, SessionStopReason};
-use amqp_performatives::attach::Attach;
 use std::alloc::{AllocError, Global};
 
 /// A copy; the one error is want of memory.

@@ -7,8 +7,8 @@ use crate::endpoint::{LinkEndpoint, LinkPhase};
 use crate::error::{AttachError, AttachFault, IllegalLinkStateError, LinkStateError};
 use amqp_composites::error::Error as AmqpError;
 use amqp_composites::modes::Role;
+use amqp_frames::amqp_performatives::detach::Detach;
 use amqp_frames::{LinkFrame, SessionStopReason};
-use amqp_performatives::detach::Detach;
 use std::alloc::{AllocError, Global};
 
 /// Why a link that is being attached is not.

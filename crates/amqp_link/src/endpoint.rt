@@ -6,9 +6,9 @@ ghost use Rattle.amqp_link.specs.Link.{body_of, seen, spare, saying, TakesFrame,
 use crate::error::{AttachError, DetachError};
 use amqp_composites::error::Error as AmqpError;
 use amqp_data::Text;
+use amqp_frames::amqp_performatives::attach::Attach;
+use amqp_frames::amqp_performatives::detach::Detach;
 use amqp_frames::{LinkFrame, SessionStopReason};
-use amqp_performatives::attach::Attach;
-use amqp_performatives::detach::Detach;
 use std::alloc::{AllocError, Global};
 use std::collections::VecDeque;
 

@@ -2,6 +2,8 @@
 //! part 2, section 2.6).
 #![tactic(auto)]
 
+pub use amqp_frames;
+pub use amqp_frames::amqp_performatives;
 pub use copies::{copied, copied_optional, copied_reason};
 pub use endpoint::{AttachPoll, DetachPoll, LinkEndpoint, LinkPhase};
 pub use error::{

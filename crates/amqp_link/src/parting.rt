@@ -7,8 +7,8 @@ use crate::copies::{copied, copied_reason};
 use crate::endpoint::{DetachPoll, LinkEndpoint, LinkPhase};
 use crate::error::DetachError;
 use amqp_composites::error::Error as AmqpError;
+use amqp_frames::amqp_performatives::detach::Detach;
 use amqp_frames::{LinkFrame, SessionStopReason};
-use amqp_performatives::detach::Detach;
 use std::alloc::{AllocError, Global};
 
 /// Lets the error of a Detach go that is not sent.

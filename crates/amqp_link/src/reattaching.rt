@@ -11,8 +11,8 @@ use crate::rules::fault_of;
 use amqp_composites::error::Error as AmqpError;
 use amqp_data::Text;
 use amqp_frames::LinkFrame;
-use amqp_performatives::attach::Attach;
-use amqp_termini::UnsettledMap;
+use amqp_frames::amqp_performatives::attach::Attach;
+use amqp_frames::amqp_termini::UnsettledMap;
 use std::alloc::{AllocError, Global};
 
 /// Whether an Attach tells of deliveries that are not settled.

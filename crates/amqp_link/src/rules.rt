@@ -4,9 +4,9 @@ ghost use Rattle.amqp_link.specs.Rules.{is_coordinator, is_dynamic_source, is_dy
 
 use crate::error::AttachFault;
 use amqp_composites::modes::{Role, SenderSettleMode};
-use amqp_performatives::attach::Attach;
-use amqp_termini::source::Source;
-use amqp_termini::target_archetype::TargetArchetype;
+use amqp_frames::amqp_performatives::attach::Attach;
+use amqp_frames::amqp_termini::source::Source;
+use amqp_frames::amqp_termini::target_archetype::TargetArchetype;
 
 fn is_coordinator(target: &Option<TargetArchetype>) -> bool
     ensures { result ≡ is_coordinator target.now }

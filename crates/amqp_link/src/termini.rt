@@ -5,8 +5,8 @@ ghost use Rattle.amqp_link.specs.Numbers.{link_flow};
 ghost use Rattle.amqp_link.specs.Termini.{source_at, target_at};
 
 use amqp_data::{Symbol, Text};
-use amqp_performatives::flow::Flow;
-use amqp_termini::{Source, Target};
+use amqp_frames::amqp_performatives::flow::Flow;
+use amqp_frames::amqp_termini::{Source, Target};
 use std::alloc::{AllocError, Global};
 
 /// The expiry policy of a terminus that says none.

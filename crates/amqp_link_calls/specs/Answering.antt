@@ -9,9 +9,9 @@ use Rattle.amqp_link.specs.declared.endpoint.AttachPoll.TheVariants.{Pending, Do
 use Rattle.amqp_link.specs.declared.error.AttachError.{AttachError}
 use Rattle.amqp_link.specs.declared.error.LinkStateError.{LinkStateError}
 use Rattle.amqp_link.specs.declared.error.LinkStateError.TheVariants.{SessionStopped}
-use Rattle.amqp_sender.specs.declared.error.SendError.{SendError}
-use Rattle.amqp_sender.specs.declared.error.SendError.TheVariants as error
-use Rattle.amqp_sender.specs.Settling as settling
+use Rattle.amqp_link_words.specs.amqp_sender.declared.error.SendError.{SendError}
+use Rattle.amqp_link_words.specs.amqp_sender.declared.error.SendError.TheVariants as error
+use Rattle.amqp_link_words.specs.amqp_sender.Settling as settling
 use Rattle.amqp_link_words.specs.declared.link_reply.LinkReply.{LinkReply}
 use Rattle.amqp_link_words.specs.declared.link_reply.LinkReply.TheVariants as reply
 use Rattle.amqp_link_words.specs.declared.link_reply.NamedLinkReply.{NamedLinkReply}

@@ -8,11 +8,11 @@ use Rattle.amqp_frames.specs.declared.body.FrameBody.{FrameBody}
 use Rattle.amqp_frames.specs.declared.shared.SessionStopReason.{SessionStopReason}
 use Rattle.amqp_delivery.specs.declared.info.CreditMode.{CreditMode}
 use Rattle.amqp_link.specs.declared.settings.AcceptSettings.{AcceptSettings}
-use Rattle.amqp_sender.specs.declared.settings.SenderSettings.{SenderSettings}
-use Rattle.amqp_sender.specs.Sender as sender
-use Rattle.amqp_receiver.specs.declared.settings.ReceiverSettings.{ReceiverSettings}
-use Rattle.amqp_receiver.specs.Receiver as receiver
-use Rattle.amqp_receiver.specs.Regulating.{auto_accept_set}
+use Rattle.amqp_link_words.specs.amqp_sender.declared.settings.SenderSettings.{SenderSettings}
+use Rattle.amqp_link_words.specs.amqp_sender.Sender as sender
+use Rattle.amqp_link_words.specs.amqp_receiver.declared.settings.ReceiverSettings.{ReceiverSettings}
+use Rattle.amqp_link_words.specs.amqp_receiver.Receiver as receiver
+use Rattle.amqp_link_words.specs.amqp_receiver.Regulating.{auto_accept_set}
 use Rattle.amqp_link_words.specs.declared.link_reply.LinkReply.{LinkReply}
 use Rattle.amqp_link_words.specs.declared.link_reply.NamedLinkReply.{NamedLinkReply}
 use Rattle.amqp_link_calls.specs.declared.leave.Leaving.{Leaving}

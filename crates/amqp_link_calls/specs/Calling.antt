@@ -6,16 +6,16 @@ use Rattle.amqp_messages.specs.Reading.{IsTheMessage, SpellsMessage}
 use Rattle.amqp_delivery.specs.declared.info.DeliveryInfo.{DeliveryInfo}
 use Rattle.amqp_link.specs.declared.error.IllegalLinkStateError.TheVariants as illegal
 use Rattle.amqp_link.specs.declared.error.LinkStateError.TheVariants.{IllegalState}
-use Rattle.amqp_sender.specs.declared.sender.DeliveryToken.{DeliveryToken}
-use Rattle.amqp_sender.specs.Sender as sender
-use Rattle.amqp_sender.specs.Sending as sending
-use Rattle.amqp_receiver.specs.declared.error.RecvError.{RecvError}
-use Rattle.amqp_receiver.specs.declared.error.RecvError.TheVariants.{LinkStateError, MessageDecode}
-use Rattle.amqp_receiver.specs.AutoAccept.{auto_accepted}
-use Rattle.amqp_receiver.specs.Delivering.{all_bytes}
-use Rattle.amqp_receiver.specs.Disposing.{disposed}
-use Rattle.amqp_receiver.specs.Receiver as receiver
-use Rattle.amqp_receiver.specs.Receiving.{Got, Step, received}
+use Rattle.amqp_link_words.specs.amqp_sender.declared.sender.DeliveryToken.{DeliveryToken}
+use Rattle.amqp_link_words.specs.amqp_sender.Sender as sender
+use Rattle.amqp_link_words.specs.amqp_sender.Sending as sending
+use Rattle.amqp_link_words.specs.amqp_receiver.declared.error.RecvError.{RecvError}
+use Rattle.amqp_link_words.specs.amqp_receiver.declared.error.RecvError.TheVariants.{LinkStateError, MessageDecode}
+use Rattle.amqp_link_words.specs.amqp_receiver.AutoAccept.{auto_accepted}
+use Rattle.amqp_link_words.specs.amqp_receiver.Delivering.{all_bytes}
+use Rattle.amqp_link_words.specs.amqp_receiver.Disposing.{disposed}
+use Rattle.amqp_link_words.specs.amqp_receiver.Receiver as receiver
+use Rattle.amqp_link_words.specs.amqp_receiver.Receiving.{Got, Step, received}
 use Rattle.amqp_link_words.specs.declared.link_call.Disposal.{Disposal}
 use Rattle.amqp_link_words.specs.declared.link_call.Sendable.{Sendable}
 use Rattle.amqp_link_words.specs.declared.link_reply.LinkReply.{LinkReply}

@@ -8,8 +8,8 @@ use Rattle.amqp_link.specs.declared.error.IllegalLinkStateError.TheVariants as i
 use Rattle.amqp_link.specs.Link as link
 use Rattle.amqp_link_words.specs.declared.link_call.Disposal.{Disposal}
 use Rattle.amqp_link_words.specs.declared.link_reply.LinkReply.TheVariants as reply
-use Rattle.amqp_receiver.specs.Disposing as disposing
-use Rattle.amqp_receiver.specs.Receiver as receiver
+use Rattle.amqp_link_words.specs.amqp_receiver.Disposing as disposing
+use Rattle.amqp_link_words.specs.amqp_receiver.Receiver as receiver
 use Rattle.amqp_link_calls.specs.Calling.{Made, answers}
 use Rattle.amqp_link_calls.specs.Replies.{disposal_reply, terminal_of}
 use Rattle.amqp_link_calls.specs.Side.{Side, Sender, Receiver}

@@ -6,9 +6,9 @@ use Rattle.amqp_performatives.specs.declared.detach.Detach.{Detach}
 use Rattle.amqp_performatives.specs.declared.flow.Flow.{Flow}
 use Rattle.amqp_performatives.specs.declared.transfer.Transfer.{Transfer}
 use Rattle.amqp_frames.specs.declared.shared.CoveredDelivery.{CoveredDelivery}
-use Rattle.amqp_sender.specs.Sender as sender
-use Rattle.amqp_sender.specs.Settling as settling
-use Rattle.amqp_receiver.specs.Receiving as receiving
+use Rattle.amqp_link_words.specs.amqp_sender.Sender as sender
+use Rattle.amqp_link_words.specs.amqp_sender.Settling as settling
+use Rattle.amqp_link_words.specs.amqp_receiver.Receiving as receiving
 use Rattle.amqp_link_calls.specs.Side as side
 use Rattle.amqp_link_calls.specs.Side.{Side, Sender, Receiver}
 use Rattle.amqp_link_calls.specs.Called.{Called, with_side}

@@ -8,7 +8,7 @@ use Rattle.amqp_link.specs.declared.error.DetachError.TheVariants as error
 use Rattle.amqp_link.specs.declared.error.IllegalLinkStateError.{IllegalLinkStateError}
 use Rattle.amqp_link.specs.declared.error.IllegalLinkStateError.TheVariants as illegal
 use Rattle.amqp_link.specs.Parting as link
-use Rattle.amqp_receiver.specs.Receiver as receiver
+use Rattle.amqp_link_words.specs.amqp_receiver.Receiver as receiver
 use Rattle.amqp_link_words.specs.declared.link_call.Parting.{Parting}
 use Rattle.amqp_link_words.specs.declared.link_call.Parting.TheVariants as parting
 use Rattle.amqp_link_words.specs.declared.link_reply.LinkReply.{LinkReply}

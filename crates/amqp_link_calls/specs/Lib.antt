@@ -7,3 +7,5 @@ pub mod Hearing
 pub mod Calling
 pub mod Regulating
 pub mod Disposers
+pub use Rattle.amqp_link_words.specs as amqp_link_words
+pub use Rattle.amqp_link_words.specs.amqp_receiver

@@ -3,8 +3,8 @@ use Rattle.amqp_link.specs.declared.error.IllegalLinkStateError.TheVariants as i
 use Rattle.amqp_link_words.specs.declared.link_reply.LinkReply.TheVariants as reply
 use Rattle.amqp_link_words.specs.declared.regulation.Regulation.{Regulation}
 use Rattle.amqp_link_words.specs.declared.regulation.Regulation.TheVariants as regulation
-use Rattle.amqp_receiver.specs.Receiver as receiver
-use Rattle.amqp_receiver.specs.Regulating.{credit_mode_set, auto_accept_set, drain_asked, properties_told}
+use Rattle.amqp_link_words.specs.amqp_receiver.Receiver as receiver
+use Rattle.amqp_link_words.specs.amqp_receiver.Regulating.{credit_mode_set, auto_accept_set, drain_asked, properties_told}
 use Rattle.amqp_link_calls.specs.Calling.{Made, answers}
 use Rattle.amqp_link_calls.specs.Replies.{credit_reply}
 use Rattle.amqp_link_calls.specs.Side.{Side, Sender, Receiver}

@@ -8,13 +8,13 @@ use Rattle.amqp_termini.specs.declared.terminal_state.TerminalDeliveryState.TheV
 use Rattle.amqp_link.specs.declared.error.AttachError.{AttachError}
 use Rattle.amqp_link.specs.declared.error.IllegalLinkStateError.{IllegalLinkStateError}
 use Rattle.amqp_link.specs.declared.error.LinkStateError.TheVariants.{IllegalState}
-use Rattle.amqp_sender.specs.declared.error.SendError.{SendError}
-use Rattle.amqp_sender.specs.declared.error.SendError.TheVariants.{LinkStateError}
-use Rattle.amqp_sender.specs.declared.sender.DeliveryToken.{DeliveryToken}
-use Rattle.amqp_sender.specs.declared.sender.OutcomePoll.{OutcomePoll}
-use Rattle.amqp_sender.specs.declared.sender.OutcomePoll.TheVariants as outcome
-use Rattle.amqp_sender.specs.declared.sender.SendReply.{SendReply}
-use Rattle.amqp_sender.specs.declared.sender.SendReply.TheVariants as sent
+use Rattle.amqp_link_words.specs.amqp_sender.declared.error.SendError.{SendError}
+use Rattle.amqp_link_words.specs.amqp_sender.declared.error.SendError.TheVariants.{LinkStateError}
+use Rattle.amqp_link_words.specs.amqp_sender.declared.sender.DeliveryToken.{DeliveryToken}
+use Rattle.amqp_link_words.specs.amqp_sender.declared.sender.OutcomePoll.{OutcomePoll}
+use Rattle.amqp_link_words.specs.amqp_sender.declared.sender.OutcomePoll.TheVariants as outcome
+use Rattle.amqp_link_words.specs.amqp_sender.declared.sender.SendReply.{SendReply}
+use Rattle.amqp_link_words.specs.amqp_sender.declared.sender.SendReply.TheVariants as sent
 use Rattle.amqp_link_words.specs.declared.link_call.Disposal.{Disposal}
 use Rattle.amqp_link_words.specs.declared.link_call.Disposal.TheVariants as disposal
 use Rattle.amqp_link_words.specs.declared.link_reply.AcceptError.TheVariants.{LocalSender, LocalReceiver}

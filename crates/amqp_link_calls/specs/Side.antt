@@ -16,11 +16,11 @@ use Rattle.amqp_link.specs.declared.endpoint.DetachPoll.{DetachPoll}
 use Rattle.amqp_link.specs.declared.error.DetachError.{DetachError}
 use Rattle.amqp_link.specs.Parting as parting
 use Rattle.amqp_composites.specs.declared.error.Error.{Error as AmqpError}
-use Rattle.amqp_sender.specs.Parting as again
-use Rattle.amqp_receiver.specs.Parting as once_more
-use Rattle.amqp_sender.specs.Sender as sender
-use Rattle.amqp_sender.specs.Sending as sending
-use Rattle.amqp_receiver.specs.Receiver as receiver
+use Rattle.amqp_link_words.specs.amqp_sender.Parting as again
+use Rattle.amqp_link_words.specs.amqp_receiver.Parting as once_more
+use Rattle.amqp_link_words.specs.amqp_sender.Sender as sender
+use Rattle.amqp_link_words.specs.amqp_sender.Sending as sending
+use Rattle.amqp_link_words.specs.amqp_receiver.Receiver as receiver
 use Rattle.amqp_link_calls.specs.declared.side.LinkSide.{LinkSide}
 use Rattle.amqp_link_calls.specs.declared.side.LinkSide.TheVariants as side
 

@@ -1,6 +1,6 @@
 //! Disposers of the deliveries of a link, and which deliveries are settled (OASIS AMQP 1.0, part 2, section 2.6.12).
 ghost use Rattle.std.specs.Prelude.{◌≡◌, IfOk, OnOk};
-ghost use Rattle.amqp_receiver.specs.Receiver as receiving;
+ghost use Rattle.amqp_link_words.specs.amqp_receiver.Receiver as receiving;
 ghost use Rattle.amqp_link_calls.specs.Called.{with_side};
 ghost use Rattle.amqp_link_calls.specs.Disposers.{view_of, disposing_by, disposes_by, settles, settles_at_once, is_receiving};
 ghost use Rattle.amqp_link_calls.specs.Replies.{disposal_reply};
@@ -11,8 +11,8 @@ use crate::replies::terminal_state;
 use crate::side::LinkSide;
 use amqp_delivery::{DeliveryInfo, DisposerView};
 use amqp_link::{IllegalLinkStateError, LinkPhase};
+use amqp_link_words::amqp_receiver::Receiver;
 use amqp_link_words::{Disposal, LinkReply};
-use amqp_receiver::Receiver;
 use amqp_termini::DeliveryState;
 use std::alloc::AllocError;
 

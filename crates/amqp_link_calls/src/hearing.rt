@@ -1,7 +1,7 @@
 //! What a link hears of its peer (OASIS AMQP 1.0, part 2, section 2.6).
 ghost use Rattle.std.specs.Prelude.{◌≡◌, IfOk, OnOk};
 ghost use Rattle.std.specs.Option.{option_map};
-ghost use Rattle.amqp_sender.specs.Sender as sending;
+ghost use Rattle.amqp_link_words.specs.amqp_sender.Sender as sending;
 ghost use Rattle.amqp_link_calls.specs.Answering.{attach_answered_now, outcomes_answered_now};
 ghost use Rattle.amqp_link_calls.specs.Leaving.{part_answered_now};
 ghost use Rattle.amqp_link_calls.specs.Hearing.{attach_read, flow_read, transfer_read, detach_read, is_done, done_answered, disposition_read, is_settled_by};
@@ -9,11 +9,11 @@ ghost use Rattle.amqp_link_calls.specs.Hearing.{attach_read, flow_read, transfer
 use crate::called::CalledLink;
 use crate::side::LinkSide;
 use amqp_frames::CoveredDelivery;
+use amqp_link_words::amqp_sender::{DeliveryToken, Sender};
 use amqp_performatives::attach::Attach;
 use amqp_performatives::detach::Detach;
 use amqp_performatives::flow::Flow;
 use amqp_performatives::transfer::Transfer;
-use amqp_sender::{DeliveryToken, Sender};
 use amqp_termini::DeliveryState;
 use bytes::Bytes;
 use std::alloc::AllocError;

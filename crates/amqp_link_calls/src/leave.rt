@@ -2,15 +2,15 @@
 ghost use Rattle.std.specs.Prelude.{◌≡◌, IfOk, OnOk};
 ghost use Rattle.amqp_link_calls.specs.Leaving.{left_by, part_reply, news_reply, known, told_part, part_answered, asked_part, error_for, credit_taken, closed_for, receiver_closed, closed_side, closed_by, closed_at_once, on_detach_asked, detach_asked, close_asked, abandoned, leaves, awaits_both, is_parting, wants_handle, awaits_part, part_given_up, is_reattaching, handle_given, handle_refused};
 ghost use Rattle.amqp_link_calls.specs.Side.{seen};
-ghost use Rattle.amqp_receiver.specs.Receiver as of;
+ghost use Rattle.amqp_link_words.specs.amqp_receiver.Receiver as of;
 
 use crate::called::CalledLink;
 use crate::replies::{error_of, is_pending};
 use crate::side::LinkSide;
 use amqp_composites::error::Error as AmqpError;
 use amqp_link::{DetachError, DetachPoll, IllegalLinkStateError};
+use amqp_link_words::amqp_receiver::Receiver;
 use amqp_link_words::{LinkReply, Parting};
-use amqp_receiver::Receiver;
 use amqp_text::Symbol;
 use std::alloc::AllocError;
 

@@ -1,7 +1,7 @@
 //! Calls that receive messages, settle deliveries and give credit (OASIS AMQP 1.0, part 2, sections 2.6.7 and 2.6.12).
 ghost use Rattle.std.specs.Prelude.{◌≡◌, IfOk, OnOk};
-ghost use Rattle.amqp_receiver.specs.Receiver as receiving;
-ghost use Rattle.amqp_receiver.specs.Receiving.{received};
+ghost use Rattle.amqp_link_words.specs.amqp_receiver.Receiver as receiving;
+ghost use Rattle.amqp_link_words.specs.amqp_receiver.Receiving.{received};
 ghost use Rattle.amqp_link_calls.specs.Called.{with_side};
 ghost use Rattle.amqp_link_calls.specs.Calling.{having_told, having_received, TellsReceived, Receives, disposing, disposes, sets_credit};
 ghost use Rattle.amqp_link_calls.specs.Replies.{disposal_reply, credit_reply};
@@ -12,8 +12,8 @@ use crate::replies::terminal_state;
 use crate::side::LinkSide;
 use amqp_delivery::DeliveryInfo;
 use amqp_link::{IllegalLinkStateError, LinkStateError};
+use amqp_link_words::amqp_receiver::{Receiver, RecvError, RecvReply};
 use amqp_link_words::{Disposal, LinkReply};
-use amqp_receiver::{Receiver, RecvError, RecvReply};
 use std::alloc::AllocError;
 
 fn receive(receiver: &mut Receiver) -> Result<LinkReply, AllocError>

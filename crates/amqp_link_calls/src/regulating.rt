@@ -1,7 +1,7 @@
 //! Calls that have a receiver go on otherwise (OASIS AMQP 1.0, part 2, section 2.6.7).
 ghost use Rattle.std.specs.Prelude.{◌≡◌, IfOk, OnOk};
-ghost use Rattle.amqp_receiver.specs.Receiver as receiving;
-ghost use Rattle.amqp_receiver.specs.Regulating.{drain_asked, properties_told};
+ghost use Rattle.amqp_link_words.specs.amqp_receiver.Receiver as receiving;
+ghost use Rattle.amqp_link_words.specs.amqp_receiver.Regulating.{drain_asked, properties_told};
 ghost use Rattle.amqp_link_calls.specs.Called.{with_side};
 ghost use Rattle.amqp_link_calls.specs.Regulating.{regulating, regulates};
 ghost use Rattle.amqp_link_calls.specs.Replies.{credit_reply};
@@ -10,8 +10,8 @@ ghost use Rattle.amqp_link_calls.specs.Side.{seen};
 use crate::called::CalledLink;
 use crate::side::LinkSide;
 use amqp_link::IllegalLinkStateError;
+use amqp_link_words::amqp_receiver::Receiver;
 use amqp_link_words::{LinkReply, Regulation};
-use amqp_receiver::Receiver;
 use std::alloc::AllocError;
 
 fn drain(receiver: &mut Receiver) -> Result<LinkReply, AllocError>

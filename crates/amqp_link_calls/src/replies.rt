@@ -5,8 +5,8 @@ ghost use Rattle.amqp_link_calls.specs.Replies.{made_reply, attach_error, accept
 use amqp_composites::error::Error as AmqpError;
 use amqp_composites::modes::Role;
 use amqp_link::{AttachError, LinkStateError};
+use amqp_link_words::amqp_sender::SendError;
 use amqp_link_words::{AcceptError, Disposal, LinkReply};
-use amqp_sender::SendError;
 use amqp_termini::{Accepted, Modified, Rejected, Released, TerminalDeliveryState};
 use amqp_text::Symbol;
 

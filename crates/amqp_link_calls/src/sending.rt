@@ -1,7 +1,7 @@
 //! Calls that send, and that ask what has become of a message (OASIS AMQP 1.0, part 2, sections 2.6.7 and 2.6.12).
 ghost use Rattle.std.specs.Prelude.{◌≡◌, nat_eq, IfOk, OnOk};
-ghost use Rattle.amqp_sender.specs.Sender as sending;
-ghost use Rattle.amqp_sender.specs.Settling as settling;
+ghost use Rattle.amqp_link_words.specs.amqp_sender.Sender as sending;
+ghost use Rattle.amqp_link_words.specs.amqp_sender.Settling as settling;
 ghost use Rattle.std.specs.Map.{lookup};
 ghost use Rattle.amqp_link_calls.specs.Answering.{outcome_at, is_own_end, is_stop, is_of_stop, tells_of_stop, put_off, outcome_now};
 ghost use Rattle.amqp_link_calls.specs.Called.{is_call, awaits_outcome};
@@ -14,8 +14,8 @@ use crate::replies::{is_pending, no_sender};
 use crate::side::LinkSide;
 use amqp_frames::SessionStopReason;
 use amqp_link::LinkStateError;
+use amqp_link_words::amqp_sender::{DeliveryToken, OutcomePoll, SendError, SendReply, Sender};
 use amqp_link_words::{LinkReply, Sendable};
-use amqp_sender::{DeliveryToken, OutcomePoll, SendError, SendReply, Sender};
 use std::alloc::AllocError;
 
 fn send(

@@ -8,12 +8,12 @@ use amqp_composites::modes::Role;
 use amqp_data::Text;
 use amqp_frames::{LinkFrame, SessionStopReason};
 use amqp_link::{AttachError, AttachPoll};
+use amqp_link_words::amqp_receiver::Receiver;
+use amqp_link_words::amqp_sender::Sender;
 use amqp_performatives::attach::Attach;
 use amqp_performatives::detach::Detach;
 use amqp_performatives::flow::Flow;
 use amqp_performatives::transfer::Transfer;
-use amqp_receiver::Receiver;
-use amqp_sender::Sender;
 use bytes::Bytes;
 use std::alloc::AllocError;
 

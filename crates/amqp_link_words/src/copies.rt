@@ -1,9 +1,9 @@
 //! Copies of what a link is built with. The one error of each is want of memory.
 ghost use Rattle.std.specs.Prelude.{◌≡◌, IfOk};
 
-use amqp_link::AcceptSettings;
 use amqp_receiver::ReceiverSettings;
 use amqp_sender::SenderSettings;
+use amqp_sender::amqp_link::AcceptSettings;
 use amqp_text::{Symbol, Text};
 use std::alloc::{AllocError, Global};
 

@@ -5,9 +5,9 @@ use crate::copies::{copied_accept, copied_condition, copied_receiver, copied_sen
 use crate::names::NameList;
 use crate::regulation::Regulation;
 use amqp_delivery::CreditMode;
-use amqp_link::AcceptSettings;
 use amqp_receiver::ReceiverSettings;
 use amqp_sender::SenderSettings;
+use amqp_sender::amqp_link::AcceptSettings;
 use amqp_text::Symbol;
 use bytes::Bytes;
 use std::alloc::{AllocError, Global};

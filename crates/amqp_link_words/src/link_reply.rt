@@ -2,10 +2,12 @@
 ghost use Rattle.std.specs.Prelude.{◌≡◌};
 
 use amqp_delivery::DeliveryInfo;
-use amqp_link::{DetachError, DispositionError, FlowError, ReceiverAttachError, SenderAttachError};
-use amqp_messages::Message;
 use amqp_receiver::RecvError;
+use amqp_receiver::amqp_messages::Message;
 use amqp_sender::SendError;
+use amqp_sender::amqp_link::{
+    DetachError, DispositionError, FlowError, ReceiverAttachError, SenderAttachError,
+};
 use amqp_termini::Outcome;
 
 /// Why no link is accepted.

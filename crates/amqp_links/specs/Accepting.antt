@@ -6,11 +6,11 @@ use Rattle.amqp_link.specs.declared.error.AttachError.{AttachError}
 use Rattle.amqp_link_calls.specs.Answering.{accept_answered, accept_reply}
 use Rattle.amqp_link_calls.specs.Called.{Called, accepted}
 use Rattle.amqp_link_calls.specs.Replies.{accept_error}
-use Rattle.amqp_link_words.specs.declared.link_reply.AcceptError.TheVariants.{LocalSender, LocalReceiver}
-use Rattle.amqp_link_words.specs.declared.link_reply.LinkReply.{LinkReply}
-use Rattle.amqp_link_words.specs.declared.link_reply.LinkReply.TheVariants as reply
+use Rattle.amqp_link_calls.specs.amqp_link_words.declared.link_reply.AcceptError.TheVariants.{LocalSender, LocalReceiver}
+use Rattle.amqp_link_calls.specs.amqp_link_words.declared.link_reply.LinkReply.{LinkReply}
+use Rattle.amqp_link_calls.specs.amqp_link_words.declared.link_reply.LinkReply.TheVariants as reply
 use Rattle.amqp_performatives.specs.declared.attach.Attach.{Attach}
-use Rattle.amqp_session.specs.declared.session.LinkInput.{LinkInput}
+use Rattle.amqp_session_links.specs.amqp_session.declared.session.LinkInput.{LinkInput}
 use Rattle.amqp_session_links.specs.declared.place.Claim.{Claim}
 use Rattle.amqp_session_links.specs.declared.place.Claim.TheVariants.{Handle, Refused}
 use Rattle.amqp_session_links.specs.declared.place.WaitingAccept.{WaitingAccept}

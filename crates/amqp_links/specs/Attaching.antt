@@ -5,8 +5,8 @@ use Rattle.amqp_composites.specs.declared.modes.Role.{Role}
 use Rattle.amqp_composites.specs.declared.modes.Role.TheVariants as role
 use Rattle.amqp_link.specs.declared.error.AttachError.TheVariants.{SessionNotMapped}
 use Rattle.amqp_link_calls.specs.Called.{Called, sender_asked, receiver_asked}
-use Rattle.amqp_link_words.specs.declared.link_reply.LinkReply.TheVariants as reply
-use Rattle.amqp_receiver.specs.declared.settings.ReceiverSettings.{ReceiverSettings}
+use Rattle.amqp_link_calls.specs.amqp_link_words.declared.link_reply.LinkReply.TheVariants as reply
+use Rattle.amqp_link_calls.specs.amqp_receiver.declared.settings.ReceiverSettings.{ReceiverSettings}
 use Rattle.amqp_sender.specs.declared.settings.SenderSettings.{SenderSettings}
 use Rattle.amqp_session_links.specs.declared.place.Claim.{Claim}
 use Rattle.amqp_session_links.specs.declared.place.Claim.TheVariants.{Handle, Refused}

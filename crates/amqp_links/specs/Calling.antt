@@ -9,12 +9,12 @@ use Rattle.amqp_link_calls.specs.Answering as answering_of
 use Rattle.amqp_link_calls.specs.Called.{Called, with_side}
 use Rattle.amqp_link_calls.specs.Calling.{Receives, sends, token_of, having_sent, outcome_asked, having_received, disposes, sets_credit}
 use Rattle.amqp_link_calls.specs.Side.{credit_of}
-use Rattle.amqp_link_words.specs.declared.link_call.Disposal.{Disposal}
-use Rattle.amqp_link_words.specs.declared.link_call.LinkCall.{LinkCall}
-use Rattle.amqp_link_words.specs.declared.link_call.LinkCall.TheVariants as call
-use Rattle.amqp_link_words.specs.declared.link_call.Sendable.{Sendable}
-use Rattle.amqp_link_words.specs.declared.link_reply.LinkReply.{LinkReply}
-use Rattle.amqp_link_words.specs.declared.link_reply.LinkReply.TheVariants as reply
+use Rattle.amqp_link_calls.specs.amqp_link_words.declared.link_call.Disposal.{Disposal}
+use Rattle.amqp_link_calls.specs.amqp_link_words.declared.link_call.LinkCall.{LinkCall}
+use Rattle.amqp_link_calls.specs.amqp_link_words.declared.link_call.LinkCall.TheVariants as call
+use Rattle.amqp_link_calls.specs.amqp_link_words.declared.link_call.Sendable.{Sendable}
+use Rattle.amqp_link_calls.specs.amqp_link_words.declared.link_reply.LinkReply.{LinkReply}
+use Rattle.amqp_link_calls.specs.amqp_link_words.declared.link_reply.LinkReply.TheVariants as reply
 use Rattle.amqp_sender.specs.declared.sender.DeliveryToken.{DeliveryToken}
 use Rattle.amqp_session_links.specs.declared.place.WaitingAccept.{WaitingAccept}
 use Rattle.amqp_links.specs.declared.links.SentDelivery.{SentDelivery}

@@ -6,8 +6,8 @@ use Rattle.amqp_delivery.specs.declared.info.DeliveryInfo.{DeliveryInfo}
 use Rattle.amqp_delivery.specs.declared.info.DisposerView.{DisposerView}
 use Rattle.amqp_link_calls.specs.Called.{Called, with_side}
 use Rattle.amqp_link_calls.specs.Disposers.{view_of, disposes_by}
-use Rattle.amqp_link_words.specs.declared.link_call.Disposal.{Disposal}
-use Rattle.amqp_link_words.specs.declared.link_reply.LinkReply.TheVariants as reply
+use Rattle.amqp_link_calls.specs.amqp_link_words.declared.link_call.Disposal.{Disposal}
+use Rattle.amqp_link_calls.specs.amqp_link_words.declared.link_reply.LinkReply.TheVariants as reply
 use Rattle.amqp_links.specs.declared.links.GivenDelivery.{GivenDelivery}
 use Rattle.amqp_links.specs.declared.links.KeptDisposer.{KeptDisposer}
 use Rattle.amqp_links.specs.Numbering.{is_done, disposed_left}

@@ -6,8 +6,8 @@ use Rattle.amqp_link_calls.specs.Called.{Called}
 use Rattle.amqp_link_calls.specs.Hearing.{attach_read}
 use Rattle.amqp_link_tables.specs.Calls.{link_from, link_named}
 use Rattle.amqp_performatives.specs.declared.attach.Attach.{Attach}
-use Rattle.amqp_session.specs.declared.session.LinkInput.{LinkInput}
-use Rattle.amqp_session.specs.declared.session.LinkInput.TheVariants as input
+use Rattle.amqp_session_links.specs.amqp_session.declared.session.LinkInput.{LinkInput}
+use Rattle.amqp_session_links.specs.amqp_session.declared.session.LinkInput.TheVariants as input
 use Rattle.amqp_session_links.specs.Claims.{parted}
 use Rattle.amqp_session_links.specs.Incoming.{kept}
 use Rattle.amqp_session_links.specs.State.{State as Place}

@@ -1,7 +1,7 @@
 -- What sessions hand to their links (OASIS AMQP 1.0, part 2, sections 2.6 and 2.7).
 use Rattle.std.specs.Prelude.{ℕ, Option, Some, None}
-use Rattle.amqp_session.specs.declared.session.LinkInput.{LinkInput}
-use Rattle.amqp_session.specs.declared.session.LinkInput.TheVariants as input
+use Rattle.amqp_session_links.specs.amqp_session.declared.session.LinkInput.{LinkInput}
+use Rattle.amqp_session_links.specs.amqp_session.declared.session.LinkInput.TheVariants as input
 use Rattle.amqp_links.specs.Accepting.{attach_came}
 use Rattle.amqp_links.specs.Hearing.{frame_read}
 use Rattle.amqp_links.specs.Settling.{left, disposition_read}

@@ -2,8 +2,8 @@
 use Rattle.std.specs.Prelude.{ℕ, Bool, true, false, List, Option, Some, None}
 use Rattle.amqp_link_calls.specs.Called.{Called}
 use Rattle.amqp_link_calls.specs.Leaving.{leaves}
-use Rattle.amqp_link_words.specs.declared.link_call.Parting.{Parting}
-use Rattle.amqp_link_words.specs.declared.link_call.Parting.TheVariants as parting
+use Rattle.amqp_link_calls.specs.amqp_link_words.declared.link_call.Parting.{Parting}
+use Rattle.amqp_link_calls.specs.amqp_link_words.declared.link_call.Parting.TheVariants as parting
 use Rattle.amqp_session_links.specs.Claims.{spending}
 use Rattle.amqp_links.specs.Parts.{name_of}
 use Rattle.amqp_links.specs.State.{State, with_link, at_place}

@@ -15,3 +15,4 @@ pub mod Calling
 pub mod Stops
 pub mod Inputs
 pub mod Forgetting
+pub use Rattle.amqp_link_calls.specs as amqp_link_calls

@@ -6,10 +6,10 @@ use Rattle.amqp_composites.specs.declared.modes.Role.TheVariants as role
 use Rattle.amqp_link_calls.specs.Called.{Called, takes_calls, may_abandon, is_awaited}
 use Rattle.amqp_link_calls.specs.Side.{role_of}
 use Rattle.amqp_link_tables.specs.Calls.{is_spent}
-use Rattle.amqp_link_words.specs.declared.link_call.LinkCall.{LinkCall}
-use Rattle.amqp_link_words.specs.declared.link_call.LinkCall.TheVariants as call
-use Rattle.amqp_link_words.specs.declared.link_call.Parting.{Parting}
-use Rattle.amqp_link_words.specs.declared.link_call.Parting.TheVariants as parting
+use Rattle.amqp_link_calls.specs.amqp_link_words.declared.link_call.LinkCall.{LinkCall}
+use Rattle.amqp_link_calls.specs.amqp_link_words.declared.link_call.LinkCall.TheVariants as call
+use Rattle.amqp_link_calls.specs.amqp_link_words.declared.link_call.Parting.{Parting}
+use Rattle.amqp_link_calls.specs.amqp_link_words.declared.link_call.Parting.TheVariants as parting
 use Rattle.amqp_sender.specs.declared.sender.DeliveryToken.{DeliveryToken}
 use Rattle.amqp_session_links.specs.State.{State as Place, is_busy}
 use Rattle.amqp_links.specs.declared.links.GivenDelivery.{GivenDelivery}

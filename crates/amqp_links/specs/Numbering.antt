@@ -5,11 +5,11 @@ use Rattle.amqp_delivery.specs.declared.info.DeliveryInfo.{DeliveryInfo}
 use Rattle.amqp_link_calls.specs.Called.{Called}
 use Rattle.amqp_link_calls.specs.Disposers.{settles, settles_at_once, is_receiving}
 use Rattle.amqp_link_tables.specs.declared.deliveries.Delivered.{Delivered}
-use Rattle.amqp_link_words.specs.declared.link_reply.LinkReply.{LinkReply}
-use Rattle.amqp_link_words.specs.declared.link_reply.LinkReply.TheVariants as reply
+use Rattle.amqp_link_calls.specs.amqp_link_words.declared.link_reply.LinkReply.{LinkReply}
+use Rattle.amqp_link_calls.specs.amqp_link_words.declared.link_reply.LinkReply.TheVariants as reply
 use Rattle.amqp_performatives.specs.declared.transfer.Transfer.{Transfer}
-use Rattle.amqp_session.specs.declared.session.LinkInput.{LinkInput}
-use Rattle.amqp_session.specs.declared.session.LinkInput.TheVariants as input
+use Rattle.amqp_session_links.specs.amqp_session.declared.session.LinkInput.{LinkInput}
+use Rattle.amqp_session_links.specs.amqp_session.declared.session.LinkInput.TheVariants as input
 use Rattle.amqp_session_links.specs.Numbers.{begun}
 use Rattle.amqp_links.specs.Settling.{forgetting}
 use Rattle.amqp_links.specs.State.{State, link_of, at_place}

@@ -6,8 +6,8 @@ use Rattle.amqp_link.specs.Link as link
 use Rattle.amqp_link_calls.specs.Called.{Called, with_side}
 use Rattle.amqp_link_calls.specs.Hearing as hearing
 use Rattle.amqp_link_calls.specs.Side as side
-use Rattle.amqp_session.specs.declared.session.LinkInput.{LinkInput}
-use Rattle.amqp_session.specs.declared.session.LinkInput.TheVariants as input
+use Rattle.amqp_session_links.specs.amqp_session.declared.session.LinkInput.{LinkInput}
+use Rattle.amqp_session_links.specs.amqp_session.declared.session.LinkInput.TheVariants as input
 use Rattle.amqp_termini.specs.declared.state.DeliveryState.{DeliveryState}
 use Rattle.amqp_links.specs.declared.output.LinksOutput.{LinksOutput}
 use Rattle.amqp_links.specs.declared.output.LinksOutput.TheVariants as output

@@ -2,7 +2,7 @@
 use Rattle.std.specs.Prelude.{ℕ, Option, Some, None}
 use Rattle.amqp_link_calls.specs.Called.{Called, with_side}
 use Rattle.amqp_link_calls.specs.Regulating.{regulates}
-use Rattle.amqp_link_words.specs.declared.regulation.Regulation.{Regulation}
+use Rattle.amqp_link_calls.specs.amqp_link_words.declared.regulation.Regulation.{Regulation}
 use Rattle.amqp_links.specs.State.{State, with_link, answering}
 use Rattle.amqp_links.specs.Taking.{taken_up}
 

@@ -6,7 +6,7 @@ use Rattle.amqp_link_calls.specs.Called.{Called}
 use Rattle.amqp_link_tables.specs.declared.deliveries.Delivered.{Delivered}
 use Rattle.amqp_link_tables.specs.Deliveries.{delivery_of, covered}
 use Rattle.amqp_performatives.specs.declared.disposition.Disposition.{Disposition}
-use Rattle.amqp_session.specs.declared.session.LeftDelivery.{LeftDelivery}
+use Rattle.amqp_session_links.specs.amqp_session.declared.session.LeftDelivery.{LeftDelivery}
 use Rattle.amqp_session_links.specs.Numbers.{told_by, entered, forgotten}
 use Rattle.amqp_session_links.specs.State.{State as Place}
 use Rattle.amqp_links.specs.Parts.{disposition_heard, is_forgotten}

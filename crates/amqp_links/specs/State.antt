@@ -2,8 +2,8 @@
 use Rattle.std.specs.Prelude.{◌≡◌, ℕ, nat_eq, Bool, List, [], ◌∷◌, ◌++◌, Option, Some, None}
 use Rattle.std.specs.Map.{lookup, set_value}
 use Rattle.amqp_link_calls.specs.Called.{Called}
-use Rattle.amqp_link_words.specs.declared.link_reply.LinkReply.{LinkReply}
-use Rattle.amqp_link_words.specs.declared.link_reply.NamedLinkReply.{NamedLinkReply}
+use Rattle.amqp_link_calls.specs.amqp_link_words.declared.link_reply.LinkReply.{LinkReply}
+use Rattle.amqp_link_calls.specs.amqp_link_words.declared.link_reply.NamedLinkReply.{NamedLinkReply}
 use Rattle.amqp_session_links.specs.declared.place.Claim.{Claim}
 use Rattle.amqp_session_links.specs.State.{State as Place, none_attached}
 use Rattle.indexmap.specs.IndexMap.{insert_entry}

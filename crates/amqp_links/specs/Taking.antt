@@ -7,7 +7,7 @@ use Rattle.amqp_composites.specs.declared.modes.Role.{Role}
 use Rattle.amqp_link.specs.declared.error.AttachError.TheVariants.{SessionNotMapped}
 use Rattle.amqp_link_calls.specs.Leaving.{wants_handle, handle_given, handle_refused}
 use Rattle.amqp_link_calls.specs.Side.{role_of}
-use Rattle.amqp_link_words.specs.declared.link_reply.LinkReply.{LinkReply}
+use Rattle.amqp_link_calls.specs.amqp_link_words.declared.link_reply.LinkReply.{LinkReply}
 use Rattle.amqp_session_links.specs.declared.place.Claim.{Claim}
 use Rattle.amqp_session_links.specs.declared.place.Claim.TheVariants.{Handle, Refused}
 use Rattle.amqp_session_links.specs.Claims.{is_at, released, spending, reclaiming}

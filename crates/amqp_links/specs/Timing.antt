@@ -9,9 +9,9 @@ use Rattle.amqp_link_calls.specs.Called.{Called, awaits_outcome}
 use Rattle.amqp_link_calls.specs.Calling.{sends, token_of, having_sent, outcome_asked, outcome_given_up}
 use Rattle.amqp_link_calls.specs.Leaving.{awaits_part, part_given_up}
 use Rattle.amqp_link_calls.specs.Replies.{is_pending}
-use Rattle.amqp_link_words.specs.declared.link_call.Sendable.{Sendable}
-use Rattle.amqp_link_words.specs.declared.link_reply.LinkReply.{LinkReply}
-use Rattle.amqp_link_words.specs.declared.link_reply.LinkReply.TheVariants as reply
+use Rattle.amqp_link_calls.specs.amqp_link_words.declared.link_call.Sendable.{Sendable}
+use Rattle.amqp_link_calls.specs.amqp_link_words.declared.link_reply.LinkReply.{LinkReply}
+use Rattle.amqp_link_calls.specs.amqp_link_words.declared.link_reply.LinkReply.TheVariants as reply
 use Rattle.amqp_sender.specs.declared.sender.DeliveryToken.{DeliveryToken}
 use Rattle.amqp_links.specs.declared.links.SentDelivery.{SentDelivery}
 use Rattle.amqp_links.specs.declared.timed.Awaited.{Awaited}

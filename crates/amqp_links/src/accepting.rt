@@ -13,9 +13,9 @@ use amqp_composites::modes::Role;
 use amqp_data::Text;
 use amqp_link::AttachError;
 use amqp_link_calls::CalledLink;
-use amqp_link_words::{AcceptError, LinkReply};
+use amqp_link_calls::amqp_link_words::{AcceptError, LinkReply};
 use amqp_performatives::attach::Attach;
-use amqp_session::LinkInput;
+use amqp_session_links::amqp_session::LinkInput;
 use amqp_session_links::{Claim, InputQueue, WaitingAccept};
 use std::alloc::{AllocError, Global};
 

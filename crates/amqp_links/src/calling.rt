@@ -9,7 +9,7 @@ ghost use Rattle.amqp_links.specs.Taking.{finished};
 
 use crate::links::{GivenDelivery, Links};
 use amqp_delivery::DeliveryInfo;
-use amqp_link_words::{Disposal, LinkCall, LinkReply, Sendable};
+use amqp_link_calls::amqp_link_words::{Disposal, LinkCall, LinkReply, Sendable};
 use amqp_sender::DeliveryToken;
 use amqp_session_links::WaitingAccept;
 use std::alloc::AllocError;

@@ -6,7 +6,7 @@ ghost use Rattle.amqp_links.specs.State.{seen, link_of};
 
 use crate::links::{KeptDisposer, Links};
 use amqp_delivery::{DeliveryInfo, DisposerView};
-use amqp_link_words::{Disposal, LinkReply};
+use amqp_link_calls::amqp_link_words::{Disposal, LinkReply};
 use std::alloc::AllocError;
 
 impl Links {

@@ -13,8 +13,8 @@ use crate::links::Links;
 use crate::output::LinksOutput;
 use amqp_link_calls::CalledLink;
 use amqp_performatives::attach::Attach;
-use amqp_session::LinkInput;
 use amqp_session_links::WaitingAccept;
+use amqp_session_links::amqp_session::LinkInput;
 use std::alloc::AllocError;
 
 /// Lets an input go.

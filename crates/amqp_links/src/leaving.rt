@@ -5,7 +5,7 @@ ghost use Rattle.amqp_links.specs.State.{seen, link_of};
 
 use crate::links::Links;
 use amqp_data::Text;
-use amqp_link_words::Parting;
+use amqp_link_calls::amqp_link_words::Parting;
 use std::alloc::AllocError;
 
 /// Lets a call go.

@@ -11,7 +11,7 @@ use amqp_composites::modes::Role;
 use amqp_data::Text;
 use amqp_delivery::{DeliveryInfo, DisposerView};
 use amqp_link_calls::CalledLink;
-use amqp_link_words::{LinkCall, LinkReply, NamedLinkReply, Parting};
+use amqp_link_calls::amqp_link_words::{LinkCall, LinkReply, NamedLinkReply, Parting};
 use amqp_sender::DeliveryToken;
 use amqp_session_links::SessionLinks;
 use indexmap::IndexMap;

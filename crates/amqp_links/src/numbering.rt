@@ -7,10 +7,10 @@ ghost use Rattle.amqp_links.specs.State.{seen, link_of};
 use crate::links::Links;
 use amqp_composites::modes::Role;
 use amqp_delivery::DeliveryInfo;
+use amqp_link_calls::amqp_link_words::LinkReply;
 use amqp_link_tables::Delivered;
-use amqp_link_words::LinkReply;
 use amqp_performatives::transfer::Transfer;
-use amqp_session::LinkInput;
+use amqp_session_links::amqp_session::LinkInput;
 use std::alloc::{AllocError, Global};
 
 /// The number of the delivery that a Transfer begins, and what it stands for; none where the delivery is settled.

@@ -4,7 +4,7 @@ ghost use Rattle.amqp_links.specs.Regulating.{regulating_at};
 ghost use Rattle.amqp_links.specs.State.{seen, link_of};
 
 use crate::links::Links;
-use amqp_link_words::Regulation;
+use amqp_link_calls::amqp_link_words::Regulation;
 use std::alloc::AllocError;
 
 impl Links {

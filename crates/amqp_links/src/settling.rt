@@ -11,7 +11,7 @@ use amqp_frames::CoveredDelivery;
 use amqp_link_calls::CalledLink;
 use amqp_link_tables::Delivered;
 use amqp_performatives::disposition::Disposition;
-use amqp_session::LeftDelivery;
+use amqp_session_links::amqp_session::LeftDelivery;
 use amqp_termini::DeliveryState;
 use std::alloc::{AllocError, Global};
 

@@ -3,7 +3,7 @@ ghost use Rattle.std.specs.Prelude.{◌≡◌, IfOk};
 ghost use Rattle.amqp_links.specs.Timing.{is_due, message_of, message_for, sends_at, waiting_send};
 
 use amqp_link_calls::CalledLink;
-use amqp_link_words::Sendable;
+use amqp_link_calls::amqp_link_words::Sendable;
 use amqp_sender::DeliveryToken;
 use std::alloc::AllocError;
 

@@ -6,7 +6,7 @@ ghost use Rattle.amqp_links.specs.Timing.{at_moment, timed_of, waiting_as, waiti
 
 use crate::links::{Links, SentDelivery};
 use crate::timed::{Awaited, TimedCall, Timer};
-use amqp_link_words::{LinkReply, Sendable};
+use amqp_link_calls::amqp_link_words::{LinkReply, Sendable};
 use amqp_sender::DeliveryToken;
 use indexmap::IndexMap;
 use std::alloc::AllocError;

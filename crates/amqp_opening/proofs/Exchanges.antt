@@ -2,35 +2,35 @@
 use Rattle.std.proofs.Common.{◌≡◌, inl, inr, ℕ, true, List, [], ◌∷◌, ◌++◌, Option, Some, None, sym, ap, ◌∙◌, subst, append_assoc}
 use Rattle.std.proofs.lemmas.List.{append-nil}
 use Rattle.std.proofs.lemmas.List.Elements.{All-nil}
-use Rattle.amqp_sasl_bodies.specs.declared.sasl_body.SaslBody.{SaslBody}
-use Rattle.amqp_sasl_bodies.specs.declared.sasl_code.SaslCode.{SaslCode}
-use Rattle.amqp_sasl_bodies.specs.declared.sasl_code.SaslCode.TheVariants as sasl
+use Rattle.sasl_gate.specs.amqp_sasl_bodies.declared.sasl_body.SaslBody.{SaslBody}
+use Rattle.sasl_gate.specs.amqp_sasl_bodies.declared.sasl_code.SaslCode.{SaslCode}
+use Rattle.sasl_gate.specs.amqp_sasl_bodies.declared.sasl_code.SaslCode.TheVariants as sasl
 use Rattle.amqp_wire.specs.Events.{LinkEvent, read_of, wrote_of}
-use Rattle.sasl_exchange.specs.declared.client.ClientExchange.{ClientExchange}
-use Rattle.sasl_exchange.specs.declared.client.ClientExchange.TheVariants as client_end
-use Rattle.sasl_exchange.specs.declared.exchange.Turn.TheVariants.{Pass}
-use Rattle.sasl_exchange.specs.declared.init_client.InitClientStage.{InitClientStage}
-use Rattle.sasl_exchange.specs.declared.init_client.InitClientStage.TheVariants as init_client
-use Rattle.sasl_exchange.specs.declared.init_server.InitCheck.{InitCheck}
-use Rattle.sasl_exchange.specs.declared.init_server.InitServerStage.{InitServerStage}
-use Rattle.sasl_exchange.specs.declared.init_server.InitServerStage.TheVariants as init_server
-use Rattle.sasl_exchange.specs.declared.scram_client.ClientStage.{ClientStage}
-use Rattle.sasl_exchange.specs.declared.scram_client.ClientStage.TheVariants as client
-use Rattle.sasl_exchange.specs.declared.scram_server.ServerStage.{ServerStage}
-use Rattle.sasl_exchange.specs.declared.scram_server.ServerStage.TheVariants as server
-use Rattle.sasl_exchange.specs.declared.server.ServerExchange.{ServerExchange}
-use Rattle.sasl_exchange.specs.declared.server.ServerExchange.TheVariants as server_end
+use Rattle.sasl_gate.specs.sasl_exchange.declared.client.ClientExchange.{ClientExchange}
+use Rattle.sasl_gate.specs.sasl_exchange.declared.client.ClientExchange.TheVariants as client_end
+use Rattle.sasl_gate.specs.sasl_exchange.declared.exchange.Turn.TheVariants.{Pass}
+use Rattle.sasl_gate.specs.sasl_exchange.declared.init_client.InitClientStage.{InitClientStage}
+use Rattle.sasl_gate.specs.sasl_exchange.declared.init_client.InitClientStage.TheVariants as init_client
+use Rattle.sasl_gate.specs.sasl_exchange.declared.init_server.InitCheck.{InitCheck}
+use Rattle.sasl_gate.specs.sasl_exchange.declared.init_server.InitServerStage.{InitServerStage}
+use Rattle.sasl_gate.specs.sasl_exchange.declared.init_server.InitServerStage.TheVariants as init_server
+use Rattle.sasl_gate.specs.sasl_exchange.declared.scram_client.ClientStage.{ClientStage}
+use Rattle.sasl_gate.specs.sasl_exchange.declared.scram_client.ClientStage.TheVariants as client
+use Rattle.sasl_gate.specs.sasl_exchange.declared.scram_server.ServerStage.{ServerStage}
+use Rattle.sasl_gate.specs.sasl_exchange.declared.scram_server.ServerStage.TheVariants as server
+use Rattle.sasl_gate.specs.sasl_exchange.declared.server.ServerExchange.{ServerExchange}
+use Rattle.sasl_gate.specs.sasl_exchange.declared.server.ServerExchange.TheVariants as server_end
 use Rattle.sasl_scram.specs.declared.hash.ScramHash.{ScramHash}
-use Rattle.sasl_exchange.specs.ScramClient.{ClientEnd, turn_in as client_turn_in, holds_in as client_holds_in, HasPassed as ClientHasPassed}
+use Rattle.sasl_gate.specs.sasl_exchange.ScramClient.{ClientEnd, turn_in as client_turn_in, holds_in as client_holds_in, HasPassed as ClientHasPassed}
 use Rattle.sasl_gate.specs.ClientGate.{ClientPassed, InitClientPassed}
-use Rattle.sasl_exchange.specs.Credentials.{Credentials, credentials_of}
-use Rattle.sasl_exchange.specs.Credentials as own
+use Rattle.sasl_gate.specs.sasl_exchange.Credentials.{Credentials, credentials_of}
+use Rattle.sasl_gate.specs.sasl_exchange.Credentials as own
 use Rattle.sasl_gate.specs.Frames.{HasSaslFrame, Heard, said, IsOnlySasl}
-use Rattle.sasl_exchange.specs.InitClient.{InitClientEnd, turn_in as init_client_turn_in, holds_in as init_client_holds_in, HasPassed as InitClientHasPassed}
-use Rattle.sasl_exchange.specs.InitServer.{InitServerEnd, told_turn, turn_in as init_server_turn_in, holds_in as init_server_holds_in, check_mechanisms, HasJudged}
+use Rattle.sasl_gate.specs.sasl_exchange.InitClient.{InitClientEnd, turn_in as init_client_turn_in, holds_in as init_client_holds_in, HasPassed as InitClientHasPassed}
+use Rattle.sasl_gate.specs.sasl_exchange.InitServer.{InitServerEnd, told_turn, turn_in as init_server_turn_in, holds_in as init_server_holds_in, check_mechanisms, HasJudged}
 use Rattle.sasl_gate.specs.ServerGate.{InitServerPassed, ServerPassed}
-use Rattle.sasl_exchange.specs.ScramBodies.{outcome_body}
-use Rattle.sasl_exchange.specs.ScramServer.{ServerEnd, turn_in as server_turn_in, holds_in as server_holds_in, HasProof}
+use Rattle.sasl_gate.specs.sasl_exchange.ScramBodies.{outcome_body}
+use Rattle.sasl_gate.specs.sasl_exchange.ScramServer.{ServerEnd, turn_in as server_turn_in, holds_in as server_holds_in, HasProof}
 use Rattle.sasl_scram.specs.States.{Account, ServerState}
 use Rattle.sasl_gate.proofs.Negotiations.{heard_more}
 use Rattle.amqp_opening.specs.declared.authentication.Authentication.{Authentication}

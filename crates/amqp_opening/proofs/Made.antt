@@ -1,16 +1,16 @@
 -- The exchanges that calls begin.
 use Rattle.std.proofs.Common.{◌≡◌, ℕ, List, [], Option, Some, refl, sym, ◌∙◌}
-use Rattle.sasl_exchange.specs.declared.client.ClientExchange.{ClientExchange}
-use Rattle.sasl_exchange.specs.declared.client.ClientExchange.TheVariants as client
-use Rattle.sasl_exchange.specs.declared.error.NegotiationError.{NegotiationError}
-use Rattle.sasl_exchange.specs.declared.server.ServerExchange.{ServerExchange}
-use Rattle.sasl_exchange.specs.declared.server.ServerExchange.TheVariants as server
+use Rattle.sasl_gate.specs.sasl_exchange.declared.client.ClientExchange.{ClientExchange}
+use Rattle.sasl_gate.specs.sasl_exchange.declared.client.ClientExchange.TheVariants as client
+use Rattle.sasl_gate.specs.sasl_exchange.declared.error.NegotiationError.{NegotiationError}
+use Rattle.sasl_gate.specs.sasl_exchange.declared.server.ServerExchange.{ServerExchange}
+use Rattle.sasl_gate.specs.sasl_exchange.declared.server.ServerExchange.TheVariants as server
 use Rattle.sasl_scram.specs.declared.error.ScramErrorKind.{ScramErrorKind}
 use Rattle.sasl_scram.specs.declared.error.ScramErrorKind.TheVariants as scram
-use Rattle.sasl_exchange.specs.AnyClient.{any_client_begun, any_client_holds, any_client_same}
-use Rattle.sasl_exchange.specs.AnyServer.{any_server_same}
-use Rattle.sasl_exchange.specs.Credentials.{Credentials, IsAllowedTexts, HasNonce}
-use Rattle.sasl_exchange.specs.Credentials as own
+use Rattle.sasl_gate.specs.sasl_exchange.AnyClient.{any_client_begun, any_client_holds, any_client_same}
+use Rattle.sasl_gate.specs.sasl_exchange.AnyServer.{any_server_same}
+use Rattle.sasl_gate.specs.sasl_exchange.Credentials.{Credentials, IsAllowedTexts, HasNonce}
+use Rattle.sasl_gate.specs.sasl_exchange.Credentials as own
 use Rattle.sasl_scram.specs.Refusals.{IsTextRefusal}
 use Rattle.sasl_scram.specs.States.{Account}
 use Rattle.amqp_opening.specs.Admission.{Admission}

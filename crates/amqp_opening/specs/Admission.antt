@@ -3,7 +3,7 @@ use Rattle.std.specs.Prelude.{ℕ, List, Option, Some, None}
 use Rattle.sasl_scram.specs.declared.hash.ScramHash.{ScramHash}
 use Rattle.sasl_scram.specs.declared.hash.ScramHash.TheVariants.{Sha1, Sha256, Sha512}
 use Rattle.sasl_scram.specs.Hashes.{mechanism_of}
-use Rattle.sasl_exchange.specs.InitTexts.{anonymous_name, plain_name}
+use Rattle.sasl_gate.specs.sasl_exchange.InitTexts.{anonymous_name, plain_name}
 use Rattle.amqp_opening.specs.declared.acceptor.AcceptSasl.{AcceptSasl}
 use Rattle.amqp_opening.specs.declared.acceptor.AcceptSasl.TheVariants.{Anonymous, Plain, ScramSha1, ScramSha256, ScramSha512}
 use Rattle.amqp_opening.specs.declared.acceptor.Accepting.{Accepting}

@@ -1,37 +1,37 @@
 -- The SASL exchange of an end: a client's, or a listener's with one user.
 use Rattle.std.specs.Prelude.{◌≡◌, ℕ, List, Option, Some, None, if◌then◌else◌, ⊤}
 use Rattle.std.specs.Str.{bytes_eq}
-use Rattle.amqp_sasl_bodies.specs.declared.sasl_body.SaslBody.{SaslBody}
-use Rattle.amqp_sasl_bodies.specs.declared.sasl_code.SaslCode.{SaslCode}
+use Rattle.sasl_gate.specs.amqp_sasl_bodies.declared.sasl_body.SaslBody.{SaslBody}
+use Rattle.sasl_gate.specs.amqp_sasl_bodies.declared.sasl_code.SaslCode.{SaslCode}
 use Rattle.base64.specs.GeneralPurpose.{IsBytes}
-use Rattle.sasl_exchange.specs.declared.client.ClientExchange.{ClientExchange}
-use Rattle.sasl_exchange.specs.declared.client.ClientExchange.TheVariants as client
-use Rattle.sasl_exchange.specs.declared.error.NegotiationError.{NegotiationError}
-use Rattle.sasl_exchange.specs.declared.error.NegotiationError.TheVariants.{Memory, ProtocolHeaderMismatch, NotImplemented, SaslError, ScramError, Io, DecodeError, IllegalState, FramingError}
-use Rattle.sasl_exchange.specs.declared.exchange.Exchange.{Ghosts as Mechanism}
-use Rattle.sasl_exchange.specs.declared.exchange.Turn.{Turn}
-use Rattle.sasl_exchange.specs.declared.exchange.Turn.TheVariants.{Receive, Refuse}
-use Rattle.sasl_exchange.specs.declared.init_server.InitCheck.{InitCheck}
-use Rattle.sasl_exchange.specs.declared.init_server.InitCheck.TheVariants as check
-use Rattle.sasl_exchange.specs.declared.server.ServerExchange.{ServerExchange}
-use Rattle.sasl_exchange.specs.declared.server.ServerExchange.TheVariants as server
+use Rattle.sasl_gate.specs.sasl_exchange.declared.client.ClientExchange.{ClientExchange}
+use Rattle.sasl_gate.specs.sasl_exchange.declared.client.ClientExchange.TheVariants as client
+use Rattle.sasl_gate.specs.sasl_exchange.declared.error.NegotiationError.{NegotiationError}
+use Rattle.sasl_gate.specs.sasl_exchange.declared.error.NegotiationError.TheVariants.{Memory, ProtocolHeaderMismatch, NotImplemented, SaslError, ScramError, Io, DecodeError, IllegalState, FramingError}
+use Rattle.sasl_gate.specs.sasl_exchange.declared.exchange.Exchange.{Ghosts as Mechanism}
+use Rattle.sasl_gate.specs.sasl_exchange.declared.exchange.Turn.{Turn}
+use Rattle.sasl_gate.specs.sasl_exchange.declared.exchange.Turn.TheVariants.{Receive, Refuse}
+use Rattle.sasl_gate.specs.sasl_exchange.declared.init_server.InitCheck.{InitCheck}
+use Rattle.sasl_gate.specs.sasl_exchange.declared.init_server.InitCheck.TheVariants as check
+use Rattle.sasl_gate.specs.sasl_exchange.declared.server.ServerExchange.{ServerExchange}
+use Rattle.sasl_gate.specs.sasl_exchange.declared.server.ServerExchange.TheVariants as server
 use Rattle.sasl_scram.specs.declared.error.ScramErrorKind.{ScramErrorKind}
 use Rattle.sasl_scram.specs.declared.error.ScramErrorKind.TheVariants as scram
 use Rattle.sasl_scram.specs.declared.hash.ScramHash.{ScramHash}
 use Rattle.sasl_scram.specs.declared.stored.StoredPassword.{StoredPassword}
-use Rattle.sasl_exchange.specs.AnyClient.{any_client_holds, any_client_causes, any_client_owes, any_client_turn, any_client_left, any_client_same, any_client_refusal, any_client_same_self, any_client_same_then}
-use Rattle.sasl_exchange.specs.AnyServer.{any_server_holds, any_server_causes, any_server_owes, any_server_turn, any_server_left, any_server_same, any_server_refusal, any_server_same_self, any_server_same_then}
+use Rattle.sasl_gate.specs.sasl_exchange.AnyClient.{any_client_holds, any_client_causes, any_client_owes, any_client_turn, any_client_left, any_client_same, any_client_refusal, any_client_same_self, any_client_same_then}
+use Rattle.sasl_gate.specs.sasl_exchange.AnyServer.{any_server_holds, any_server_causes, any_server_owes, any_server_turn, any_server_left, any_server_same, any_server_refusal, any_server_same_self, any_server_same_then}
 use Rattle.sasl_scram.specs.Check.{stored_of}
-use Rattle.sasl_exchange.specs.ScramClient.{ClientEnd}
-use Rattle.sasl_exchange.specs.Credentials.{Credentials, credentials_of, mechanism_in}
-use Rattle.sasl_exchange.specs.Credentials as own
-use Rattle.sasl_exchange.specs.Exchange.{refused_with}
+use Rattle.sasl_gate.specs.sasl_exchange.ScramClient.{ClientEnd}
+use Rattle.sasl_gate.specs.sasl_exchange.Credentials.{Credentials, credentials_of, mechanism_in}
+use Rattle.sasl_gate.specs.sasl_exchange.Credentials as own
+use Rattle.sasl_gate.specs.sasl_exchange.Exchange.{refused_with}
 use Rattle.sasl_scram.specs.Hashes.{digest_of, block_of, output_of}
-use Rattle.sasl_exchange.specs.InitClient.{InitClientEnd}
-use Rattle.sasl_exchange.specs.InitServer.{InitServerEnd}
-use Rattle.sasl_exchange.specs.InitTexts.{anonymous_name, plain_name, plain_of}
+use Rattle.sasl_gate.specs.sasl_exchange.InitClient.{InitClientEnd}
+use Rattle.sasl_gate.specs.sasl_exchange.InitServer.{InitServerEnd}
+use Rattle.sasl_gate.specs.sasl_exchange.InitTexts.{anonymous_name, plain_name, plain_of}
 use Rattle.sasl_scram.specs.Profile.{IsAllowedUser, IsAllowedPassword, IsAllowedCount, IsNonce}
-use Rattle.sasl_exchange.specs.ScramServer.{ServerEnd}
+use Rattle.sasl_gate.specs.sasl_exchange.ScramServer.{ServerEnd}
 use Rattle.sasl_scram.specs.States.{Account}
 use Rattle.amqp_opening.specs.declared.authentication.Authentication.{Authentication}
 use Rattle.amqp_opening.specs.declared.authentication.Authentication.TheVariants.{Idle, Client, Listener}

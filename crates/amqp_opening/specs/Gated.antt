@@ -1,14 +1,14 @@
 -- What an end with a SASL layer may have written, by what it wrote and what it read: nothing but the SASL header and SASL
 -- frames before its check holds (OASIS AMQP 1.0, part 5, section 5.3.2).
 use Rattle.std.specs.Prelude.{◌≡◌, ◌⊎◌, ℕ, List, ◌++◌, Option, Some, None}
-use Rattle.sasl_exchange.specs.declared.init_server.InitCheck.TheVariants as check
+use Rattle.sasl_gate.specs.sasl_exchange.declared.init_server.InitCheck.TheVariants as check
 use Rattle.sasl_scram.specs.declared.hash.ScramHash.{ScramHash}
 use Rattle.sasl_scram.specs.declared.stored.StoredPassword.{StoredPassword}
 use Rattle.sasl_gate.specs.ClientGate.{ClientPassed, InitClientPassed}
-use Rattle.sasl_exchange.specs.Credentials.{Credentials, credentials_of}
-use Rattle.sasl_exchange.specs.Credentials as own
+use Rattle.sasl_gate.specs.sasl_exchange.Credentials.{Credentials, credentials_of}
+use Rattle.sasl_gate.specs.sasl_exchange.Credentials as own
 use Rattle.sasl_gate.specs.ServerGate.{InitServerPassed, ServerPassed}
-use Rattle.sasl_exchange.specs.InitTexts.{anonymous_name, plain_name, plain_of}
+use Rattle.sasl_gate.specs.sasl_exchange.InitTexts.{anonymous_name, plain_name, plain_of}
 use Rattle.sasl_gate.specs.Frames.{IsOnlySasl}
 use Rattle.amqp_opening.specs.declared.authentication.SaslCall.{SaslCall}
 use Rattle.amqp_opening.specs.declared.authentication.SaslCall.TheVariants as call

@@ -2,17 +2,17 @@
 -- there is one, and then the AMQP headers (OASIS AMQP 1.0, part 2, section 2.2).
 use Rattle.std.specs.Prelude.{◌≡◌, ◌≢◌, ◌<◌, ◌≤◌, ◌+◌, ◌⊎◌, ℕ, Bool, true, false, List, [], ◌∷◌, ◌++◌, length, take, All, Option, Some, None, Result, Ok, Err, ⊤}
 use Rattle.std.specs.declared.alloc.AllocError.{AllocError}
-use Rattle.amqp_sasl_bodies.specs.declared.sasl_body.SaslBody.{SaslBody}
+use Rattle.sasl_gate.specs.amqp_sasl_bodies.declared.sasl_body.SaslBody.{SaslBody}
 use Rattle.amqp_wire.specs.declared.link.Link.{Ghosts}
 use Rattle.amqp_wire.specs.declared.link.Stop.{Stop}
 use Rattle.amqp_wire.specs.declared.link.Stop.TheVariants.{Empty, End, Failed as FailedRead}
 use Rattle.amqp_wire.specs.declared.link.Held.TheVariants.{Full}
 use Rattle.amqp_wire.specs.declared.link.IoKind.TheVariants.{Fault, End as InputEnd}
 use Rattle.amqp_wire.specs.Events.{LinkEvent, NotWritten, Went, read_of, wrote_of, reads_in, Includes}
-use Rattle.sasl_exchange.specs.declared.error.NegotiationError.{NegotiationError}
-use Rattle.sasl_exchange.specs.declared.error.NegotiationError.TheVariants.{Memory, ProtocolHeaderMismatch, NotImplemented, SaslError, ScramError, Io, DecodeError, IllegalState, FramingError}
-use Rattle.sasl_exchange.specs.declared.exchange.Exchange.{Ghosts as Mechanism}
-use Rattle.sasl_exchange.specs.declared.exchange.Turn.TheVariants.{Pass}
+use Rattle.sasl_gate.specs.sasl_exchange.declared.error.NegotiationError.{NegotiationError}
+use Rattle.sasl_gate.specs.sasl_exchange.declared.error.NegotiationError.TheVariants.{Memory, ProtocolHeaderMismatch, NotImplemented, SaslError, ScramError, Io, DecodeError, IllegalState, FramingError}
+use Rattle.sasl_gate.specs.sasl_exchange.declared.exchange.Exchange.{Ghosts as Mechanism}
+use Rattle.sasl_gate.specs.sasl_exchange.declared.exchange.Turn.TheVariants.{Pass}
 use Rattle.sasl_gate.specs.Frames.{HasSaslFrame, Heard, said, sasl_header, IsOnlySasl}
 use Rattle.sasl_gate.specs.Negotiation.{Negotiating, LinkCause, IsCaused, IsHeard, IsCauseAfter, IsOutcomeOut, IsHeldUp, IsAtRest as IsNegotiationAtRest, Has}
 use Rattle.amqp_opening.specs.declared.opening.OpeningPoll.{OpeningPoll}

@@ -1,7 +1,7 @@
 -- Which exchanges of the SASL layer may be asked for.
 use Rattle.std.specs.Prelude.{◌≤◌, ℕ, List, length, ⊤}
-use Rattle.sasl_exchange.specs.declared.profile.SaslProfile.{SaslProfile}
-use Rattle.sasl_exchange.specs.Credentials.{credentials_of, HasNonce}
+use Rattle.sasl_gate.specs.sasl_exchange.declared.profile.SaslProfile.{SaslProfile}
+use Rattle.sasl_gate.specs.sasl_exchange.Credentials.{credentials_of, HasNonce}
 use Rattle.sasl_scram.specs.Profile.{IsNonce, IsAllowedCount}
 use Rattle.amqp_opening.specs.declared.acceptor.AcceptSasl.{AcceptSasl}
 use Rattle.amqp_opening.specs.declared.authentication.SaslCall.{SaslCall}

@@ -1,7 +1,7 @@
 //! The SASL exchange of an end: a client's, or a listener's with one user (OASIS AMQP 1.0, part 5, section 5.3).
 ghost use Rattle.std.specs.Prelude.{◌≡◌, ◌≤◌, List, [], Some, None, length, IfOk, IfErr, OnOk};
 ghost use Rattle.base64.specs.GeneralPurpose.{IsBytes};
-ghost use Rattle.sasl_exchange.specs.AnyServer.{any_server_holds};
+ghost use Rattle.sasl_gate.specs.sasl_exchange.AnyServer.{any_server_holds};
 ghost use Rattle.sasl_scram.specs.Check.{stored_of};
 ghost use Rattle.sasl_scram.specs.Hashes.{digest_of, block_of, output_of};
 ghost use Rattle.sasl_scram.specs.Profile.{IsAllowedPassword, IsAllowedCount};
@@ -11,9 +11,9 @@ ghost use Rattle.amqp_opening.specs.Authentication.{passwords_for, stored_for, h
 ghost use Rattle.amqp_opening.specs.Permission.{IsAllowedAccept, IsAllowedProfile, IsAllowedSasl, IsAllowedSaslCall};
 
 use crate::acceptor::{AcceptSasl, Accepting};
-use amqp_sasl_bodies::sasl_body::SaslBody;
 use amqp_text::{Binary, Text};
-use sasl_exchange::exchange::{Exchange, Turn, Verdict};
+use sasl_gate::amqp_sasl_bodies::sasl_body::SaslBody;
+use sasl_gate::sasl_exchange::exchange::{Exchange, Turn, Verdict};
 use sasl_gate::{
     ClientExchange, InitCheck, InitServer, NegotiationError, OneUser, SaslProfile, ScramErrorKind,
     ScramHash, ScramServerExchange, ServerExchange, StoredPassword,

@@ -6,6 +6,7 @@ pub use acceptor::AcceptSasl;
 pub use authentication::{Authentication, SaslCall, exchange_for};
 pub use opening::{Opening, OpeningPoll, Stage};
 pub use permission::{is_allowed, is_allowed_acceptor, is_allowed_profile};
+pub use sasl_gate::{NegotiationError, SaslProfile};
 
 pub mod acceptor;
 pub mod authentication;

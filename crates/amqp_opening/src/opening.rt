@@ -11,9 +11,9 @@ ghost use Rattle.amqp_opening.specs.Opening.{Opened, Ran, amqp_header, begun, be
 use amqp_wire::codec::{FramedCodec, MIN_MAX_FRAME_SIZE};
 use amqp_wire::link::{Held, IoKind, Link, Stop};
 use amqp_wire::reading::{Wait, read_header};
-use sasl_exchange::exchange::Exchange;
 use sasl_gate::NegotiationError;
 use sasl_gate::gate::negotiation::{GatePoll, Negotiation};
+use sasl_gate::sasl_exchange::exchange::Exchange;
 use std::alloc::{AllocError, Global};
 use std::marker::Model;
 

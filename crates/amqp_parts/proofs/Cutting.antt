@@ -4,7 +4,7 @@ use Rattle.std.specs.Prelude.{◌&&◌, ◌↔◌, IfSome, is_some}
 use Rattle.std.proofs.lemmas.Bool.Decides.{nat_tests}
 use Rattle.std.proofs.lemmas.List.{length-drop}
 use Rattle.amqp_data.specs.Data.{depth}
-use Rattle.amqp_value.specs.Canonical.{canonical}
+use Rattle.amqp_described.specs.amqp_value.Canonical.{canonical}
 use Rattle.amqp_described.specs.Writing.{Fits}
 use Rattle.amqp_performatives.specs.declared.transfer.Transfer.{Transfer}
 use Rattle.amqp_parts.specs.declared.part.Part.{Part}

@@ -3,7 +3,7 @@ use Rattle.std.proofs.Common.{◌≡◌, ℕ, nat_le, true, false, Bool, List, [
 use Rattle.std.proofs.lemmas.List.{append-nil}
 use Rattle.std.specs.Prelude.{◌&&◌}
 use Rattle.amqp_data.specs.Data.{Amqp, Items, list, depth}
-use Rattle.amqp_value.specs.Canonical.{canonical}
+use Rattle.amqp_described.specs.amqp_value.Canonical.{canonical}
 use Rattle.amqp_fields.specs.declared.error.BaseError.{BaseError}
 use Rattle.amqp_fields.specs.declared.error.BaseError.TheVariants as errors
 use Rattle.amqp_fields.specs.Fields.{MakesItems, trimmed}

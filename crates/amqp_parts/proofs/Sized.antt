@@ -5,9 +5,9 @@ use Rattle.std.specs.Cmp.Derive.{both_true}
 use Rattle.std.proofs.lemmas.Bool.{ltb-true, leb-true}
 use Rattle.std.proofs.lemmas.Bool.Decides.{nat_tests}
 use Rattle.amqp_data.specs.Data.{Scalar, null, boolean, ubyte, ushort, uint, ulong, byte, short, int, long, char, timestamp, uuid, binary, string, symbol, Amqp, Items, Pairs, scalar, list, dict, array, described, no_items, item, no_pairs, pair, count, pair_count, depth}
-use Rattle.amqp_value.specs.declared.code.SizeWidth.TheVariants.{Four}
-use Rattle.amqp_value.specs.Code.{content}
-use Rattle.amqp_value.specs.Canonical.{canonical_items, canonical_pairs, array_items, IsScalarSized, IsSized, AreSized, ArePairsSized}
+use Rattle.amqp_described.specs.amqp_value.declared.code.SizeWidth.TheVariants.{Four}
+use Rattle.amqp_described.specs.amqp_value.Code.{content}
+use Rattle.amqp_described.specs.amqp_value.Canonical.{canonical_items, canonical_pairs, array_items, IsScalarSized, IsSized, AreSized, ArePairsSized}
 use Rattle.amqp_described.specs.Writing.{Fits}
 use Rattle.amqp_parts.specs.Cut.{has_length, is_scalar_sized, is_sized, are_sized, are_pairs_sized}
 

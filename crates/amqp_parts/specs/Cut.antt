@@ -1,9 +1,9 @@
 -- The first part of a delivery, and what is left of it (OASIS AMQP 1.0, part 2, sections 2.3.1 and 2.6.14).
 use Rattle.std.specs.Prelude.{◌≡◌, ℕ, ◌+◌, ◌-◌, ◌*◌, ◌^◌, nat_lt, nat_le, Bool, true, false, ◌&&◌, List, [], ◌∷◌, take, drop, length, Option, Some, None, if◌then◌else◌}
 use Rattle.amqp_data.specs.Data.{Scalar, binary, string, symbol, Amqp, Items, Pairs, scalar, list, dict, array, described, no_items, item, no_pairs, pair, count, pair_count, depth}
-use Rattle.amqp_value.specs.declared.code.SizeWidth.TheVariants.{Four}
-use Rattle.amqp_value.specs.Code.{content}
-use Rattle.amqp_value.specs.Canonical.{canonical, canonical_items, canonical_pairs, array_items}
+use Rattle.amqp_described.specs.amqp_value.declared.code.SizeWidth.TheVariants.{Four}
+use Rattle.amqp_described.specs.amqp_value.Code.{content}
+use Rattle.amqp_described.specs.amqp_value.Canonical.{canonical, canonical_items, canonical_pairs, array_items}
 use Rattle.amqp_performatives.specs.declared.transfer.Transfer.{Transfer}
 use Rattle.amqp_parts.specs.declared.part.Part.{Part}
 use Rattle.amqp_parts.specs.declared.splitting.Cut.{Cut}

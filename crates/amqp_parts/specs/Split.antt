@@ -1,7 +1,7 @@
 -- How a delivery is split over frames (OASIS AMQP 1.0, part 2, sections 2.3.1 and 2.6.14).
 use Rattle.std.specs.Prelude.{◌≡◌, ℕ, ◌+◌, ◌<◌, ◌≤◌, true, false, List, [], ◌∷◌, ◌++◌, take, drop, length, None}
 use Rattle.amqp_data.specs.Data.{Amqp}
-use Rattle.amqp_value.specs.Canonical.{canonical}
+use Rattle.amqp_described.specs.amqp_value.Canonical.{canonical}
 use Rattle.amqp_composites.specs.declared.kind.CompositeKind.TheVariants as kind
 use Rattle.amqp_composites.specs.Described.{composite}
 use Rattle.amqp_described.specs.Writing.{Fits}

@@ -1,6 +1,6 @@
 -- What a step of the engine gives the sessions above the connection.
 use Rattle.std.proofs.Common.{◌≡◌, ℕ, List, [], ◌∷◌, ◌++◌, Bool, true, false, cond, Option, Some, None, if◌then◌else◌, refl, sym, ap, ◌∙◌, subst}
-use Rattle.std.specs.Prelude.{slice_index_or}
+use Rattle.std.specs.Prelude.{nat_lt, slice_index_or}
 use Rattle.amqp_frames.specs.declared.body.FrameBody.{FrameBody}
 use Rattle.amqp_frames.specs.declared.body.FrameBody.TheVariants as b
 use Rattle.amqp_frames.specs.declared.shared.IncomingSession.{IncomingSession}
@@ -10,12 +10,12 @@ use Rattle.amqp_engine.specs.declared.phase.Phase.TheVariants as p
 use Rattle.amqp_engine.specs.declared.phase.Rejection.TheVariants as rejection
 use Rattle.amqp_engine.specs.declared.sessions.Plan.{Plan}
 use Rattle.amqp_engine.specs.declared.sessions.Plan.TheVariants as plan
-use Rattle.amqp_engine.specs.Channels.{Channels, taken_in, with_asked, asked}
+use Rattle.amqp_engine.specs.Channels.{Channels, is_among, taken_in, with_asked, asked}
 use Rattle.amqp_engine.specs.Faults.{AllOwed}
 use Rattle.amqp_engine.specs.Machine.{plan_of, phase_after}
 use Rattle.amqp_engine.specs.Outcomes.{IsHanded, IsAdmitted, channels_by}
 use Rattle.amqp_engine.specs.Phases.{is_open, hears}
-use Rattle.amqp_engine.specs.Plans.{is_among, planned, begin_plan}
+use Rattle.amqp_engine.specs.Plans.{within_plan, known_plan, begin_plan, answer_plan}
 use Rattle.amqp_engine.specs.State.{State}
 use Rattle.amqp_engine.proofs.Steps.{is_open_only}
 use Rattle.amqp_peer.specs.declared.held.Held.{Held}
@@ -65,15 +65,16 @@ abbrev IsTaken : Plan → Type 0
 IsTaken (plan.Reject why) = ⊥
 IsTaken q = Unit {0}
 
-answer_asks : (a : Bool) → IsTaken (if a then plan.Answer else plan.Reject rejection.NotFound) → false ≡ is_ask (if a then plan.Answer else plan.Reject rejection.NotFound)
-answer_asks true t = refl
-answer_asks false t = absurd t
+answer_asks : (a z : Bool) → IsTaken (answer_plan a z) → false ≡ is_ask (answer_plan a z)
+answer_asks false z t = absurd t
+answer_asks true true t = absurd t
+answer_asks true false t = refl
 
-begin_asks : (k l : Bool) (seats : List Bool) (c : Option ℕ) → IsTaken (begin_plan k l seats c) → asks_by c ≡ is_ask (begin_plan k l seats c)
-begin_asks true l seats c t = absurd t
-begin_asks false l seats (Some c) t = answer_asks (slice_index_or seats c false) t
-begin_asks false true seats None t = refl
-begin_asks false false seats None t = absurd t
+begin_asks : (k l : Bool) (c : Channels) (n : Option ℕ) → IsTaken (begin_plan k l c n) → asks_by n ≡ is_ask (begin_plan k l c n)
+begin_asks true l c n t = absurd t
+begin_asks false l c (Some m) t = answer_asks (slice_index_or c.seats m false) (is_among m c.answered) t
+begin_asks false true c None t = refl
+begin_asks false false c None t = absurd t
 
 end_asks : (k : Bool) → IsTaken (if k then plan.End else plan.Reject rejection.NotFound) → false ≡ is_ask (if k then plan.End else plan.Reject rejection.NotFound)
 end_asks true t = refl
@@ -83,43 +84,54 @@ other_asks : (k : Bool) → IsTaken (if k then plan.Deliver else plan.Reject rej
 other_asks true t = refl
 other_asks false t = absurd t
 
-planned_asks : (k l : Bool) (seats : List Bool) (body : FrameBody) → IsTaken (planned k l seats body) → asks body ≡ is_ask (planned k l seats body)
-planned_asks k l seats (b.Begin x) t = begin_asks k l seats x.remote_channel t
-planned_asks k l seats (b.End x) t = end_asks k t
-planned_asks k l seats (b.Open x) t = other_asks k t
-planned_asks k l seats (b.Close x) t = other_asks k t
-planned_asks k l seats b.Empty t = other_asks k t
-planned_asks k l seats (b.Attach x) t = other_asks k t
-planned_asks k l seats (b.Flow x) t = other_asks k t
-planned_asks k l seats (b.Transfer x y) t = other_asks k t
-planned_asks k l seats (b.Disposition x) t = other_asks k t
-planned_asks k l seats (b.Detach x) t = other_asks k t
+known_asks : (k l : Bool) (c : Channels) (body : FrameBody) → IsTaken (known_plan k l c body) → asks body ≡ is_ask (known_plan k l c body)
+known_asks k l c (b.Begin x) t = begin_asks k l c x.remote_channel t
+known_asks k l c (b.End x) t = end_asks k t
+known_asks k l c (b.Open x) t = other_asks k t
+known_asks k l c (b.Close x) t = other_asks k t
+known_asks k l c b.Empty t = other_asks k t
+known_asks k l c (b.Attach x) t = other_asks k t
+known_asks k l c (b.Flow x) t = other_asks k t
+known_asks k l c (b.Transfer x y) t = other_asks k t
+known_asks k l c (b.Disposition x) t = other_asks k t
+known_asks k l c (b.Detach x) t = other_asks k t
+
+-- a channel above the highest takes no frame
+within_asks : (u : Bool) (q : Plan) (a : Bool) → (IsTaken q → a ≡ is_ask q) → IsTaken (within_plan u q) → a ≡ is_ask (within_plan u q)
+within_asks true q a f t = absurd t
+within_asks false q a f t = f t
+
+within_asked : (u : Bool) (q : Plan) → within_plan u q ≡ plan.Ask → q ≡ plan.Ask
+within_asked true q e = absurd (cc e)
+within_asked false q e = e
 
 plan_asks : {L : Type 0} (q : Plan) (s : State L) (x : Frame) → plan_of s x ≡ q → IsTaken q → asks x.body ≡ is_ask q
 plan_asks q s x e t =
-    planned_asks (is_among x.channel s.channels.remotes) s.settings.is_listener s.channels.seats x.body (subst IsTaken (sym e) t) ∙ ap is_ask e
+    let k : Bool = is_among x.channel s.channels.remotes in
+    let l : Bool = s.settings.is_listener in
+    within_asks (nat_lt s.settings.channel_max x.channel) (known_plan k l s.channels x.body) (asks x.body) (λ v. known_asks k l s.channels x.body v) (subst IsTaken (sym e) t) ∙ ap is_ask e
 
 -- a session is asked for by a Begin alone
-asked_by : (k l : Bool) (seats : List Bool) (channel : ℕ) (body : FrameBody) → planned k l seats body ≡ plan.Ask → (w : IncomingSession) × (record { channel = channel; body = body } ≡ asking w) × (asked (record { channel = channel; body = body }) ≡ Some w)
-asked_by k l seats channel (b.Begin x) e = (record { channel = channel; begin = x }, refl, refl)
-asked_by true l seats channel (b.End x) e = absurd (cc e)
-asked_by false l seats channel (b.End x) e = absurd (cc e)
-asked_by true l seats channel (b.Open x) e = absurd (cc e)
-asked_by false l seats channel (b.Open x) e = absurd (cc e)
-asked_by true l seats channel (b.Close x) e = absurd (cc e)
-asked_by false l seats channel (b.Close x) e = absurd (cc e)
-asked_by true l seats channel b.Empty e = absurd (cc e)
-asked_by false l seats channel b.Empty e = absurd (cc e)
-asked_by true l seats channel (b.Attach x) e = absurd (cc e)
-asked_by false l seats channel (b.Attach x) e = absurd (cc e)
-asked_by true l seats channel (b.Flow x) e = absurd (cc e)
-asked_by false l seats channel (b.Flow x) e = absurd (cc e)
-asked_by true l seats channel (b.Transfer x y) e = absurd (cc e)
-asked_by false l seats channel (b.Transfer x y) e = absurd (cc e)
-asked_by true l seats channel (b.Disposition x) e = absurd (cc e)
-asked_by false l seats channel (b.Disposition x) e = absurd (cc e)
-asked_by true l seats channel (b.Detach x) e = absurd (cc e)
-asked_by false l seats channel (b.Detach x) e = absurd (cc e)
+asked_by : (k l : Bool) (c : Channels) (channel : ℕ) (body : FrameBody) → known_plan k l c body ≡ plan.Ask → (w : IncomingSession) × (record { channel = channel; body = body } ≡ asking w) × (asked (record { channel = channel; body = body }) ≡ Some w)
+asked_by k l c channel (b.Begin x) e = (record { channel = channel; begin = x }, refl, refl)
+asked_by true l c channel (b.End x) e = absurd (cc e)
+asked_by false l c channel (b.End x) e = absurd (cc e)
+asked_by true l c channel (b.Open x) e = absurd (cc e)
+asked_by false l c channel (b.Open x) e = absurd (cc e)
+asked_by true l c channel (b.Close x) e = absurd (cc e)
+asked_by false l c channel (b.Close x) e = absurd (cc e)
+asked_by true l c channel b.Empty e = absurd (cc e)
+asked_by false l c channel b.Empty e = absurd (cc e)
+asked_by true l c channel (b.Attach x) e = absurd (cc e)
+asked_by false l c channel (b.Attach x) e = absurd (cc e)
+asked_by true l c channel (b.Flow x) e = absurd (cc e)
+asked_by false l c channel (b.Flow x) e = absurd (cc e)
+asked_by true l c channel (b.Transfer x y) e = absurd (cc e)
+asked_by false l c channel (b.Transfer x y) e = absurd (cc e)
+asked_by true l c channel (b.Disposition x) e = absurd (cc e)
+asked_by false l c channel (b.Disposition x) e = absurd (cc e)
+asked_by true l c channel (b.Detach x) e = absurd (cc e)
+asked_by false l c channel (b.Detach x) e = absurd (cc e)
 
 -- a frame of a session that came while the connection is open, as is planned
 gives_planned : {L : Type 0} (q : Plan) (s s' : State L) (x : Frame) → plan_of s x ≡ q → of_session x.body ≡ true → s.phase ≡ p.Opened → s'.channels ≡ taken_in q s.channels x → s'.phase ≡ phase_after q s.phase → Gives s s' (x ∷ [])
@@ -127,7 +139,9 @@ gives_planned plan.Deliver s s' x e o a k z = gives_incoming s s' x o (z ∙ a) 
 gives_planned plan.Answer s s' x e o a k z = gives_incoming s s' x o (z ∙ a) (plan_asks plan.Answer s x e tt) (ap (λ (c : Channels). c.incoming) k) (ap (λ (c : Channels). c.begun) k) (ap (λ (c : Channels). c.seats) k)
 gives_planned plan.End s s' x e o a k z = gives_incoming s s' x o (z ∙ a) (plan_asks plan.End s x e tt) (ap (λ (c : Channels). c.incoming) k) (ap (λ (c : Channels). c.begun) k) (ap (λ (c : Channels). c.seats) k)
 gives_planned plan.Ask s s' x e o a k z =
-    let w = asked_by (is_among x.channel s.channels.remotes) s.settings.is_listener s.channels.seats x.channel x.body e in
+    let k' : Bool = is_among x.channel s.channels.remotes in
+    let l : Bool = s.settings.is_listener in
+    let w = asked_by k' l s.channels x.channel x.body (within_asked (nat_lt s.settings.channel_max x.channel) (known_plan k' l s.channels x.body) e) in
     gives_asked s s' x w.0 o (z ∙ a) (plan_asks plan.Ask s x e tt) w.1 (ap (λ (c : Channels). c.incoming) k) (ap (λ (c : Channels). c.begun) k ∙ ap (with_asked s.channels.begun) w.2) (ap (λ (c : Channels). c.seats) k)
 gives_planned (plan.Reject why) s s' x e o a k z = gives_none s s' (x ∷ []) k (λ h. absurd (cc (h, ap hears z)))
 

@@ -1,6 +1,5 @@
 -- What the sessions above a connection do at an end.
 use Rattle.std.proofs.Common.{◌≡◌, ◌⊎◌, inl, inr, ℕ, List, [], ◌++◌, Bool, true, false, Option, Result, Ok, Err, refl, sym, ap, ◌∙◌, subst}
-use Rattle.std.specs.Prelude.{slice_set}
 use Rattle.amqp_wire.specs.declared.link.Link.{Ghosts}
 use Rattle.amqp_wire.specs.Events.{LinkEvent}
 use Rattle.amqp_frames.specs.declared.shared.IncomingSession.{IncomingSession}
@@ -9,7 +8,7 @@ use Rattle.amqp_engine.specs.declared.error.AllocSessionError.{AllocSessionError
 use Rattle.amqp_engine.specs.declared.error.AllocSessionError.TheVariants as alloc
 use Rattle.amqp_engine.specs.Beats.{IsBeat}
 use Rattle.amqp_engine.specs.Calls.{Allocates, SendsIf, with_channels}
-use Rattle.amqp_engine.specs.Channels.{Channels, seat_taken}
+use Rattle.amqp_engine.specs.Channels.{Channels, seat_taken, seat_freed}
 use Rattle.amqp_engine.specs.Closers.{KeepsCloser}
 use Rattle.amqp_engine.specs.Faults.{AllOwed}
 use Rattle.amqp_engine.specs.Phases.{is_open}
@@ -104,7 +103,7 @@ allocates_has link old result held t = has_after link old held (allocates_rechan
 
 freed_rechannels : {L : Type 0} (held : Held L) (channel : ℕ) → Rechannels held (freed_in held channel)
 freed_rechannels (Early o p) channel = same_channels (Early o p) (Early o p) refl
-freed_rechannels (Late s) channel = record { either = inr (s, record s.channels { seats = slice_set s.channels.seats channel false }, refl, refl) }
+freed_rechannels (Late s) channel = record { either = inr (s, seat_freed channel s.channels, refl, refl) }
 freed_rechannels (Unopened c) channel = same_channels (Unopened c) (Unopened c) refl
 freed_rechannels Moving channel = same_channels Moving Moving refl
 

@@ -16,3 +16,4 @@ pub mod Runs
 pub mod Handed
 pub mod Passing
 pub mod Rest
+pub use Rattle.amqp_words.specs as amqp_words

@@ -1,8 +1,8 @@
 -- An Attach that is read in parts.
 use Rattle.std.proofs.Common.{◌≡◌, Some, None, Err, refl, ap, ◌∙◌, sym}
-use Rattle.amqp_data.specs.Data.{Items}
-use Rattle.amqp_fields.specs.declared.error.BaseError.{BaseError}
-use Rattle.amqp_fields.specs.Fields.{Gives, behind, ends_at}
+use Rattle.amqp_composites.specs.amqp_data.Data.{Items}
+use Rattle.amqp_composites.specs.amqp_fields.declared.error.BaseError.{BaseError}
+use Rattle.amqp_composites.specs.amqp_fields.Fields.{Gives, behind, ends_at}
 use Rattle.amqp_composites.proofs.Parts.{stops}
 use Rattle.amqp_performatives.specs.declared.attach.Attach.{Attach}
 use Rattle.amqp_performatives.specs.declared.attach.LinkPart.{LinkPart}

@@ -1,8 +1,8 @@
 -- Attach: their fields, in the order of the standard (OASIS AMQP 1.0, part 2, section 2.7.3).
 use Rattle.std.specs.Prelude.{ℕ, List, Option, Some, None, [], false, refl, ◌∷◌, ◌≡◌, ◌==◌, if◌then◌else◌}
-use Rattle.amqp_data.specs.Data.{Amqp, Items}
-use Rattle.amqp_fields.specs.Fields.{IsValid, bool_in, ends_at, field_at, behind, is_symbol, map_with, maybe, of_bool, of_map, of_string, of_symbols, of_uint, of_ulong, optional, or_default, same_bool, string_in, symbols_in, trimmed, uint_in, ulong_in, unless, ◌>>=◌}
-use Rattle.amqp_fields.specs.Again.{HasKeys, bool_field, bools_are, default_is, each, field_ends, map_field, optional_is, required_is, string_field, symbols_field, uint_field, ulong_field}
+use Rattle.amqp_composites.specs.amqp_data.Data.{Amqp, Items}
+use Rattle.amqp_composites.specs.amqp_fields.Fields.{IsValid, bool_in, ends_at, field_at, behind, is_symbol, map_with, maybe, of_bool, of_map, of_string, of_symbols, of_uint, of_ulong, optional, or_default, same_bool, string_in, symbols_in, trimmed, uint_in, ulong_in, unless, ◌>>=◌}
+use Rattle.amqp_composites.specs.amqp_fields.Again.{HasKeys, bool_field, bools_are, default_is, each, field_ends, map_field, optional_is, required_is, string_field, symbols_field, uint_field, ulong_field}
 use Rattle.amqp_performatives.specs.declared.attach.Attach.{Attach}
 use Rattle.amqp_performatives.specs.declared.attach.LinkPart.{LinkPart}
 use Rattle.amqp_performatives.specs.declared.attach.EndsPart.{EndsPart}

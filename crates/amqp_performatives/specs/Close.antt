@@ -1,8 +1,8 @@
 -- Close: their fields, in the order of the standard (OASIS AMQP 1.0, part 2, section 2.7.9).
 use Rattle.std.specs.Prelude.{List, Option, Some, [], refl, ◌∷◌, ◌≡◌}
-use Rattle.amqp_data.specs.Data.{Amqp, Items}
-use Rattle.amqp_fields.specs.Fields.{IsValid, ends_at, field_at, maybe, optional, trimmed, ◌>>=◌}
-use Rattle.amqp_fields.specs.Again.{field_ends, optional_is}
+use Rattle.amqp_composites.specs.amqp_data.Data.{Amqp, Items}
+use Rattle.amqp_composites.specs.amqp_fields.Fields.{IsValid, ends_at, field_at, maybe, optional, trimmed, ◌>>=◌}
+use Rattle.amqp_composites.specs.amqp_fields.Again.{field_ends, optional_is}
 use Rattle.amqp_performatives.specs.declared.close.Close.{Close}
 use Rattle.amqp_composites.specs.Error.{IsErrorValid, error_field, error_in, of_error}
 

@@ -1,8 +1,8 @@
 -- Detach: their fields, in the order of the standard (OASIS AMQP 1.0, part 2, section 2.7.7).
 use Rattle.std.specs.Prelude.{List, Option, Some, [], false, refl, ◌∷◌, ◌≡◌}
-use Rattle.amqp_data.specs.Data.{Amqp, Items}
-use Rattle.amqp_fields.specs.Fields.{IsValid, bool_in, ends_at, field_at, maybe, of_bool, of_uint, optional, or_default, same_bool, trimmed, uint_in, unless, ◌>>=◌}
-use Rattle.amqp_fields.specs.Again.{bool_field, bools_are, default_is, field_ends, optional_is, required_is, uint_field}
+use Rattle.amqp_composites.specs.amqp_data.Data.{Amqp, Items}
+use Rattle.amqp_composites.specs.amqp_fields.Fields.{IsValid, bool_in, ends_at, field_at, maybe, of_bool, of_uint, optional, or_default, same_bool, trimmed, uint_in, unless, ◌>>=◌}
+use Rattle.amqp_composites.specs.amqp_fields.Again.{bool_field, bools_are, default_is, field_ends, optional_is, required_is, uint_field}
 use Rattle.amqp_performatives.specs.declared.detach.Detach.{Detach}
 use Rattle.amqp_composites.specs.Error.{IsErrorValid, error_field, error_in, of_error}
 

@@ -1,8 +1,8 @@
 -- Flow: their fields, in the order of the standard (OASIS AMQP 1.0, part 2, section 2.7.4).
 use Rattle.std.specs.Prelude.{List, Option, Some, [], false, refl, ◌∷◌, ◌≡◌}
-use Rattle.amqp_data.specs.Data.{Amqp, Items}
-use Rattle.amqp_fields.specs.Fields.{IsValid, bool_in, ends_at, field_at, is_symbol, map_with, maybe, of_bool, of_map, of_uint, optional, or_default, same_bool, trimmed, uint_in, unless, ◌>>=◌}
-use Rattle.amqp_fields.specs.Again.{HasKeys, bool_field, bools_are, default_is, each, field_ends, map_field, optional_is, required_is, uint_field}
+use Rattle.amqp_composites.specs.amqp_data.Data.{Amqp, Items}
+use Rattle.amqp_composites.specs.amqp_fields.Fields.{IsValid, bool_in, ends_at, field_at, is_symbol, map_with, maybe, of_bool, of_map, of_uint, optional, or_default, same_bool, trimmed, uint_in, unless, ◌>>=◌}
+use Rattle.amqp_composites.specs.amqp_fields.Again.{HasKeys, bool_field, bools_are, default_is, each, field_ends, map_field, optional_is, required_is, uint_field}
 use Rattle.amqp_performatives.specs.declared.flow.Flow.{Flow}
 
 -- the flow that the fields say (part 2, section 2.7.4)

@@ -8,3 +8,4 @@ pub mod Detach
 pub mod End
 pub mod Close
 pub mod Performative
+pub use Rattle.amqp_termini.specs as amqp_termini

@@ -1,8 +1,8 @@
 -- Open: their fields, in the order of the standard (OASIS AMQP 1.0, part 2, section 2.7.1).
 use Rattle.std.specs.Prelude.{List, Option, Some, [], nat_eq, refl, ◌∷◌, ◌≡◌}
-use Rattle.amqp_data.specs.Data.{Amqp, Items}
-use Rattle.amqp_fields.specs.Fields.{IsValid, ends_at, field_at, is_symbol, map_with, maybe, of_map, of_string, of_symbols, of_uint, of_ushort, optional, or_default, string_in, symbols_in, trimmed, uint_in, unless, ushort_in, ◌>>=◌}
-use Rattle.amqp_fields.specs.Again.{HasKeys, default_is, each, field_ends, map_field, numbers_are, optional_is, required_is, string_field, symbols_field, uint_field, ushort_field}
+use Rattle.amqp_composites.specs.amqp_data.Data.{Amqp, Items}
+use Rattle.amqp_composites.specs.amqp_fields.Fields.{IsValid, ends_at, field_at, is_symbol, map_with, maybe, of_map, of_string, of_symbols, of_uint, of_ushort, optional, or_default, string_in, symbols_in, trimmed, uint_in, unless, ushort_in, ◌>>=◌}
+use Rattle.amqp_composites.specs.amqp_fields.Again.{HasKeys, default_is, each, field_ends, map_field, numbers_are, optional_is, required_is, string_field, symbols_field, uint_field, ushort_field}
 use Rattle.amqp_performatives.specs.declared.open.Open.{Open}
 
 -- the open that the fields say (part 2, section 2.7.1)

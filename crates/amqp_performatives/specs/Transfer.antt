@@ -1,8 +1,8 @@
 -- Transfer: their fields, in the order of the standard (OASIS AMQP 1.0, part 2, section 2.7.5).
 use Rattle.std.specs.Prelude.{List, Option, Some, [], false, refl, ◌∷◌, ◌≡◌}
-use Rattle.amqp_data.specs.Data.{Amqp, Items}
-use Rattle.amqp_fields.specs.Fields.{IsValid, binary_in, bool_in, ends_at, field_at, maybe, of_binary, of_bool, of_uint, optional, or_default, same_bool, trimmed, uint_in, unless, ◌>>=◌}
-use Rattle.amqp_fields.specs.Again.{binary_field, bool_field, bools_are, default_is, each, field_ends, optional_is, required_is, uint_field}
+use Rattle.amqp_composites.specs.amqp_data.Data.{Amqp, Items}
+use Rattle.amqp_composites.specs.amqp_fields.Fields.{IsValid, binary_in, bool_in, ends_at, field_at, maybe, of_binary, of_bool, of_uint, optional, or_default, same_bool, trimmed, uint_in, unless, ◌>>=◌}
+use Rattle.amqp_composites.specs.amqp_fields.Again.{binary_field, bool_field, bools_are, default_is, each, field_ends, optional_is, required_is, uint_field}
 use Rattle.amqp_performatives.specs.declared.transfer.Transfer.{Transfer}
 use Rattle.amqp_composites.specs.Modes.{of_receiver_mode, receiver_mode_field, receiver_mode_in}
 use Rattle.amqp_termini.specs.State.{IsStateValid, of_state, state_field, state_in}

@@ -1,12 +1,12 @@
 //! Attach (OASIS AMQP 1.0, part 2, section 2.7.3).
 ghost use Rattle.std.specs.Prelude.{◌≡◌, OnOk};
-ghost use Rattle.amqp_fields.specs.Left.{left};
-ghost use Rattle.amqp_fields.specs.Fields.{Gives, MakesItems, trimmed, behind};
+ghost use Rattle.amqp_composites.specs.amqp_fields.Left.{left};
+ghost use Rattle.amqp_composites.specs.amqp_fields.Fields.{Gives, MakesItems, trimmed, behind};
 ghost use Rattle.amqp_performatives.specs.Attach.{link_of, ends_of, limits_of, attach_of, attach_fields, IsAttachValid, nonzero};
 
+use amqp_composites::amqp_data::{SymbolList, Text, ValueList};
+use amqp_composites::amqp_fields::{BaseError, FieldMap, FieldWriter, Fields};
 use amqp_composites::modes::{ReceiverSettleMode, Role, SenderSettleMode};
-use amqp_data::{SymbolList, Text, ValueList};
-use amqp_fields::{BaseError, FieldMap, FieldWriter, Fields};
 use amqp_termini::source::Source;
 use amqp_termini::target_archetype::TargetArchetype;
 use amqp_termini::unsettled::UnsettledMap;

@@ -1,11 +1,11 @@
 //! Begin (OASIS AMQP 1.0, part 2, section 2.7.2).
 ghost use Rattle.std.specs.Prelude.{◌≡◌, OnOk};
-ghost use Rattle.amqp_fields.specs.Left.{left};
-ghost use Rattle.amqp_fields.specs.Fields.{Gives, MakesItems, trimmed};
+ghost use Rattle.amqp_composites.specs.amqp_fields.Left.{left};
+ghost use Rattle.amqp_composites.specs.amqp_fields.Fields.{Gives, MakesItems, trimmed};
 ghost use Rattle.amqp_performatives.specs.Begin.{begin_of, begin_fields, IsBeginValid};
 
-use amqp_data::{SymbolList, ValueList};
-use amqp_fields::{BaseError, FieldMap, FieldWriter, Fields};
+use amqp_composites::amqp_data::{SymbolList, ValueList};
+use amqp_composites::amqp_fields::{BaseError, FieldMap, FieldWriter, Fields};
 use std::alloc::Global;
 
 /// The begin of a session (part 2, section 2.7.2).

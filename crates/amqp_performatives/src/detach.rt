@@ -1,12 +1,12 @@
 //! Detach (OASIS AMQP 1.0, part 2, section 2.7.7).
 ghost use Rattle.std.specs.Prelude.{◌≡◌, OnOk};
-ghost use Rattle.amqp_fields.specs.Left.{left};
-ghost use Rattle.amqp_fields.specs.Fields.{Gives, MakesItems, trimmed};
+ghost use Rattle.amqp_composites.specs.amqp_fields.Left.{left};
+ghost use Rattle.amqp_composites.specs.amqp_fields.Fields.{Gives, MakesItems, trimmed};
 ghost use Rattle.amqp_performatives.specs.Detach.{detach_of, detach_fields, IsDetachValid};
 
+use amqp_composites::amqp_data::ValueList;
+use amqp_composites::amqp_fields::{BaseError, FieldWriter, Fields};
 use amqp_composites::error::Error;
-use amqp_data::ValueList;
-use amqp_fields::{BaseError, FieldWriter, Fields};
 use std::alloc::Global;
 
 /// The detach of a link (part 2, section 2.7.7).

@@ -1,12 +1,12 @@
 //! Disposition (OASIS AMQP 1.0, part 2, section 2.7.6).
 ghost use Rattle.std.specs.Prelude.{◌≡◌, OnOk};
-ghost use Rattle.amqp_fields.specs.Left.{left};
-ghost use Rattle.amqp_fields.specs.Fields.{Gives, MakesItems, trimmed};
+ghost use Rattle.amqp_composites.specs.amqp_fields.Left.{left};
+ghost use Rattle.amqp_composites.specs.amqp_fields.Fields.{Gives, MakesItems, trimmed};
 ghost use Rattle.amqp_performatives.specs.Disposition.{disposition_of, disposition_fields, IsDispositionValid};
 
+use amqp_composites::amqp_data::ValueList;
+use amqp_composites::amqp_fields::{BaseError, FieldWriter, Fields};
 use amqp_composites::modes::Role;
-use amqp_data::ValueList;
-use amqp_fields::{BaseError, FieldWriter, Fields};
 use amqp_termini::state::DeliveryState;
 use std::alloc::Global;
 

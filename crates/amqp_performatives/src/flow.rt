@@ -1,11 +1,11 @@
 //! Flow (OASIS AMQP 1.0, part 2, section 2.7.4).
 ghost use Rattle.std.specs.Prelude.{◌≡◌, OnOk};
-ghost use Rattle.amqp_fields.specs.Left.{left};
-ghost use Rattle.amqp_fields.specs.Fields.{Gives, MakesItems, trimmed};
+ghost use Rattle.amqp_composites.specs.amqp_fields.Left.{left};
+ghost use Rattle.amqp_composites.specs.amqp_fields.Fields.{Gives, MakesItems, trimmed};
 ghost use Rattle.amqp_performatives.specs.Flow.{flow_of, flow_fields, IsFlowValid};
 
-use amqp_data::ValueList;
-use amqp_fields::{BaseError, FieldMap, FieldWriter, Fields};
+use amqp_composites::amqp_data::ValueList;
+use amqp_composites::amqp_fields::{BaseError, FieldMap, FieldWriter, Fields};
 use std::alloc::Global;
 
 /// The state of a session's windows and of a link's credit (part 2, section 2.7.4).

@@ -1,6 +1,7 @@
 //! The performatives (OASIS AMQP 1.0, part 2, section 2.7): the described lists, read from values and written as values.
 #![tactic(auto)]
 
+pub use amqp_termini;
 pub use attach::Attach;
 pub use begin::Begin;
 pub use close::Close;

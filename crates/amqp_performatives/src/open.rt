@@ -1,11 +1,11 @@
 //! Open (OASIS AMQP 1.0, part 2, section 2.7.1).
 ghost use Rattle.std.specs.Prelude.{◌≡◌, OnOk};
-ghost use Rattle.amqp_fields.specs.Left.{left};
-ghost use Rattle.amqp_fields.specs.Fields.{Gives, MakesItems, trimmed};
+ghost use Rattle.amqp_composites.specs.amqp_fields.Left.{left};
+ghost use Rattle.amqp_composites.specs.amqp_fields.Fields.{Gives, MakesItems, trimmed};
 ghost use Rattle.amqp_performatives.specs.Open.{open_of, open_fields, IsOpenValid};
 
-use amqp_data::{SymbolList, Text, ValueList};
-use amqp_fields::{BaseError, FieldMap, FieldWriter, Fields};
+use amqp_composites::amqp_data::{SymbolList, Text, ValueList};
+use amqp_composites::amqp_fields::{BaseError, FieldMap, FieldWriter, Fields};
 use std::alloc::Global;
 
 /// What an end says of itself as it opens a connection (part 2, section 2.7.1).

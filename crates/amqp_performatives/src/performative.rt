@@ -1,7 +1,7 @@
 //! The performatives (OASIS AMQP 1.0, part 2, section 2.7).
 ghost use Rattle.std.specs.Prelude.{◌≡◌, OnOk};
-ghost use Rattle.amqp_data.specs.View.{view};
-ghost use Rattle.amqp_fields.specs.Fields.{Gives, Makes, MakesItems, trimmed};
+ghost use Rattle.amqp_composites.specs.amqp_data.View.{view};
+ghost use Rattle.amqp_composites.specs.amqp_fields.Fields.{Gives, Makes, MakesItems, trimmed};
 ghost use Rattle.amqp_performatives.specs.Performative.{performative_in, kind_of_performative, performative_fields, of_performative, IsPerformativeValid};
 
 use crate::attach::{Attach, attach_list, read_attach};
@@ -13,10 +13,10 @@ use crate::end::{End, end_list, read_end};
 use crate::flow::{Flow, flow_list, read_flow};
 use crate::open::{Open, open_list, read_open};
 use crate::transfer::{Transfer, read_transfer, transfer_list};
+use amqp_composites::amqp_data::{Value, ValueList};
+use amqp_composites::amqp_fields::BaseError;
 use amqp_composites::described::{list_value, read_list};
 use amqp_composites::kind::CompositeKind;
-use amqp_data::{Value, ValueList};
-use amqp_fields::BaseError;
 use std::alloc::Global;
 
 /// What a frame says.

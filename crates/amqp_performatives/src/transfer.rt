@@ -1,12 +1,12 @@
 //! Transfer (OASIS AMQP 1.0, part 2, section 2.7.5).
 ghost use Rattle.std.specs.Prelude.{◌≡◌, OnOk};
-ghost use Rattle.amqp_fields.specs.Left.{left};
-ghost use Rattle.amqp_fields.specs.Fields.{Gives, MakesItems, trimmed};
+ghost use Rattle.amqp_composites.specs.amqp_fields.Left.{left};
+ghost use Rattle.amqp_composites.specs.amqp_fields.Fields.{Gives, MakesItems, trimmed};
 ghost use Rattle.amqp_performatives.specs.Transfer.{transfer_of, transfer_fields, IsTransferValid};
 
+use amqp_composites::amqp_data::{Binary, ValueList};
+use amqp_composites::amqp_fields::{BaseError, FieldWriter, Fields};
 use amqp_composites::modes::ReceiverSettleMode;
-use amqp_data::{Binary, ValueList};
-use amqp_fields::{BaseError, FieldWriter, Fields};
 use amqp_termini::state::DeliveryState;
 use std::alloc::Global;
 

@@ -2,8 +2,8 @@
 use Rattle.std.specs.Prelude.{ℕ, nat_eq, Bool, false, List, [], ◌∷◌, Option, Some, None, if◌then◌else◌}
 use Rattle.amqp_composites.specs.declared.modes.Role.TheVariants as role
 use Rattle.amqp_termini.specs.declared.state.DeliveryState.{DeliveryState}
-use Rattle.amqp_frames.specs.declared.body.FrameBody.{FrameBody}
-use Rattle.amqp_frames.specs.declared.body.FrameBody.TheVariants as b
+use Rattle.amqp_link.specs.amqp_frames.declared.body.FrameBody.{FrameBody}
+use Rattle.amqp_link.specs.amqp_frames.declared.body.FrameBody.TheVariants as b
 use Rattle.amqp_delivery.specs.Book.{disposed_all, taken, view_of, mode_for, is_first}
 use Rattle.amqp_delivery.specs.declared.calls.BookReply.{BookReply}
 use Rattle.amqp_delivery.specs.declared.calls.BookReply.TheVariants.{Done, Taken, Stale}

@@ -6,8 +6,8 @@ use Rattle.amqp_termini.specs.declared.target_archetype.TargetArchetype.TheVaria
 use Rattle.amqp_performatives.specs.declared.attach.Attach.{Attach}
 use Rattle.amqp_performatives.specs.declared.flow.Flow.{Flow}
 use Rattle.amqp_performatives.specs.declared.transfer.Transfer.{Transfer}
-use Rattle.amqp_frames.specs.declared.body.FrameBody.{FrameBody}
-use Rattle.amqp_frames.specs.declared.body.FrameBody.TheVariants as b
+use Rattle.amqp_link.specs.amqp_frames.declared.body.FrameBody.{FrameBody}
+use Rattle.amqp_link.specs.amqp_frames.declared.body.FrameBody.TheVariants as b
 use Rattle.amqp_parts.specs.Join as parts
 use Rattle.amqp_delivery.specs.Book.{Book, empty_book, with_credit, attached, drained_by}
 use Rattle.amqp_delivery.specs.declared.info.CreditMode.{CreditMode}

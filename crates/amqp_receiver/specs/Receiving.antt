@@ -5,7 +5,7 @@ use Rattle.amqp_composites.specs.declared.modes.ReceiverSettleMode.{ReceiverSett
 use Rattle.amqp_composites.specs.declared.modes.ReceiverSettleMode.TheVariants.{First, Second}
 use Rattle.amqp_termini.specs.declared.state.DeliveryState.{DeliveryState}
 use Rattle.amqp_performatives.specs.declared.transfer.Transfer.{Transfer}
-use Rattle.amqp_frames.specs.declared.shared.CoveredDelivery.{CoveredDelivery}
+use Rattle.amqp_link.specs.amqp_frames.declared.shared.CoveredDelivery.{CoveredDelivery}
 use Rattle.amqp_parts.specs.declared.incomplete.PartError.{PartError}
 use Rattle.amqp_parts.specs.declared.incomplete.PartError.TheVariants as part
 use Rattle.amqp_parts.specs.Join as parts

@@ -6,7 +6,7 @@ ghost use Rattle.amqp_receiver.specs.Receiver.{seen, telling_credit, giving, giv
 use crate::receiver::{Incoming, Receiver};
 use amqp_composites::modes::Role;
 use amqp_delivery::CreditMode;
-use amqp_frames::LinkFrame;
+use amqp_link::amqp_frames::LinkFrame;
 use amqp_link::{AcceptSettings, FlowError, LinkEndpoint, LinkPhase, link_flow};
 use amqp_performatives::attach::Attach;
 use amqp_performatives::flow::Flow;

@@ -10,7 +10,7 @@ ghost use Rattle.amqp_receiver.specs.Disposing.{last_of, frame_for, writing, wri
 use crate::receiver::Receiver;
 use amqp_composites::modes::{ReceiverSettleMode, Role};
 use amqp_delivery::{BookReply, DeliveryInfo, DisposerView, Order, OrderList, copy_state};
-use amqp_frames::LinkFrame;
+use amqp_link::amqp_frames::LinkFrame;
 use amqp_link::{DispositionError, link_flow};
 use amqp_performatives::disposition::Disposition;
 use amqp_termini::{Accepted, DeliveryState, TerminalDeliveryState};

@@ -2,6 +2,7 @@
 //! settled.
 #![tactic(auto)]
 
+pub use amqp_messages;
 pub use delivering::{Delivery, RecvReply};
 pub use error::RecvError;
 pub use receiver::{Incoming, Receiver};

@@ -8,7 +8,7 @@ use crate::settings::ReceiverSettings;
 use amqp_composites::modes::Role;
 use amqp_data::Text;
 use amqp_delivery::{BookState, CreditMode};
-use amqp_frames::{LinkFrame, SessionStopReason};
+use amqp_link::amqp_frames::{LinkFrame, SessionStopReason};
 use amqp_link::{AttachPoll, LinkEndpoint, LinkPhase, ReceiverAttachError, source_at, target_at};
 use amqp_parts::IncompleteTransfer;
 use amqp_performatives::attach::Attach;

@@ -11,7 +11,7 @@ use amqp_composites::error::Error as AmqpError;
 use amqp_composites::modes::ReceiverSettleMode;
 use amqp_data::{Binary, Symbol};
 use amqp_delivery::DeliveryInfo;
-use amqp_frames::CoveredDelivery;
+use amqp_link::amqp_frames::CoveredDelivery;
 use amqp_parts::{IncompleteTransfer, PartError, let_go};
 use amqp_performatives::transfer::Transfer;
 use amqp_termini::DeliveryState;

@@ -3,12 +3,12 @@ use Rattle.std.proofs.Common.{◌≡◌, ℕ, ◌<◌, ◌≤◌, List, length, 
 use Rattle.std.proofs.lemmas.List.{take_all}
 use Rattle.std.proofs.lemmas.Option.{none-some, same_Some}
 use Rattle.std.specs.Prelude.{Some, Result, Ok, Err}
-use Rattle.amqp_data.specs.View.{view}
-use Rattle.amqp_data.specs.declared.value.Value.{Value}
-use Rattle.amqp_value.specs.Grammar.{Spells}
-use Rattle.amqp_fields.specs.declared.error.BaseError.{BaseError}
-use Rattle.amqp_fields.specs.declared.error.BaseError.TheVariants as errors
-use Rattle.amqp_fields.specs.Fields.{Gives}
+use Rattle.amqp_described.specs.amqp_data.View.{view}
+use Rattle.amqp_described.specs.amqp_data.declared.value.Value.{Value}
+use Rattle.amqp_described.specs.amqp_value.Grammar.{Spells}
+use Rattle.amqp_described.specs.amqp_fields.declared.error.BaseError.{BaseError}
+use Rattle.amqp_described.specs.amqp_fields.declared.error.BaseError.TheVariants as errors
+use Rattle.amqp_described.specs.amqp_fields.Fields.{Gives}
 use Rattle.amqp_described.specs.Reading.{IsTheOne, Begins, ReadsFront}
 use Rattle.amqp_sasl_bodies.specs.declared.sasl_body.SaslBody.{SaslBody}
 use Rattle.amqp_sasl_bodies.specs.SaslBody.{sasl_body_in}

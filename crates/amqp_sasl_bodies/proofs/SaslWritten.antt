@@ -2,14 +2,14 @@
 use Rattle.std.proofs.Common.{◌≡◌, ℕ, List, [], sym, subst, ◌∙◌}
 use Rattle.std.proofs.lemmas.List.{append-nil}
 use Rattle.std.specs.Prelude.{Some, Result, Ok, Err, IfOk, OnOk}
-use Rattle.amqp_data.specs.Data.{Items, list}
-use Rattle.amqp_value.specs.Canonical.{canonical}
-use Rattle.amqp_value.specs.Grammar.{Spells}
-use Rattle.amqp_fields.specs.declared.error.BaseError.{BaseError}
-use Rattle.amqp_fields.specs.Fields.{MakesItems, trimmed}
+use Rattle.amqp_described.specs.amqp_data.Data.{Items, list}
+use Rattle.amqp_described.specs.amqp_value.Canonical.{canonical}
+use Rattle.amqp_described.specs.amqp_value.Grammar.{Spells}
+use Rattle.amqp_described.specs.amqp_fields.declared.error.BaseError.{BaseError}
+use Rattle.amqp_described.specs.amqp_fields.Fields.{MakesItems, trimmed}
 use Rattle.amqp_described.specs.Writing.{numbered}
 use Rattle.amqp_described.specs.Bodies.{Puts}
-use Rattle.amqp_composites.specs.Kind.{number_of}
+use Rattle.amqp_described.specs.amqp_composites.Kind.{number_of}
 use Rattle.amqp_sasl_bodies.specs.declared.sasl_body.SaslBody.{SaslBody}
 use Rattle.amqp_sasl_bodies.specs.SaslBody.{sasl_body_in, kind_of_sasl_body, sasl_body_fields, IsSaslBodyValid, sasl_body_again}
 use Rattle.amqp_sasl_bodies.specs.SaslBytes.{SpellsSasl}

@@ -1,8 +1,8 @@
 -- The bodies of SASL frames: their fields, in the order of the standard (OASIS AMQP 1.0, part 5, section 5.3.3.1 and following).
 use Rattle.std.specs.Prelude.{List, Option, Some, [], refl, ◌∷◌, ◌≡◌}
-use Rattle.amqp_data.specs.Data.{Amqp, Items}
-use Rattle.amqp_fields.specs.Fields.{binary_in, ends_at, field_at, maybe, of_binary, of_string, of_symbol, of_symbols, optional, string_in, symbol_in, symbols_in, trimmed, ◌>>=◌}
-use Rattle.amqp_fields.specs.Again.{binary_field, each, field_ends, optional_is, required_is, string_field, symbol_field, symbols_field}
+use Rattle.amqp_described.specs.amqp_data.Data.{Amqp, Items}
+use Rattle.amqp_described.specs.amqp_fields.Fields.{binary_in, ends_at, field_at, maybe, of_binary, of_string, of_symbol, of_symbols, optional, string_in, symbol_in, symbols_in, trimmed, ◌>>=◌}
+use Rattle.amqp_described.specs.amqp_fields.Again.{binary_field, each, field_ends, optional_is, required_is, string_field, symbol_field, symbols_field}
 use Rattle.amqp_sasl_bodies.specs.declared.sasl.SaslMechanisms.{SaslMechanisms}
 use Rattle.amqp_sasl_bodies.specs.declared.sasl.SaslInit.{SaslInit}
 use Rattle.amqp_sasl_bodies.specs.declared.sasl.SaslChallenge.{SaslChallenge}

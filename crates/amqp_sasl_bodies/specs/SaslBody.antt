@@ -1,8 +1,8 @@
 -- The bodies of SASL frames (OASIS AMQP 1.0, part 5, section 5.3.3).
 use Rattle.std.specs.Prelude.{◌≡◌, List, Option, Some, None}
 use Rattle.std.proofs.Common.{ap}
-use Rattle.amqp_data.specs.Data.{Amqp, Items}
-use Rattle.amqp_fields.specs.Fields.{◌>>=◌}
+use Rattle.amqp_described.specs.amqp_data.Data.{Amqp, Items}
+use Rattle.amqp_described.specs.amqp_fields.Fields.{◌>>=◌}
 use Rattle.amqp_sasl_bodies.specs.declared.sasl_body.SaslBody.{SaslBody}
 use Rattle.amqp_sasl_bodies.specs.declared.sasl_body.SaslBody.TheVariants as v
 use Rattle.amqp_sasl_bodies.specs.declared.sasl.SaslMechanisms.{SaslMechanisms}
@@ -10,9 +10,9 @@ use Rattle.amqp_sasl_bodies.specs.declared.sasl.SaslInit.{SaslInit}
 use Rattle.amqp_sasl_bodies.specs.declared.sasl.SaslChallenge.{SaslChallenge}
 use Rattle.amqp_sasl_bodies.specs.declared.sasl.SaslResponse.{SaslResponse}
 use Rattle.amqp_sasl_bodies.specs.declared.sasl.SaslOutcome.{SaslOutcome}
-use Rattle.amqp_composites.specs.declared.kind.CompositeKind.{CompositeKind}
-use Rattle.amqp_composites.specs.declared.kind.CompositeKind.TheVariants as kind
-use Rattle.amqp_composites.specs.Described.{list_in, composite}
+use Rattle.amqp_described.specs.amqp_composites.declared.kind.CompositeKind.{CompositeKind}
+use Rattle.amqp_described.specs.amqp_composites.declared.kind.CompositeKind.TheVariants as kind
+use Rattle.amqp_described.specs.amqp_composites.Described.{list_in, composite}
 use Rattle.amqp_sasl_bodies.specs.Sasl.{sasl_mechanisms_of, sasl_mechanisms_fields, IsSaslMechanismsValid, sasl_mechanisms_again, sasl_init_of, sasl_init_fields, IsSaslInitValid, sasl_init_again, sasl_challenge_of, sasl_challenge_fields, IsSaslChallengeValid, sasl_challenge_again, sasl_response_of, sasl_response_fields, IsSaslResponseValid, sasl_response_again, sasl_outcome_of, sasl_outcome_fields, IsSaslOutcomeValid, sasl_outcome_again}
 
 abbrev pub sasl_body_with : CompositeKind → Items → Option SaslBody

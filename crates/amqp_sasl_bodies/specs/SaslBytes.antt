@@ -1,7 +1,7 @@
 -- What the body of a SASL frame says (OASIS AMQP 1.0, part 5, section 5.3.2).
 use Rattle.std.specs.Prelude.{◌≡◌, ℕ, ◌≤◌, List, Some}
-use Rattle.amqp_data.specs.Data.{Amqp, depth}
-use Rattle.amqp_value.specs.Grammar.{Spells}
+use Rattle.amqp_described.specs.amqp_data.Data.{Amqp, depth}
+use Rattle.amqp_described.specs.amqp_value.Grammar.{Spells}
 use Rattle.amqp_sasl_bodies.specs.declared.sasl_body.SaslBody.{SaslBody}
 use Rattle.amqp_sasl_bodies.specs.SaslBody.{sasl_body_in}
 

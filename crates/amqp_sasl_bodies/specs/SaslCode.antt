@@ -1,7 +1,7 @@
 -- How a SASL dialog ends (OASIS AMQP 1.0, part 5, section 5.3.3.6).
 use Rattle.std.specs.Prelude.{◌≡◌, ℕ, Option, Some, None, refl, ◌==◌, if◌then◌else◌}
-use Rattle.amqp_data.specs.Data.{Amqp, scalar, ubyte}
-use Rattle.amqp_fields.specs.Again.{IsField, Each}
+use Rattle.amqp_described.specs.amqp_data.Data.{Amqp, scalar, ubyte}
+use Rattle.amqp_described.specs.amqp_fields.Again.{IsField, Each}
 use Rattle.amqp_sasl_bodies.specs.declared.sasl_code.SaslCode.{SaslCode}
 use Rattle.amqp_sasl_bodies.specs.declared.sasl_code.SaslCode.TheVariants as code
 

@@ -1,12 +1,12 @@
 //! The bodies of SASL frames (OASIS AMQP 1.0, part 5, section 5.3.3.1 and following).
 ghost use Rattle.std.specs.Prelude.{◌≡◌};
-ghost use Rattle.amqp_fields.specs.Left.{left};
-ghost use Rattle.amqp_fields.specs.Fields.{Gives, MakesItems, trimmed};
+ghost use Rattle.amqp_described.specs.amqp_fields.Left.{left};
+ghost use Rattle.amqp_described.specs.amqp_fields.Fields.{Gives, MakesItems, trimmed};
 ghost use Rattle.amqp_sasl_bodies.specs.Sasl.{sasl_mechanisms_of, sasl_mechanisms_fields, sasl_init_of, sasl_init_fields, sasl_challenge_of, sasl_challenge_fields, sasl_response_of, sasl_response_fields, sasl_outcome_of, sasl_outcome_fields};
 
 use crate::sasl_code::SaslCode;
-use amqp_data::{Binary, Symbol, SymbolList, Text, ValueList};
-use amqp_fields::{BaseError, FieldWriter, Fields};
+use amqp_described::amqp_data::{Binary, Symbol, SymbolList, Text, ValueList};
+use amqp_described::amqp_fields::{BaseError, FieldWriter, Fields};
 use std::alloc::Global;
 
 /// The mechanisms that a server offers (part 5, section 5.3.3.1).

@@ -1,7 +1,7 @@
 //! The bodies of SASL frames (OASIS AMQP 1.0, part 5, section 5.3.3).
 ghost use Rattle.std.specs.Prelude.{◌≡◌, OnOk};
-ghost use Rattle.amqp_data.specs.View.{view};
-ghost use Rattle.amqp_fields.specs.Fields.{Gives, Makes, MakesItems, trimmed};
+ghost use Rattle.amqp_described.specs.amqp_data.View.{view};
+ghost use Rattle.amqp_described.specs.amqp_fields.Fields.{Gives, Makes, MakesItems, trimmed};
 ghost use Rattle.amqp_sasl_bodies.specs.SaslBody.{sasl_body_in, kind_of_sasl_body, sasl_body_fields, of_sasl_body, IsSaslBodyValid};
 
 use crate::sasl::{
@@ -10,10 +10,10 @@ use crate::sasl::{
     sasl_challenge_list, sasl_init_list, sasl_mechanisms_list, sasl_outcome_list,
     sasl_response_list,
 };
-use amqp_composites::described::{list_value, read_list};
-use amqp_composites::kind::CompositeKind;
-use amqp_data::{Value, ValueList};
-use amqp_fields::BaseError;
+use amqp_described::amqp_composites::described::{list_value, read_list};
+use amqp_described::amqp_composites::kind::CompositeKind;
+use amqp_described::amqp_data::{Value, ValueList};
+use amqp_described::amqp_fields::BaseError;
 use std::alloc::Global;
 
 /// The body of a SASL frame.

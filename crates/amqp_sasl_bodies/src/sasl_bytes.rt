@@ -1,15 +1,15 @@
 //! The bytes of a SASL frame's body (OASIS AMQP 1.0, part 5, section 5.3.2).
 ghost use Rattle.std.specs.Prelude.{IfOk, []};
 ghost use Rattle.amqp_sasl_bodies.specs.SaslBody.{of_sasl_body};
-ghost use Rattle.amqp_data.specs.Data.{item, no_items};
+ghost use Rattle.amqp_described.specs.amqp_data.Data.{item, no_items};
 ghost use Rattle.amqp_described.specs.Reading.{IsTheOne};
 ghost use Rattle.amqp_sasl_bodies.specs.SaslBytes.{SpellsSasl};
 ghost use Rattle.amqp_described.specs.Bodies.{Encodes};
 
 use crate::sasl_body::SaslBody;
-use amqp_data::Binary;
+use amqp_described::amqp_data::Binary;
+use amqp_described::amqp_fields::BaseError;
 use amqp_described::{LEVELS, put_alone, read_front};
-use amqp_fields::BaseError;
 use std::alloc::Global;
 
 /// The type of a frame that holds a part of the SASL dialog (part 5, section 5.3.1).

@@ -2,8 +2,8 @@
 ghost use Rattle.std.specs.Prelude.{◌≡◌};
 ghost use Rattle.amqp_sasl_bodies.specs.SaslCode.{sasl_code_number, sasl_code_in, of_sasl_code, sasl_code_again};
 
-use amqp_data::Value;
-use amqp_fields::{BaseError, Field};
+use amqp_described::amqp_data::Value;
+use amqp_described::amqp_fields::{BaseError, Field};
 use std::alloc::Global;
 
 /// How a SASL dialog ends.

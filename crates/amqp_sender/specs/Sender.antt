@@ -2,8 +2,8 @@
 use Rattle.std.specs.Prelude.{◌≡◌, ℕ, nat_eq, false, List, [], Option, Some, None, Result, if◌then◌else◌}
 use Rattle.amqp_composites.specs.declared.modes.Role.TheVariants as role
 use Rattle.amqp_termini.specs.declared.target_archetype.TargetArchetype.TheVariants as archetype
-use Rattle.amqp_performatives.specs.declared.attach.Attach.{Attach}
-use Rattle.amqp_frames.specs.declared.body.FrameBody.{FrameBody}
+use Rattle.amqp_link.specs.amqp_performatives.declared.attach.Attach.{Attach}
+use Rattle.amqp_link.specs.amqp_frames.declared.body.FrameBody.{FrameBody}
 use Rattle.amqp_link.specs.declared.endpoint.AttachPoll.{AttachPoll}
 use Rattle.amqp_link.specs.declared.error.AttachError.{AttachError}
 use Rattle.amqp_link.specs.declared.settings.AcceptSettings.{AcceptSettings}

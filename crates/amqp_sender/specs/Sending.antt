@@ -6,9 +6,9 @@ use Rattle.indexmap.specs.IndexMap.{insert_entry}
 use Rattle.amqp_composites.specs.declared.modes.SenderSettleMode.{SenderSettleMode}
 use Rattle.amqp_composites.specs.declared.modes.SenderSettleMode.TheVariants as mode
 use Rattle.amqp_termini.specs.declared.outcome.Outcome.TheVariants.{Accepted}
-use Rattle.amqp_performatives.specs.declared.flow.Flow.{Flow}
-use Rattle.amqp_performatives.specs.declared.transfer.Transfer.{Transfer}
-use Rattle.amqp_frames.specs.declared.body.FrameBody.TheVariants as b
+use Rattle.amqp_link.specs.amqp_performatives.declared.flow.Flow.{Flow}
+use Rattle.amqp_link.specs.amqp_performatives.declared.transfer.Transfer.{Transfer}
+use Rattle.amqp_link.specs.amqp_frames.declared.body.FrameBody.TheVariants as b
 use Rattle.amqp_link.specs.declared.endpoint.LinkPhase.{LinkPhase}
 use Rattle.amqp_link.specs.declared.endpoint.LinkPhase.TheVariants as phase
 use Rattle.amqp_link.specs.declared.error.DetachError.TheVariants.{IllegalState}

@@ -9,8 +9,8 @@ use Rattle.amqp_composites.specs.declared.modes.Role.TheVariants as role
 use Rattle.amqp_termini.specs.declared.outcome.Outcome.TheVariants as outcome
 use Rattle.amqp_termini.specs.declared.state.DeliveryState.{DeliveryState}
 use Rattle.amqp_termini.specs.declared.state.DeliveryState.TheVariants as state
-use Rattle.amqp_frames.specs.declared.body.FrameBody.TheVariants as b
-use Rattle.amqp_frames.specs.declared.shared.CoveredDelivery.{CoveredDelivery}
+use Rattle.amqp_link.specs.amqp_frames.declared.body.FrameBody.TheVariants as b
+use Rattle.amqp_link.specs.amqp_frames.declared.shared.CoveredDelivery.{CoveredDelivery}
 use Rattle.amqp_link.specs.declared.error.LinkStateError.{LinkStateError}
 use Rattle.amqp_link.specs.declared.error.LinkStateError.TheVariants as refused
 use Rattle.amqp_link.specs.Link as link

@@ -7,12 +7,12 @@ ghost use Rattle.amqp_sender.specs.Sender.{seen, own_of, begun, asked, accepted,
 use crate::settings::SenderSettings;
 use amqp_composites::modes::Role;
 use amqp_data::{Binary, Text};
-use amqp_frames::{LinkFrame, SessionStopReason};
+use amqp_link::amqp_frames::{LinkFrame, SessionStopReason};
+use amqp_link::amqp_performatives::attach::Attach;
+use amqp_link::amqp_performatives::detach::Detach;
 use amqp_link::{
     AcceptSettings, AttachPoll, LinkEndpoint, LinkPhase, SenderAttachError, source_at, target_at,
 };
-use amqp_performatives::attach::Attach;
-use amqp_performatives::detach::Detach;
 use amqp_termini::{Outcome, TargetArchetype};
 use indexmap::IndexMap;
 use std::alloc::{AllocError, Global};

@@ -10,9 +10,9 @@ use crate::sender::{DeliveryToken, OutcomePoll, Sender, Settlement};
 use amqp_composites::modes::{ReceiverSettleMode, Role};
 use amqp_data::Binary;
 use amqp_delivery::copy_state;
-use amqp_frames::{CoveredDelivery, LinkFrame};
+use amqp_link::amqp_frames::{CoveredDelivery, LinkFrame};
+use amqp_link::amqp_performatives::disposition::Disposition;
 use amqp_link::{LinkStateError, copied};
-use amqp_performatives::disposition::Disposition;
 use amqp_termini::{Accepted, DeliveryState, Outcome, Released};
 use std::alloc::{AllocError, Global};
 

@@ -8,6 +8,8 @@ use Rattle.amqp_served.specs.Count.{count_text}
 use Rattle.amqp_served.specs.declared.ending.Ending.{Ending}
 use Rattle.amqp_served.specs.declared.ending.Ending.TheVariants.{Done, Usage, Memory, ReadFault, WriteFault, PeerFault, TimedOut}
 use Rattle.amqp_serve.specs.Answers.{counted_all}
+use Rattle.amqp_serve.specs.declared.failure.Failure.{Failure}
+use Rattle.amqp_serve.specs.declared.failure.Failure.TheVariants as failure
 use Rattle.amqp_serve.specs.Ran.{Turn, Ran, told, accepts, IsClosed}
 
 -- a run that goes no further, for whatever reason
@@ -15,6 +17,13 @@ abbrev pub IsFailure : Ending → Type 0
 IsFailure Done = ⊥
 IsFailure Usage = ⊥
 IsFailure _ = Unit {0}
+
+-- a run that goes no further since an answer is an error or not what was asked for, or since what a call is for has ended
+abbrev pub IsOfPeer : Failure → Type 0
+IsOfPeer (failure.Answer answer) = Unit {0}
+IsOfPeer failure.Over = Unit {0}
+IsOfPeer failure.Unexpected = Unit {0}
+IsOfPeer _ = ⊥
 
 -- the link of an end has counted a fault
 abbrev pub HasFault : {L : Type 0} → Ghosts L → End L → Type 0

@@ -1,5 +1,5 @@
 -- What an end and its caller did.
-use Rattle.std.specs.Prelude.{◌≡◌, ◌≤◌, ◌+◌, ◌⊎◌, ℕ, zero, suc, Bool, true, false, if◌then◌else◌, List, [], ◌∷◌, ◌++◌, Option, Some}
+use Rattle.std.specs.Prelude.{◌≡◌, ◌≤◌, ◌+◌, ◌⊎◌, ℕ, zero, suc, Bool, true, false, if◌then◌else◌, List, [], ◌∷◌, ◌++◌, Option, Some, None}
 use Rattle.amqp_wire.specs.declared.link.Link.{Ghosts}
 use Rattle.amqp_calls.specs.declared.call.Call.{Call}
 use Rattle.amqp_calls.specs.declared.call.Call.TheVariants.{Connection, Session, Link}
@@ -13,8 +13,8 @@ use Rattle.amqp_calls.specs.declared.reply.Reply.{Reply}
 use Rattle.amqp_end.specs.Asks.{MayAsk}
 use Rattle.amqp_end.specs.Goes.{Goes, on_connection}
 use Rattle.amqp_end.specs.declared.end.End.{End}
-use Rattle.amqp_links.specs.Forgetting.{forgotten}
-use Rattle.amqp_links.specs.State.{seen as linked}
+use Rattle.amqp_end.specs.amqp_links.Forgetting.{forgotten}
+use Rattle.amqp_end.specs.amqp_links.State.{seen as linked}
 use Rattle.amqp_peer.specs.Held.{reason_of}
 use Rattle.amqp_peer.specs.Peering.{link_of, with_link_of}
 use Rattle.amqp_frames.specs.declared.shared.ConnectionStopReason.{ConnectionStopReason}
@@ -65,8 +65,8 @@ pub data Turn : Type 0 where
 
 -- a call is one that the end may make then; behind it, and in a poll, the end goes on
 abbrev pub IsTurn : {L : Type 0} → Ghosts L → End L → Turn → End L → Type 0
-IsTurn link m (calls name call) n = MayAsk m name call × (at : ℕ) × Goes link at (on_connection name call) (record m { last = Some name }) n
-IsTurn link m polls n = (at : ℕ) × Goes link at [] m n
+IsTurn link m (calls name call) n = MayAsk m name call × (at : ℕ) × Goes link at (Some name) (on_connection name call) (record m { last = Some name }) n
+IsTurn link m polls n = (at : ℕ) × Goes link at None [] m n
 IsTurn link m waits n = WaitedFor link m n
 IsTurn link m (tells rs) n = (rs ≡ m.replies.items) × Took m n
 IsTurn link m (forgets name) n = Forgot name m n
@@ -230,4 +230,4 @@ pub record Heard {L : Type 0} (link : Ghosts L) (old new : End L) (before after 
 pub record Called {L : Type 0} (link : Ghosts L) (old new : End L) (name : ℕ) (call : Call) : Type 0 where
   pub may : MayAsk old name call
   pub moment : ℕ
-  pub goes : Goes link moment (on_connection name call) (record old { last = Some name }) new
+  pub goes : Goes link moment (Some name) (on_connection name call) (record old { last = Some name }) new

@@ -281,6 +281,7 @@ pub fn connect_on<R: Wait + AllocGlobal, L: WaitLink>(
     ensures sound { result ≡ Ending.Done → IsSound L.Link end.new }
     ensures usage { ¬ (result ≡ Ending.Usage) }
     ensures read_fault { result ≡ Ending.ReadFault → HasFault L.Link end.new }
+    ensures peer_fault { result ≡ Ending.PeerFault → IsSound L.Link end.new }
 {
     match connect_with_m(rt, end, count) {
         Ok(()) => ending_done(end),

@@ -1,6 +1,6 @@
 //! Why a run over a link goes no further.
 ghost use Rattle.std.specs.Prelude.{◌≡◌, ◌↔◌, ◌⊎◌, OnOk, IfErr};
-ghost use Rattle.amqp_serve.specs.Endings.{IsFailure, IsSound, HasFault};
+ghost use Rattle.amqp_serve.specs.Endings.{IsFailure, IsOfPeer, IsSound, HasFault};
 
 use amqp_calls::Reply;
 use amqp_end::End;
@@ -55,6 +55,7 @@ pub(crate) fn check_link<L: WaitLink>(end: &End<L>) -> Result<(), Ending>
     ensures fault { IfErr result (λ _. HasFault L.Link end.now) }
     ensures memory { IfErr result (λ ending. ¬ (ending ≡ Ending.Memory)) }
     ensures timed_out { IfErr result (λ ending. ¬ (ending ≡ Ending.TimedOut)) }
+    ensures peer { IfErr result (λ ending. ¬ (ending ≡ Ending.PeerFault)) }
 {
     match end.link_ref().fault() {
         Some(LinkFault::Reading) => Err(Ending::ReadFault),
@@ -68,6 +69,7 @@ pub fn ending_done<L: WaitLink>(end: &End<L>) -> Ending
     ensures sound { (result ≡ Ending.Done) → IsSound L.Link end.now }
     ensures fault { (result ≡ Ending.Done) ⊎ HasFault L.Link end.now }
     ensures usage { ¬ (result ≡ Ending.Usage) }
+    ensures peer { ¬ (result ≡ Ending.PeerFault) }
 {
     match check_link(end) {
         Ok(()) => Ending::Done,
@@ -79,6 +81,7 @@ pub fn ending_done<L: WaitLink>(end: &End<L>) -> Ending
 fn ending_of_link<L: WaitLink>(end: &End<L>) -> Ending
     ensures failure { IsFailure result }
     ensures fault { (result ≡ Ending.PeerFault) ⊎ HasFault L.Link end.now }
+    ensures peer { result ≡ Ending.PeerFault → IsSound L.Link end.now }
     ensures memory { ¬ (result ≡ Ending.Memory) }
     ensures timed_out { ¬ (result ≡ Ending.TimedOut) }
 {
@@ -93,6 +96,8 @@ pub fn ending_of<L: WaitLink>(end: &End<L>, failure: &Failure) -> Ending
     ensures failure { IsFailure result }
     ensures read_fault { result ≡ Ending.ReadFault → HasFault L.Link end.now }
     ensures write_fault { result ≡ Ending.WriteFault → (failure.now ≡ Failure.Waiting) ⊎ HasFault L.Link end.now }
+    ensures peer_fault { result ≡ Ending.PeerFault → IsSound L.Link end.now }
+    ensures peer_cause { result ≡ Ending.PeerFault → IsOfPeer failure.now }
     ensures memory { (result ≡ Ending.Memory) ↔ (failure.now ≡ Failure.Memory) }
     ensures timed_out { (result ≡ Ending.TimedOut) ↔ (failure.now ≡ Failure.TimedOut) }
 {

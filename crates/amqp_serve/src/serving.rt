@@ -269,6 +269,7 @@ fn line_for<L: WaitLink>(alloc: Global, end: &End<L>, count: u64) -> Result<Vec<
     ensures sound { OnOk result (IsSound L.Link end.now) }
     ensures failure { IfErr result IsFailure }
     ensures read_fault { IfErr result (λ ending. ending ≡ Ending.ReadFault → HasFault L.Link end.now) }
+    ensures peer { IfErr result (λ ending. ¬ (ending ≡ Ending.PeerFault)) }
 {
     check_link(end)?;
     match count_line(alloc, count) {
@@ -283,6 +284,7 @@ fn line_of<R: Wait + AllocGlobal, L: WaitLink>(rt: &R, end: &mut End<L>) -> Resu
     ensures sound { OnOk result (IsSound L.Link end.new) }
     ensures failure { IfErr result IsFailure }
     ensures read_fault { IfErr result (λ ending. ending ≡ Ending.ReadFault → HasFault L.Link end.new) }
+    ensures peer_fault { IfErr result (λ ending. ending ≡ Ending.PeerFault → IsSound L.Link end.new) }
 {
     match serve_all(rt, end) {
         Ok(count) => line_for(rt.alloc(), end, count),
@@ -302,6 +304,7 @@ pub fn serve_on<R: Wait + AllocGlobal, L: WaitLink, K: Sink>(
     ensures usage { ¬ (result ≡ Ending.Usage) }
     ensures unwritten { IsUnwritten result → K.written sink.new ≡ K.written sink.old }
     ensures read_fault { result ≡ Ending.ReadFault → HasFault L.Link end.new }
+    ensures peer_fault { result ≡ Ending.PeerFault → IsSound L.Link end.new }
     ensures later { K.faults sink.old ≤ K.faults sink.new }
 {
     match line_of(rt, end) {

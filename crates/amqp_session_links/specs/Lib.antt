@@ -3,3 +3,4 @@ pub mod State
 pub mod Numbers
 pub mod Claims
 pub mod Incoming
+pub use Rattle.amqp_session.specs as amqp_session

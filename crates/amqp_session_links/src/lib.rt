@@ -2,6 +2,7 @@
 //! and the end of the session (OASIS AMQP 1.0, part 2, sections 2.5 and 2.6).
 #![tactic(auto)]
 
+pub use amqp_session;
 pub use inputs::InputQueue;
 pub use place::{Claim, SessionLinks, WaitingAccept};
 

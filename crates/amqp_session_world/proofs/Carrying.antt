@@ -5,17 +5,17 @@ use Rattle.amqp_wire.specs.Piped.{Piped}
 use Rattle.amqp_words.specs.declared.call.Call.{Call as ConnectionCall}
 use Rattle.amqp_words.specs.declared.step.End.{End as Side}
 use Rattle.amqp_words.specs.declared.step.End.TheVariants.{Client, Listener}
-use Rattle.amqp_calls.specs.declared.reply.NamedReply.{NamedReply}
-use Rattle.amqp_calls.specs.declared.step.Act.{Act}
-use Rattle.amqp_calls.specs.declared.step.Step.{Step}
-use Rattle.amqp_calls.specs.declared.trace.Entry.{Entry}
+use Rattle.amqp_end.specs.amqp_calls.declared.reply.NamedReply.{NamedReply}
+use Rattle.amqp_end.specs.amqp_calls.declared.step.Act.{Act}
+use Rattle.amqp_end.specs.amqp_calls.declared.step.Step.{Step}
+use Rattle.amqp_end.specs.amqp_calls.declared.trace.Entry.{Entry}
 use Rattle.amqp_peer.specs.History.{Local}
 use Rattle.amqp_peer.specs.Peering.{Peering, Has}
 use Rattle.amqp_peer.proofs.Laws.{replies_law, causes_law, gated_law, tied_law, said_law, beats_law}
 use Rattle.amqp_ends.specs.Joined.{Meets}
 use Rattle.amqp_ends.proofs.Sizes.{never_refused}
-use Rattle.amqp_end_streams.proofs.Parts.{streams}
-use Rattle.amqp_end_streams.proofs.Serving.{carries}
+use Rattle.amqp_ends.proofs.Parts.{streams}
+use Rattle.amqp_ends.proofs.Serving.{carries}
 use Rattle.amqp_world.specs.History.{is_same}
 use Rattle.amqp_world.specs.Turn.{pipe_of}
 use Rattle.amqp_world.proofs.Meeting.{meeting}

@@ -2,3 +2,9 @@ pub mod Moving
 pub mod Serving
 pub mod Living
 pub mod Carrying
+pub mod Kept
+pub mod Own
+pub mod Sessions
+pub mod Telling
+pub mod Causes
+pub mod Traces

@@ -8,17 +8,17 @@ use Rattle.amqp_wire.proofs.Events.{read_of-append, wrote_of-append}
 use Rattle.amqp_transport.specs.declared.frames.Frame.{Frame}
 use Rattle.amqp_words.specs.declared.call.Call.{Call as ConnectionCall}
 use Rattle.amqp_words.specs.declared.step.End.{End as Side}
-use Rattle.amqp_calls.specs.declared.step.Act.{Act}
-use Rattle.amqp_calls.specs.declared.step.Act.TheVariants.{Take, TakeAll, Call}
-use Rattle.amqp_calls.specs.declared.trace.Entry.{Entry}
-use Rattle.amqp_links.specs.State.{seen as linked}
+use Rattle.amqp_end.specs.amqp_calls.declared.step.Act.{Act}
+use Rattle.amqp_end.specs.amqp_calls.declared.step.Act.TheVariants.{Take, TakeAll, Call}
+use Rattle.amqp_end.specs.amqp_calls.declared.trace.Entry.{Entry}
+use Rattle.amqp_end.specs.amqp_links.State.{seen as linked}
 use Rattle.amqp_peer.specs.History.{Local, Polled, made_in, link_in, read_in, wrote_in}
 use Rattle.amqp_peer.specs.Peering.{Peering}
 use Rattle.amqp_peer.proofs.Laws.{link_in-append, link_of-fresh, link_of-with_link}
-use Rattle.amqp_sessions.specs.State.{seen}
+use Rattle.amqp_end.specs.amqp_sessions.State.{seen}
 use Rattle.amqp_ends.specs.Joined.{IsCalm}
-use Rattle.amqp_end_streams.specs.Streams.{Serves}
-use Rattle.amqp_end_streams.proofs.Serving.{serves_fresh, serves_looks, serves_links}
+use Rattle.amqp_ends.specs.Streams.{Serves}
+use Rattle.amqp_ends.proofs.Serving.{serves_fresh, serves_looks, serves_links}
 use Rattle.amqp_world.specs.Turn.{piping, empty_pipe, pipe_of, fed, drained}
 use Rattle.amqp_world.specs.Valid.{kind_of}
 use Rattle.amqp_world.proofs.Pipes.{pipe_input, pipe_output, pipe_mark, pipe_calm, calm_none, calm_more}

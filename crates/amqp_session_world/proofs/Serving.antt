@@ -2,7 +2,7 @@
 use Rattle.std.proofs.Common.{◌≡◌, inl, inr, ℕ, List, [], ◌∷◌, ◌++◌, Ok, Err, refl, sym, ap, ◌∙◌, subst, append_assoc}
 use Rattle.std.proofs.lemmas.List.{append-nil}
 use Rattle.amqp_wire.specs.declared.link.Link.{Ghosts}
-use Rattle.amqp_links.specs.State.{State as Links}
+use Rattle.amqp_end.specs.amqp_links.State.{State as Links}
 use Rattle.amqp_transport.specs.declared.frames.Frame.{Frame}
 use Rattle.amqp_words.specs.declared.call.Call.{Call as ConnectionCall}
 use Rattle.amqp_peer.specs.Frames.{asking}
@@ -10,9 +10,9 @@ use Rattle.amqp_peer.specs.History.{Local, Made, Polled, made_in, moment_in, IsI
 use Rattle.amqp_peer.specs.Peering.{Peering, Has}
 use Rattle.amqp_peer.proofs.Histories.{moment_in-inside, made_in-keeps}
 use Rattle.amqp_peer.proofs.Sessions.{takes_has, session_has}
-use Rattle.amqp_sessions.specs.State.{State}
-use Rattle.amqp_end_streams.specs.Streams.{Serves}
-use Rattle.amqp_end_streams.proofs.Serving.{serves_calls, serves_polls, serves_on, serves_last, serves_hands, serves_asks, serves_sends, serves_seats, serves_frees, serves_tells}
+use Rattle.amqp_end.specs.amqp_sessions.State.{State}
+use Rattle.amqp_ends.specs.Streams.{Serves}
+use Rattle.amqp_ends.proofs.Serving.{serves_calls, serves_polls, serves_on, serves_last, serves_hands, serves_asks, serves_sends, serves_seats, serves_frees, serves_tells}
 use Rattle.amqp_end.specs.Deeds.{Deed, Makes, Polls, Goes, Moves, Hears, Writes, Seats, Lacks, Frees, Accepts, Asks, LinksHear, LinksWrite, LinksLack, LinksKnow, LinksLook, Tells, TellsFirst, IsStep, IsDeed, Did, adds, behind, called_of, called_by, asked_of, asked_by, heard_of, heard_by, given_of, given_by}
 
 -- ---- the same of other lists

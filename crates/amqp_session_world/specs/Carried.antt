@@ -5,9 +5,9 @@ use Rattle.amqp_transport.specs.Kinds.{amqp_again}
 use Rattle.amqp_words.specs.declared.call.Call.{Call as ConnectionCall}
 use Rattle.amqp_words.specs.declared.step.End.{End as Side}
 use Rattle.amqp_words.specs.declared.step.End.TheVariants.{Client, Listener}
-use Rattle.amqp_calls.specs.declared.reply.NamedReply.{NamedReply}
-use Rattle.amqp_calls.specs.declared.step.Step.{Step}
-use Rattle.amqp_calls.specs.declared.trace.Entry.{Entry}
+use Rattle.amqp_end.specs.amqp_calls.declared.reply.NamedReply.{NamedReply}
+use Rattle.amqp_end.specs.amqp_calls.declared.step.Step.{Step}
+use Rattle.amqp_end.specs.amqp_calls.declared.trace.Entry.{Entry}
 use Rattle.amqp_peer.specs.Beats.{AllBeats}
 use Rattle.amqp_peer.specs.Causes.{AllCaused, IsTied, IsRefusedAt}
 use Rattle.amqp_peer.specs.Frames.{asking_of, others_of}
@@ -16,7 +16,7 @@ use Rattle.amqp_peer.specs.History.{Local, made_in, replied_in, read_in, wrote_i
 use Rattle.amqp_peer.specs.Replies.{AreReplies}
 use Rattle.amqp_peer.specs.Said.{HasSaid}
 use Rattle.amqp_ends.specs.Joined.{Meets}
-use Rattle.amqp_end_streams.specs.Streams.{IsFront, Serves}
+use Rattle.amqp_ends.specs.Streams.{IsFront, Serves}
 use Rattle.amqp_end.specs.declared.end.End.{End}
 use Rattle.amqp_end.specs.Deeds.{asked_by, heard_by, given_by, told_by}
 use Rattle.amqp_session_world.specs.Turn.{AreMade}

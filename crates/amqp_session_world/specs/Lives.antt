@@ -3,9 +3,9 @@ use Rattle.std.specs.Prelude.{◌+◌, ℕ, List, [], ◌∷◌, ◌++◌, Bool,
 use Rattle.amqp_words.specs.declared.call.Call.{Call as ConnectionCall}
 use Rattle.amqp_words.specs.declared.step.End.{End as Side}
 use Rattle.amqp_words.specs.declared.step.End.TheVariants.{Client, Listener}
-use Rattle.amqp_calls.specs.declared.reply.NamedReply.{NamedReply}
-use Rattle.amqp_calls.specs.declared.step.Step.{Step}
-use Rattle.amqp_calls.specs.declared.trace.Entry.{Entry}
+use Rattle.amqp_end.specs.amqp_calls.declared.reply.NamedReply.{NamedReply}
+use Rattle.amqp_end.specs.amqp_calls.declared.step.Step.{Step}
+use Rattle.amqp_end.specs.amqp_calls.declared.trace.Entry.{Entry}
 use Rattle.amqp_peer.specs.History.{Local, Polled}
 use Rattle.amqp_world.specs.History.{is_same}
 use Rattle.amqp_end.specs.Deeds.{Deed, behind}

@@ -7,16 +7,16 @@ use Rattle.amqp_words.specs.declared.step.End.{End as Side}
 use Rattle.amqp_words.specs.declared.step.End.TheVariants.{Client, Listener}
 use Rattle.amqp_link_words.specs.declared.link_call.LinkCall.{LinkCall}
 use Rattle.amqp_link_words.specs.declared.link_call.LinkCall.TheVariants.{Sender, Receiver}
-use Rattle.amqp_calls.specs.declared.call.Call.{Call as AnyCall}
-use Rattle.amqp_calls.specs.declared.call.Call.TheVariants.{Link}
-use Rattle.amqp_calls.specs.declared.reply.NamedReply.{NamedReply}
-use Rattle.amqp_calls.specs.declared.reply.Reply.{Reply}
-use Rattle.amqp_calls.specs.declared.reply.Reply.TheVariants as told
-use Rattle.amqp_calls.specs.declared.reply.SessionReply.TheVariants as reply
-use Rattle.amqp_calls.specs.declared.step.Act.{Act}
-use Rattle.amqp_calls.specs.declared.step.Act.TheVariants.{Call}
-use Rattle.amqp_links.specs.May.{is_spent_on}
-use Rattle.amqp_links.specs.State.{seen as linked}
+use Rattle.amqp_end.specs.amqp_calls.declared.call.Call.{Call as AnyCall}
+use Rattle.amqp_end.specs.amqp_calls.declared.call.Call.TheVariants.{Link}
+use Rattle.amqp_end.specs.amqp_calls.declared.reply.NamedReply.{NamedReply}
+use Rattle.amqp_end.specs.amqp_calls.declared.reply.Reply.{Reply}
+use Rattle.amqp_end.specs.amqp_calls.declared.reply.Reply.TheVariants as told
+use Rattle.amqp_end.specs.amqp_calls.declared.reply.SessionReply.TheVariants as reply
+use Rattle.amqp_end.specs.amqp_calls.declared.step.Act.{Act}
+use Rattle.amqp_end.specs.amqp_calls.declared.step.Act.TheVariants.{Call}
+use Rattle.amqp_end.specs.amqp_links.May.{is_spent_on}
+use Rattle.amqp_end.specs.amqp_links.State.{seen as linked}
 use Rattle.amqp_end.specs.declared.end.End.{End}
 use Rattle.amqp_session_world.specs.declared.pairs.SessionPairs.{SessionPairs}
 

@@ -1,18 +1,18 @@
 -- What one step of two ends with sessions and links does.
-use Rattle.std.specs.Prelude.{◌≡◌, ◌≤◌, ℕ, Bool, true, false, IsTrue, List, [], ◌∷◌, ◌++◌, length, take, drop, slice_get, Some, None, ⊤}
+use Rattle.std.specs.Prelude.{◌≡◌, ◌≤◌, ℕ, Bool, true, false, IsTrue, List, [], ◌∷◌, ◌++◌, length, take, drop, slice_get, Option, Some, None, ⊤}
 use Rattle.amqp_wire.specs.Piped.{Piped}
 use Rattle.amqp_peer.specs.Peering.{fresh, with_link_of}
 use Rattle.amqp_words.specs.declared.call.Call.{Call as ConnectionCall}
 use Rattle.amqp_words.specs.declared.step.End.{End as Side}
 use Rattle.amqp_words.specs.declared.step.End.TheVariants.{Client, Listener}
-use Rattle.amqp_calls.specs.declared.step.Act.{Act}
-use Rattle.amqp_calls.specs.declared.step.Act.TheVariants.{Take, TakeAll, Call}
-use Rattle.amqp_calls.specs.declared.step.Step.{Step}
-use Rattle.amqp_calls.specs.declared.trace.Entry.{Entry}
+use Rattle.amqp_end.specs.amqp_calls.declared.step.Act.{Act}
+use Rattle.amqp_end.specs.amqp_calls.declared.step.Act.TheVariants.{Take, TakeAll, Call}
+use Rattle.amqp_end.specs.amqp_calls.declared.step.Step.{Step}
+use Rattle.amqp_end.specs.amqp_calls.declared.trace.Entry.{Entry}
 use Rattle.amqp_world.specs.Turn.{piping, empty_pipe, pipe_of, fed, drained}
 use Rattle.amqp_world.specs.Valid.{kind_of}
-use Rattle.amqp_links.specs.State.{seen as linked, no_links}
-use Rattle.amqp_sessions.specs.State.{seen, none_begun}
+use Rattle.amqp_end.specs.amqp_links.State.{seen as linked, no_links}
+use Rattle.amqp_end.specs.amqp_sessions.State.{seen, none_begun}
 use Rattle.amqp_end.specs.declared.end.End.{End}
 use Rattle.amqp_end.specs.Asks.{MayAsk}
 use Rattle.amqp_end.specs.Goes.{Goes, on_connection}
@@ -64,6 +64,12 @@ calls_of name (Take n) = []
 calls_of name TakeAll = []
 calls_of name (Call call) = on_connection name call
 
+-- the name of the call that an act makes, if it makes one
+abbrev pub called : ℕ → Act → Option ℕ
+called name (Take n) = None
+called name TakeAll = None
+called name (Call call) = Some name
+
 -- the answers of an end are taken out of it
 pub record Told (ran near : End Piped) (entry : Entry) : Type 0 where
   pub replies : entry.replies.items ≡ ran.replies.items
@@ -80,7 +86,7 @@ pub record Turned (near far : End Piped) (name at : ℕ) (act : Act) (near' far'
   pub can : CanAct near far name act
   pub far_end : far' ≡ marked far (count_of act far)
   pub ran : End Piped
-  pub goes : Goes piping at (calls_of name act) (named name act (given near far (count_of act far))) ran
+  pub goes : Goes piping at (called name act) (calls_of name act) (named name act (given near far (count_of act far))) ran
   pub told : Told ran near' entry
   pub output : (pipe_of near'.connection).output ≡ (pipe_of near.connection).output ++ entry.wrote.items
 

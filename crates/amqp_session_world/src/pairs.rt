@@ -3,9 +3,9 @@ ghost use Rattle.std.specs.Prelude.{◌≡◌, nat_eq, OnOk};
 ghost use Rattle.std.specs.Map.{lookup};
 ghost use Rattle.amqp_session_world.specs.Paired.{seen, none_paired, is_begun, accepted_if, all_accepted, paired_with, begun_if, all_begun, paired_by, is_spent_there, spares_for, spares_in, spares};
 
-use amqp_calls::{Act, Call, LinkCall, NamedReply, Reply, SessionReply};
 use amqp_data::Text;
 use amqp_end::End;
+use amqp_end::amqp_calls::{Act, Call, LinkCall, NamedReply, Reply, SessionReply};
 use amqp_wire::pipe::Pipe;
 use amqp_words::End as Side;
 use indexmap::IndexMap;

@@ -8,8 +8,8 @@ ghost use Rattle.amqp_session_world.specs.Worlds.{view_of};
 
 use crate::pairs::SessionPairs;
 use crate::turns::{can_act, turn};
-use amqp_calls::{Entry, Step, Trace};
 use amqp_end::End;
+use amqp_end::amqp_calls::{Entry, Step, Trace};
 use amqp_wire::pipe::Pipe;
 use amqp_words::End as Side;
 use amqp_world::WorldError;

@@ -5,3 +5,5 @@ pub mod Calls
 pub mod Frames
 pub mod Stops
 pub mod Laws
+pub use Rattle.amqp_calls.specs as amqp_calls
+pub use Rattle.amqp_calls.specs.amqp_link_words

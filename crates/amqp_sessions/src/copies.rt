@@ -1,8 +1,8 @@
 //! Copies of reasons. The one error is want of memory.
 ghost use Rattle.std.specs.Prelude.{◌≡◌, IfOk};
 
+use amqp_calls::amqp_words::copies::copied_error;
 use amqp_frames::ConnectionStopReason;
-use amqp_words::copies::copied_error;
 use std::alloc::{AllocError, Global};
 
 /// A copy of the reason for which a connection has stopped.

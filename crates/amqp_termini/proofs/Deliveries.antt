@@ -3,12 +3,12 @@ use Rattle.std.proofs.Common.{◌≡◌, ℕ, suc, ◌+◌, ◌<◌, ◌≤◌, 
 use Rattle.std.specs.Str.{bytes_eq}
 use Rattle.std.proofs.lemmas.List.{append-nil, take_more, drop_all}
 use Rattle.std.proofs.lemmas.Option.{none-some}
-use Rattle.amqp_data.specs.declared.value.Entry.{Entry}
-use Rattle.amqp_data.specs.Data.{Amqp, Pairs, null, boolean, ubyte, ushort, uint, ulong, byte, short, int, long, char, timestamp, uuid, binary, string, symbol, scalar, list, dict, array, described, no_pairs, pair, IsNew, HasDistinctKeys}
-use Rattle.amqp_data.specs.View.{view, pairs_view}
-use Rattle.amqp_fields.specs.declared.error.BaseError.{BaseError}
-use Rattle.amqp_fields.specs.declared.error.BaseError.TheVariants as errors
-use Rattle.amqp_fields.specs.Fields.{◌>>=◌, Gives, IsValid, binary_in, of_binary, optional, maybe}
+use Rattle.amqp_composites.specs.amqp_data.declared.value.Entry.{Entry}
+use Rattle.amqp_composites.specs.amqp_data.Data.{Amqp, Pairs, null, boolean, ubyte, ushort, uint, ulong, byte, short, int, long, char, timestamp, uuid, binary, string, symbol, scalar, list, dict, array, described, no_pairs, pair, IsNew, HasDistinctKeys}
+use Rattle.amqp_composites.specs.amqp_data.View.{view, pairs_view}
+use Rattle.amqp_composites.specs.amqp_fields.declared.error.BaseError.{BaseError}
+use Rattle.amqp_composites.specs.amqp_fields.declared.error.BaseError.TheVariants as errors
+use Rattle.amqp_composites.specs.amqp_fields.Fields.{◌>>=◌, Gives, IsValid, binary_in, of_binary, optional, maybe}
 use Rattle.amqp_termini.specs.declared.state.DeliveryState.{DeliveryState}
 use Rattle.amqp_termini.specs.declared.unsettled.UnsettledDelivery.{UnsettledDelivery}
 use Rattle.amqp_termini.specs.State.{state_in, of_state, IsStateValid}

@@ -7,3 +7,5 @@ pub mod Source
 pub mod Target
 pub mod TargetArchetype
 pub mod Unsettled
+pub use Rattle.amqp_composites.specs as amqp_composites
+pub use Rattle.amqp_composites.specs.amqp_fields

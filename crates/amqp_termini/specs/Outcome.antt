@@ -1,9 +1,9 @@
 -- The outcomes of deliveries (OASIS AMQP 1.0, part 3, section 3.4).
 use Rattle.std.specs.Prelude.{◌≡◌, Option, Some, None}
 use Rattle.std.proofs.Common.{ap}
-use Rattle.amqp_data.specs.Data.{Amqp, Items}
-use Rattle.amqp_fields.specs.Fields.{◌>>=◌}
-use Rattle.amqp_fields.specs.Again.{IsField}
+use Rattle.amqp_composites.specs.amqp_data.Data.{Amqp, Items}
+use Rattle.amqp_composites.specs.amqp_fields.Fields.{◌>>=◌}
+use Rattle.amqp_composites.specs.amqp_fields.Again.{IsField}
 use Rattle.amqp_termini.specs.declared.outcome.Outcome.{Outcome}
 use Rattle.amqp_termini.specs.declared.outcome.Outcome.TheVariants as v
 use Rattle.amqp_termini.specs.declared.states.Accepted.{Accepted}

@@ -1,9 +1,9 @@
 -- Sources: their fields, in the order of the standard (OASIS AMQP 1.0, part 3, section 3.5.3).
 use Rattle.std.specs.Prelude.{None, List, Option, Some, [], codes, false, nat_eq, refl, ◌∷◌, ◌≡◌}
 use Rattle.std.specs.Str.{bytes_eq}
-use Rattle.amqp_data.specs.Data.{Amqp, Items}
-use Rattle.amqp_fields.specs.Fields.{IsValid, bool_in, ends_at, field_at, is_symbol, map_with, maybe, of_bool, of_map, of_string, of_symbol, of_symbols, of_uint, optional, or_default, same_bool, string_in, symbol_in, symbols_in, trimmed, uint_in, unless, ◌>>=◌}
-use Rattle.amqp_fields.specs.Again.{IsField, HasKeys, bool_field, bools_are, default_is, each, field_ends, map_field, numbers_are, optional_is, string_field, symbol_field, symbols_field, texts_are, uint_field}
+use Rattle.amqp_composites.specs.amqp_data.Data.{Amqp, Items}
+use Rattle.amqp_composites.specs.amqp_fields.Fields.{IsValid, bool_in, ends_at, field_at, is_symbol, map_with, maybe, of_bool, of_map, of_string, of_symbol, of_symbols, of_uint, optional, or_default, same_bool, string_in, symbol_in, symbols_in, trimmed, uint_in, unless, ◌>>=◌}
+use Rattle.amqp_composites.specs.amqp_fields.Again.{IsField, HasKeys, bool_field, bools_are, default_is, each, field_ends, map_field, numbers_are, optional_is, string_field, symbol_field, symbols_field, texts_are, uint_field}
 use Rattle.amqp_termini.specs.declared.source.Source.{Source}
 use Rattle.amqp_composites.specs.declared.kind.CompositeKind.{CompositeKind}
 use Rattle.amqp_composites.specs.declared.kind.CompositeKind.TheVariants as kind

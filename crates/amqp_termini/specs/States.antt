@@ -1,8 +1,8 @@
 -- The states of deliveries: their fields, in the order of the standard (OASIS AMQP 1.0, part 3, section 3.4.1 and following).
 use Rattle.std.specs.Prelude.{List, Option, Some, [], refl, ◌∷◌, ◌≡◌}
-use Rattle.amqp_data.specs.Data.{Amqp, Items}
-use Rattle.amqp_fields.specs.Fields.{IsValid, binary_in, bool_in, ends_at, field_at, is_symbol, map_with, maybe, of_binary, of_bool, of_map, of_uint, of_ulong, optional, trimmed, uint_in, ulong_in, ◌>>=◌}
-use Rattle.amqp_fields.specs.Again.{HasKeys, binary_field, bool_field, each, field_ends, map_field, optional_is, required_is, uint_field, ulong_field}
+use Rattle.amqp_composites.specs.amqp_data.Data.{Amqp, Items}
+use Rattle.amqp_composites.specs.amqp_fields.Fields.{IsValid, binary_in, bool_in, ends_at, field_at, is_symbol, map_with, maybe, of_binary, of_bool, of_map, of_uint, of_ulong, optional, trimmed, uint_in, ulong_in, ◌>>=◌}
+use Rattle.amqp_composites.specs.amqp_fields.Again.{HasKeys, binary_field, bool_field, each, field_ends, map_field, optional_is, required_is, uint_field, ulong_field}
 use Rattle.amqp_termini.specs.declared.states.Received.{Received}
 use Rattle.amqp_termini.specs.declared.states.Accepted.{Accepted}
 use Rattle.amqp_termini.specs.declared.states.Rejected.{Rejected}

@@ -1,8 +1,8 @@
 -- States of deliveries within transactions: their fields, in the order of the standard (OASIS AMQP 1.0, part 4, section 4.5.8).
 use Rattle.std.specs.Prelude.{List, Option, Some, [], refl, ◌∷◌, ◌≡◌}
-use Rattle.amqp_data.specs.Data.{Amqp, Items}
-use Rattle.amqp_fields.specs.Fields.{IsValid, binary_in, ends_at, field_at, maybe, of_binary, optional, trimmed, ◌>>=◌}
-use Rattle.amqp_fields.specs.Again.{binary_field, field_ends, optional_is, required_is}
+use Rattle.amqp_composites.specs.amqp_data.Data.{Amqp, Items}
+use Rattle.amqp_composites.specs.amqp_fields.Fields.{IsValid, binary_in, ends_at, field_at, maybe, of_binary, optional, trimmed, ◌>>=◌}
+use Rattle.amqp_composites.specs.amqp_fields.Again.{binary_field, field_ends, optional_is, required_is}
 use Rattle.amqp_termini.specs.declared.transactional.TransactionalState.{TransactionalState}
 use Rattle.amqp_termini.specs.Outcome.{IsOutcomeValid, of_outcome, outcome_field, outcome_in}
 

@@ -1,11 +1,11 @@
 -- Deliveries that are not settled (OASIS AMQP 1.0, part 2, section 2.7.3).
 use Rattle.std.specs.Prelude.{◌≡◌, ℕ, List, [], ◌∷◌, Option, Some, None, Result, Ok, Err, refl, if◌then◌else◌}
 use Rattle.std.specs.Str.{bytes_eq}
-use Rattle.amqp_data.specs.Data.{Amqp, Pairs, dict, no_pairs, pair, HasDistinctKeys}
-use Rattle.amqp_fields.specs.Again.{IsField, optional_again}
-use Rattle.amqp_fields.specs.Fields.{◌>>=◌, binary_in, of_binary, optional, maybe, IsValid}
-use Rattle.amqp_fields.specs.declared.error.BaseError.{BaseError}
-use Rattle.amqp_fields.specs.declared.error.BaseError.TheVariants as errors
+use Rattle.amqp_composites.specs.amqp_data.Data.{Amqp, Pairs, dict, no_pairs, pair, HasDistinctKeys}
+use Rattle.amqp_composites.specs.amqp_fields.Again.{IsField, optional_again}
+use Rattle.amqp_composites.specs.amqp_fields.Fields.{◌>>=◌, binary_in, of_binary, optional, maybe, IsValid}
+use Rattle.amqp_composites.specs.amqp_fields.declared.error.BaseError.{BaseError}
+use Rattle.amqp_composites.specs.amqp_fields.declared.error.BaseError.TheVariants as errors
 use Rattle.amqp_termini.specs.declared.unsettled.UnsettledDelivery.{UnsettledDelivery}
 use Rattle.amqp_termini.specs.declared.state.DeliveryState.{DeliveryState}
 use Rattle.amqp_termini.specs.State.{state_in, of_state, IsStateValid, state_field}

@@ -2,6 +2,8 @@
 //! lists, read from values and written as values.
 #![tactic(auto)]
 
+pub use amqp_composites;
+pub use amqp_composites::amqp_fields;
 pub use outcome::Outcome;
 pub use source::Source;
 pub use state::DeliveryState;

@@ -1,7 +1,7 @@
 //! The outcomes of deliveries (OASIS AMQP 1.0, part 3, section 3.4).
 ghost use Rattle.std.specs.Prelude.{◌≡◌, IsErrAnd};
-ghost use Rattle.amqp_data.specs.View.{view};
-ghost use Rattle.amqp_fields.specs.Fields.{Gives, Makes};
+ghost use Rattle.amqp_composites.specs.amqp_data.View.{view};
+ghost use Rattle.amqp_composites.specs.amqp_fields.Fields.{Gives, Makes};
 ghost use Rattle.amqp_termini.specs.declared.outcome.Outcome.TheVariants as v;
 ghost use Rattle.amqp_termini.specs.Outcome.{outcome_in, of_outcome, IsOutcomeValid, outcome_again, IsNotAccepted, MatchAccepted};
 
@@ -10,10 +10,10 @@ use crate::states::{
     read_accepted, read_declared, read_modified, read_rejected, read_released, rejected_list,
     released_list,
 };
+use amqp_composites::amqp_data::Value;
+use amqp_composites::amqp_fields::{BaseError, Field};
 use amqp_composites::described::{list_value, read_list};
 use amqp_composites::kind::CompositeKind;
-use amqp_data::Value;
-use amqp_fields::{BaseError, Field};
 use std::alloc::Global;
 
 /// What becomes of a delivery.

@@ -1,9 +1,9 @@
 //! The default of expiry policies (OASIS AMQP 1.0, part 3, section 3.5.6).
 ghost use Rattle.std.specs.Prelude.{◌≡◌, codes, Some};
-ghost use Rattle.amqp_fields.specs.Fields.{Gives};
+ghost use Rattle.amqp_composites.specs.amqp_fields.Fields.{Gives};
 
-use amqp_data::Symbol;
-use amqp_fields::BaseError;
+use amqp_composites::amqp_data::Symbol;
+use amqp_composites::amqp_fields::BaseError;
 use amqp_text::symbol::SymbolError;
 use std::alloc::Global;
 

@@ -1,15 +1,15 @@
 //! Sources (OASIS AMQP 1.0, part 3, section 3.5.3).
 ghost use Rattle.std.specs.Prelude.{◌≡◌, OnOk};
-ghost use Rattle.amqp_fields.specs.Left.{left};
-ghost use Rattle.amqp_fields.specs.Fields.{Gives, MakesItems, trimmed};
+ghost use Rattle.amqp_composites.specs.amqp_fields.Left.{left};
+ghost use Rattle.amqp_composites.specs.amqp_fields.Fields.{Gives, MakesItems, trimmed};
 ghost use Rattle.amqp_termini.specs.Source.{source_of, source_fields, source_in, of_source, IsSourceValid, source_again};
 
 use crate::outcome::Outcome;
 use crate::session_end::session_end;
+use amqp_composites::amqp_data::{Symbol, SymbolList, Text, Value, ValueList};
+use amqp_composites::amqp_fields::{BaseError, Field, FieldMap, FieldWriter, Fields};
 use amqp_composites::described::{list_value, read_list};
 use amqp_composites::kind::CompositeKind;
-use amqp_data::{Symbol, SymbolList, Text, Value, ValueList};
-use amqp_fields::{BaseError, Field, FieldMap, FieldWriter, Fields};
 use std::alloc::Global;
 
 /// Where the messages of a link come from (part 3, section 3.5.3).

@@ -1,7 +1,7 @@
 //! The states of deliveries (OASIS AMQP 1.0, part 3, section 3.4).
 ghost use Rattle.std.specs.Prelude.{◌≡◌};
-ghost use Rattle.amqp_data.specs.View.{view};
-ghost use Rattle.amqp_fields.specs.Fields.{Gives, Makes};
+ghost use Rattle.amqp_composites.specs.amqp_data.View.{view};
+ghost use Rattle.amqp_composites.specs.amqp_fields.Fields.{Gives, Makes};
 ghost use Rattle.amqp_termini.specs.declared.state.DeliveryState.TheVariants as v;
 ghost use Rattle.amqp_termini.specs.State.{state_in, of_state, IsStateValid, state_again};
 
@@ -13,10 +13,10 @@ use crate::states::{
 use crate::transactional::{
     TransactionalState, read_transactional_state, transactional_state_list,
 };
+use amqp_composites::amqp_data::Value;
+use amqp_composites::amqp_fields::{BaseError, Field};
 use amqp_composites::described::{list_value, read_list};
 use amqp_composites::kind::CompositeKind;
-use amqp_data::Value;
-use amqp_fields::{BaseError, Field};
 use std::alloc::Global;
 
 /// The state of a delivery.

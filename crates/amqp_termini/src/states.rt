@@ -1,12 +1,12 @@
 //! The states of deliveries (OASIS AMQP 1.0, part 3, section 3.4.1 and following).
 ghost use Rattle.std.specs.Prelude.{◌≡◌, OnOk};
-ghost use Rattle.amqp_fields.specs.Left.{left};
-ghost use Rattle.amqp_fields.specs.Fields.{Gives, MakesItems, trimmed};
+ghost use Rattle.amqp_composites.specs.amqp_fields.Left.{left};
+ghost use Rattle.amqp_composites.specs.amqp_fields.Fields.{Gives, MakesItems, trimmed};
 ghost use Rattle.amqp_termini.specs.States.{received_of, received_fields, accepted_of, accepted_fields, rejected_of, rejected_fields, IsRejectedValid, released_of, released_fields, modified_of, modified_fields, IsModifiedValid, declared_of, declared_fields};
 
+use amqp_composites::amqp_data::{Binary, ValueList};
+use amqp_composites::amqp_fields::{BaseError, FieldMap, FieldWriter, Fields};
 use amqp_composites::error::Error;
-use amqp_data::{Binary, ValueList};
-use amqp_fields::{BaseError, FieldMap, FieldWriter, Fields};
 use std::alloc::Global;
 
 /// A part of the delivery has come (part 3, section 3.4.1).

@@ -1,12 +1,12 @@
 //! Targets (OASIS AMQP 1.0, part 3, section 3.5.4 and following).
 ghost use Rattle.std.specs.Prelude.{◌≡◌, OnOk};
-ghost use Rattle.amqp_fields.specs.Left.{left};
-ghost use Rattle.amqp_fields.specs.Fields.{Gives, MakesItems, trimmed};
+ghost use Rattle.amqp_composites.specs.amqp_fields.Left.{left};
+ghost use Rattle.amqp_composites.specs.amqp_fields.Fields.{Gives, MakesItems, trimmed};
 ghost use Rattle.amqp_termini.specs.Target.{target_of, target_fields, IsTargetValid, coordinator_of, coordinator_fields};
 
 use crate::session_end::session_end;
-use amqp_data::{Symbol, SymbolList, Text, ValueList};
-use amqp_fields::{BaseError, FieldMap, FieldWriter, Fields};
+use amqp_composites::amqp_data::{Symbol, SymbolList, Text, ValueList};
+use amqp_composites::amqp_fields::{BaseError, FieldMap, FieldWriter, Fields};
 use std::alloc::Global;
 
 /// Where the messages of a link go (part 3, section 3.5.4).

@@ -1,17 +1,17 @@
 //! The targets of links (OASIS AMQP 1.0, part 2, section 2.7.3).
 ghost use Rattle.std.specs.Prelude.{◌≡◌};
-ghost use Rattle.amqp_data.specs.View.{view};
-ghost use Rattle.amqp_fields.specs.Fields.{Gives, Makes};
+ghost use Rattle.amqp_composites.specs.amqp_data.View.{view};
+ghost use Rattle.amqp_composites.specs.amqp_fields.Fields.{Gives, Makes};
 ghost use Rattle.amqp_termini.specs.declared.target_archetype.TargetArchetype.TheVariants as v;
 ghost use Rattle.amqp_termini.specs.TargetArchetype.{archetype_in, of_archetype, IsArchetypeValid, archetype_again};
 
 use crate::target::{
     Coordinator, Target, coordinator_list, read_coordinator, read_target, target_list,
 };
+use amqp_composites::amqp_data::Value;
+use amqp_composites::amqp_fields::{BaseError, Field};
 use amqp_composites::described::{list_value, read_list};
 use amqp_composites::kind::CompositeKind;
-use amqp_data::Value;
-use amqp_fields::{BaseError, Field};
 use std::alloc::Global;
 
 /// What a link sends to.

@@ -1,12 +1,12 @@
 //! States of deliveries within transactions (OASIS AMQP 1.0, part 4, section 4.5.8).
 ghost use Rattle.std.specs.Prelude.{◌≡◌, OnOk};
-ghost use Rattle.amqp_fields.specs.Left.{left};
-ghost use Rattle.amqp_fields.specs.Fields.{Gives, MakesItems, trimmed};
+ghost use Rattle.amqp_composites.specs.amqp_fields.Left.{left};
+ghost use Rattle.amqp_composites.specs.amqp_fields.Fields.{Gives, MakesItems, trimmed};
 ghost use Rattle.amqp_termini.specs.Transactional.{transactional_state_of, transactional_state_fields, IsTransactionalStateValid};
 
 use crate::outcome::Outcome;
-use amqp_data::{Binary, ValueList};
-use amqp_fields::{BaseError, FieldWriter, Fields};
+use amqp_composites::amqp_data::{Binary, ValueList};
+use amqp_composites::amqp_fields::{BaseError, FieldWriter, Fields};
 use std::alloc::Global;
 
 /// The state of a delivery within a transaction (part 4, section 4.5.8).

@@ -1,15 +1,15 @@
 //! Deliveries that are not settled (OASIS AMQP 1.0, part 2, section 2.7.3).
 ghost use Rattle.std.specs.Prelude.{◌≡◌, ◌↔◌, [], length, IsTrue, IfOk, OnOk, IsErrOf, option_map};
 ghost use Rattle.std.specs.Vec.Iter.{into_iter_items};
-ghost use Rattle.amqp_data.specs.View.{view, pairs_view};
-ghost use Rattle.amqp_fields.specs.Fields.{Gives, Makes, IsValid, optional, maybe};
+ghost use Rattle.amqp_composites.specs.amqp_data.View.{view, pairs_view};
+ghost use Rattle.amqp_composites.specs.amqp_fields.Fields.{Gives, Makes, IsValid, optional, maybe};
 ghost use Rattle.amqp_termini.specs.State.{state_in, of_state, IsStateValid};
 ghost use Rattle.amqp_termini.specs.Unsettled.{GivesDeliveries, MakesPairs, unsettled_in, deliveries_in, of_unsettled, pairs_of, HasDistinctTags, AreStatesValid, state_of, unsettled_again};
 
 use crate::state::DeliveryState;
-use amqp_data::map::MapError;
-use amqp_data::{Binary, Entry, OrderedMap, Value};
-use amqp_fields::{BaseError, Field};
+use amqp_composites::amqp_data::map::MapError;
+use amqp_composites::amqp_data::{Binary, Entry, OrderedMap, Value};
+use amqp_composites::amqp_fields::{BaseError, Field};
 use std::alloc::Global;
 use std::marker::Model;
 use std::vec::IntoIter;
@@ -36,7 +36,7 @@ impl Model for UnsettledMap {
     ghost Value = { List UnsettledDelivery };
 
     ghost use Rattle.std.specs.Coded.{codes};
-    ghost use Rattle.amqp_fields.specs.contracts.map.FieldMap as map;
+    ghost use Rattle.amqp_composites.specs.amqp_fields.contracts.map.FieldMap as map;
 
     ghost coded = { Prim.hlevel (codes, map.the_row.coded) };
 

@@ -2,7 +2,7 @@
 use Rattle.std.specs.Prelude.{Err, IsErrOf}
 use Rattle.amqp_fields.specs.declared.error.BaseError.{BaseError}
 use Rattle.amqp_fields.specs.declared.error.BaseError.TheVariants as errors
-use Rattle.amqp_described.specs.Reading.{IsTheOne}
+use Rattle.amqp_sasl_bodies.specs.amqp_described.Reading.{IsTheOne}
 
 -- it is no such thing, where it is refused as none
 pub holds_of_none : {A : Type 0} (Holds : A → Type 0) (e : BaseError) → IsTheOne {A = A} (Err e) Holds → IsErrOf {T = A} {E = BaseError} (Err e) errors.Decode → (x : A) → Holds x → ⊥

@@ -7,3 +7,5 @@ pub mod Stream
 pub mod Exchange
 pub mod Kinds
 pub mod OneItem
+pub use Rattle.amqp_frames.specs as amqp_frames
+pub use Rattle.amqp_frames.specs.amqp_performatives

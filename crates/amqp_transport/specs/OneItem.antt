@@ -6,9 +6,9 @@ use Rattle.std.specs.Prelude.{Some}
 use Rattle.amqp_data.specs.Data.{Amqp, list, no_items}
 use Rattle.amqp_value.specs.Grammar.{Spells, empty_list}
 use Rattle.amqp_value.proofs.Complete.{begins_no_other}
-use Rattle.amqp_performatives.specs.declared.performative.Performative.{Performative}
+use Rattle.amqp_frames.specs.amqp_performatives.declared.performative.Performative.{Performative}
 use Rattle.amqp_sasl_bodies.specs.declared.sasl_body.SaslBody.{SaslBody}
-use Rattle.amqp_performatives.specs.Performative.{performative_in}
+use Rattle.amqp_frames.specs.amqp_performatives.Performative.{performative_in}
 use Rattle.amqp_sasl_bodies.specs.SaslBody.{sasl_body_in}
 use Rattle.amqp_frames.specs.declared.body.FrameBody.{FrameBody}
 use Rattle.amqp_frames.specs.declared.body.FrameBody.TheVariants.{Empty}

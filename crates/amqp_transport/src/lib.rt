@@ -3,6 +3,8 @@
 //! by the caller.
 #![tactic(auto)]
 
+pub use amqp_frames;
+pub use amqp_frames::amqp_performatives;
 pub use frames::{AmqpFrames, Frame, SaslFrames};
 pub use header::{ProtocolHeader, ProtocolId};
 pub use heart_beat::HeartBeat;

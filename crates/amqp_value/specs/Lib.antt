@@ -6,3 +6,4 @@ pub mod Pieces
 pub mod Span
 pub mod ReadErrors
 pub mod Writing
+pub use Rattle.amqp_data.specs as amqp_data

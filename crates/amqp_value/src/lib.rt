@@ -1,6 +1,7 @@
 //! The codec of AMQP values (OASIS AMQP 1.0, part 1): one grammar for reading and writing; payloads in pieces.
 #![tactic(auto)]
 
+pub use amqp_data;
 pub use amqp_data::{
     Binary, Described, ElementKind, Entry, OrderedMap, Symbol, SymbolList, Text, Timestamp, Uuid,
     Value, ValueArray, ValueList,

@@ -1,15 +1,8 @@
 -- What the commands that wait for a peer have done.
-use Rattle.std.specs.Prelude.{◌≡◌, ℕ, zero, suc, List, Option, Some}
-use Rattle.list_laws.specs.Told.{Gains}
-use Rattle.amqp_calls.specs.declared.reply.Reply.{Reply}
+use Rattle.std.specs.Prelude.{◌≡◌, ℕ, List, Option}
 use Rattle.amqp_served.specs.Count.{WritesCount}
 use Rattle.amqp_waiting_words.specs.Command.{Asked, listens, connects, sends, receives}
-use Rattle.amqp_waiting.specs.Bodies.{line_in}
-
--- so many lines were written one after another, each the line of a message in an answer
-unfoldable pub WritesLines : ℕ → Option (List ℕ) → Option (List ℕ) → Type 0
-WritesLines zero w v = v ≡ w
-WritesLines (suc n) w v = (u : Option (List ℕ)) × (answer : Reply) × (line : List ℕ) × WritesLines n w u × (line_in answer ≡ Some line) × Gains u v line
+use Rattle.amqp_clients.specs.Delivered.{WritesLines}
 
 -- what a command has written that did all
 abbrev pub HasWritten : Asked → Option (List ℕ) → Option (List ℕ) → Type 0

@@ -1,5 +1,2 @@
-pub mod Bodies
 pub mod Commands
-pub mod Delivered
-pub mod Peers
-pub mod Report
+pub mod Sockets

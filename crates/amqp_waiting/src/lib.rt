@@ -3,10 +3,4 @@
 
 pub use run::run_waiting;
 
-mod address;
-mod progress;
-mod receiving;
-mod report;
 pub mod run;
-mod sending;
-mod session;

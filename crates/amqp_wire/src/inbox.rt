@@ -13,11 +13,13 @@ use std::marker::Model;
 /// The most bytes that one read takes.
 const PIECE: usize = 4096;
 
-/// A frame that was cut off and not given, if there is one, and the bytes behind it.
+/// A frame that was cut off and not given, if there is one, and the bytes behind it. `piece` is what a read fills: empty up to
+/// the first read, and then of `PIECE` bytes.
 #[derive(Drop)]
 pub(crate) struct Inbox {
     cut: Bytes,
     rest: BytesMut,
+    piece: Vec<u8>,
 }
 
 impl Model for Inbox {
@@ -83,6 +85,7 @@ impl Inbox {
         Inbox {
             cut: Bytes::new(),
             rest: BytesMut::new(alloc),
+            piece: Vec::new(alloc),
         }
     }
 
@@ -118,10 +121,10 @@ impl Inbox {
         ensures most { length self.new ≤ length self.old + 4096 }
     {
         self.rest.reserve(PIECE)?;
-        let mut piece = [0u8; PIECE];
-        match link.read(piece.as_mut_slice()) {
+        self.piece.resize(PIECE, 0)?;
+        match link.read(self.piece.as_mut_slice()) {
             LinkRead::Bytes(count) => {
-                self.rest.extend_reserved(&piece[..count]);
+                self.rest.extend_reserved(&self.piece[..count]);
                 Ok(Filled::More)
             }
             LinkRead::Empty => Ok(Filled::Stopped(Stop::Empty)),

@@ -2,9 +2,8 @@
 ghost use Rattle.std.specs.Prelude.{◌≡◌, IfOk};
 
 use crate::copies::{copied_symbol, copied_text};
-use amqp_opening::AcceptSasl;
+use amqp_opening::{AcceptSasl, SaslProfile};
 use amqp_text::{Symbol, Text};
-use sasl_gate::SaslProfile;
 use std::alloc::{AllocError, Global};
 
 /// What an end says of itself as its connection begins (part 2, section 2.7.1).

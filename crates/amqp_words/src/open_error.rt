@@ -1,7 +1,7 @@
 //! Why a connection is not opened.
 use amqp_composites::error::Error as AmqpError;
-use amqp_transport::transport;
-use sasl_gate::NegotiationError;
+use amqp_engine::TransportError;
+use amqp_opening::NegotiationError;
 use thiserror::Error;
 
 /// Why a connection is not opened.
@@ -12,7 +12,7 @@ pub enum OpenError {
     Negotiation(NegotiationError),
     /// The transport failed, or the own Open is above 512 bytes.
     #[error("TransportError")]
-    TransportError(transport::Error),
+    TransportError(TransportError),
     /// The peer closed the connection in place of opening it.
     #[error("RemoteClosed")]
     RemoteClosed,

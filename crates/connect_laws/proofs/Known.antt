@@ -15,7 +15,7 @@ use Rattle.amqp_link_calls.specs.Answering.{answers_taken}
 use Rattle.amqp_link_calls.specs.Called.{Called, sender_asked}
 use Rattle.amqp_link_calls.specs.Calling.{token_of, having_sent, outcome_asked}
 use Rattle.amqp_link_calls.specs.Hearing as hears
-use Rattle.amqp_link_calls.specs.Leaving.{is_parting, wants_handle}
+use Rattle.amqp_link_calls.specs.Leaving.{is_parting}
 use Rattle.amqp_link_calls.specs.Side as side
 use Rattle.amqp_link_calls.specs.Side.{Side, Sender, Receiver}
 use Rattle.amqp_link_tables.specs.declared.deliveries.Delivered.{Delivered}
@@ -40,7 +40,7 @@ use Rattle.amqp_links.specs.declared.links.SentDelivery.{SentDelivery}
 use Rattle.amqp_links.specs.Accepting.{accept_of}
 use Rattle.amqp_links.specs.Numbering.{receives_at}
 use Rattle.amqp_links.specs.Settling.{delivery_at}
-use Rattle.amqp_links.specs.State.{State, place_of, link_of, with_link, stepped, at_place, entered_at, entered, answering}
+use Rattle.amqp_links.specs.State.{State, place_of, link_of, with_link, stepped, at_place, entered_at, answering}
 use Rattle.amqp_links.specs.Timing.{send_kept}
 use Rattle.link_lives.proofs.Tables.{set_at, insert_here, insert_other}
 use Rattle.session_laws.proofs.Lists.{Each, each_both, each_inserted}

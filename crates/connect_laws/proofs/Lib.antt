@@ -1,6 +1,9 @@
+mod Asking
 mod Bringing
 mod Known
 mod Links
+mod Names
+mod Parts
 mod Ranges
 mod Runs
 mod Sent

@@ -24,7 +24,7 @@ use Rattle.amqp_link_words.specs.declared.link_reply.LinkReply.TheVariants as re
 use Rattle.amqp_sender.specs.declared.sender.Settlement.{Settlement}
 use Rattle.amqp_sender.specs.declared.sender.Settlement.TheVariants.{Unsettled, Settled, NonTerminal, Illegal}
 use Rattle.amqp_sender.specs.Sender.{State}
-use Rattle.amqp_sender.specs.Sending.{Made, sent, first_settlement, tag_of, is_settled, flow_in, flow_read, drained, credit_by}
+use Rattle.amqp_sender.specs.Sending.{Made, sent, first_settlement, tag_of, is_settled, flow_in, drained, credit_by}
 use Rattle.amqp_sender.specs.Settling.{settlement_of, place_of, settled, settled_at, answer_for, unsettled_answer, outcome_read, echoed, disposition_read}
 use Rattle.session_laws.proofs.Lists.{Each, each_so, each_removed, each_inserted}
 use Rattle.session_laws.proofs.Sends.{sending_cases, settles_first}

@@ -18,7 +18,6 @@ use Rattle.amqp_link_words.specs.declared.link_reply.LinkReply.{LinkReply}
 use Rattle.amqp_link_words.specs.declared.link_reply.LinkReply.TheVariants as reply
 use Rattle.amqp_performatives.specs.declared.attach.Attach.{Attach}
 use Rattle.amqp_performatives.specs.declared.disposition.Disposition.{Disposition}
-use Rattle.amqp_performatives.specs.declared.transfer.Transfer.{Transfer}
 use Rattle.amqp_sender.specs.declared.sender.DeliveryToken.{DeliveryToken}
 use Rattle.amqp_sender.specs.declared.settings.SenderSettings.{SenderSettings}
 use Rattle.amqp_session.specs.declared.session.LinkInput.{LinkInput}
@@ -28,7 +27,6 @@ use Rattle.amqp_session_links.specs.declared.place.Claim.TheVariants.{Handle, Re
 use Rattle.amqp_session_links.specs.declared.place.WaitingAccept.{WaitingAccept}
 use Rattle.amqp_session_links.specs.State.{State as Place, attach_ended, awaiting_answer}
 use Rattle.amqp_links.specs.declared.links.SentDelivery.{SentDelivery}
-use Rattle.amqp_links.specs.declared.timed.Awaited.TheVariants.{Outcome, Detach}
 use Rattle.amqp_links.specs.declared.timed.TimedCall.{TimedCall}
 use Rattle.amqp_links.specs.Accepting.{accept_of, meeting, awaiting as reattaching_on, attach_for, attach_came}
 use Rattle.amqp_links.specs.Attaching.{claimed_at, claimed, standing, begun, sender_by, attaching_sender, joining}

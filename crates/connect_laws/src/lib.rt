@@ -4,3 +4,4 @@
 #![tactic(auto)]
 
 pub mod outcomes;
+pub mod sends;

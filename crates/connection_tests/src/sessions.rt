@@ -14,12 +14,12 @@ use std::test::Fail;
 const OPEN_WITH_LIMITS: &[u8] =
     b"\x00\x00\x00\x1c\x02\x00\x00\x00\x00\x53\x10\xc0\x0f\x05\xa1\x01\x61\x40\x70\x00\x00\x03\xe8\x60\x00\x01\x52\x0a";
 
-/// A Begin that answers none, on channel 5.
+/// A Begin that answers none, on channel 1.
 const BEGIN: &[u8] =
-    b"\x00\x00\x00\x14\x02\x00\x00\x05\x00\x53\x11\xc0\x07\x04\x40\x43\x52\x05\x52\x05";
+    b"\x00\x00\x00\x14\x02\x00\x00\x01\x00\x53\x11\xc0\x07\x04\x40\x43\x52\x05\x52\x05";
 
-/// An End, on channel 5.
-const END: &[u8] = b"\x00\x00\x00\x0c\x02\x00\x00\x05\x00\x53\x17\x45";
+/// An End, on channel 1.
+const END: &[u8] = b"\x00\x00\x00\x0c\x02\x00\x00\x01\x00\x53\x17\x45";
 
 fn local_open(alloc: Global) -> Result<Open, AllocError> {
     Ok(Open {
@@ -108,7 +108,7 @@ fn asked_channel(engine: &mut ConnectionEngine<Pipe>) -> Option<u16> {
 fn sessions_of_the_peer(rt: HostRuntime) -> Result<(), Fail> {
     let mut engine = listener(rt.alloc()).ok_or("no engine")?;
     assert!(rt; opens(&mut engine) && takes(&mut engine, BEGIN));
-    assert_eq!(rt; asked_channel(&mut engine), Some(5));
+    assert_eq!(rt; asked_channel(&mut engine), Some(1));
     assert!(rt; takes(&mut engine, END));
     let frame = engine.take_incoming();
     assert!(rt; frame.is_some());

@@ -12,8 +12,8 @@ use Rattle.amqp_performatives.specs.declared.attach.Attach.{Attach}
 use Rattle.amqp_receiver.specs.declared.settings.ReceiverSettings.{ReceiverSettings}
 use Rattle.amqp_sender.specs.declared.settings.SenderSettings.{SenderSettings}
 use Rattle.amqp_session.specs.declared.session.LinkInput.{LinkInput}
-use Rattle.amqp_link_calls.specs.Answering.{accept_answered, accept_reply}
-use Rattle.amqp_link_calls.specs.Called.{Called, sender_asked, receiver_asked, accepted}
+use Rattle.amqp_links.specs.amqp_link_calls.Answering.{accept_answered, accept_reply}
+use Rattle.amqp_links.specs.amqp_link_calls.Called.{Called, sender_asked, receiver_asked, accepted}
 use Rattle.amqp_link_words.specs.declared.link_reply.LinkReply.TheVariants as reply
 use Rattle.amqp_session_links.specs.declared.place.Claim.{Claim}
 use Rattle.amqp_session_links.specs.declared.place.Claim.TheVariants.{Handle, Refused}

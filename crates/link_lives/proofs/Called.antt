@@ -18,19 +18,19 @@ use Rattle.amqp_session.specs.declared.session.LinkInput.{LinkInput}
 use Rattle.amqp_session.specs.declared.session.LinkInput.TheVariants as input
 use Rattle.amqp_receiver.specs.Receiving as receiving
 use Rattle.amqp_sender.specs.Settling as settling
-use Rattle.amqp_link_calls.specs.declared.leave.WaitingPart.{WaitingPart}
-use Rattle.amqp_link_calls.specs.Answering.{attach_told, attach_polled, attach_answered_to, attach_answered, attach_answered_now, outcome_answered_to, outcome_answered, outcomes_answered, outcomes_answered_now, outcome_now}
-use Rattle.amqp_link_calls.specs.Called.{Called, with_side, answering, stopped, awaits_outcome}
-use Rattle.amqp_link_calls.specs.Hearing as hearing
-use Rattle.amqp_link_calls.specs.Leaving.{closed_by, known, told_part, asked_part, detach_asked, closed_side, closed_at_once, close_asked, abandoned, leaves, part_reply, awaits_part, part_given_up, part_answered_to, part_answered, part_answered_now, handle_given, handle_refused, left_by}
-use Rattle.amqp_link_calls.specs.Calling as calling
-use Rattle.amqp_link_calls.specs.declared.leave.PartKind.{PartKind}
-use Rattle.amqp_link_calls.specs.declared.leave.PartKind.TheVariants as kind
+use Rattle.amqp_links.specs.amqp_link_calls.declared.leave.WaitingPart.{WaitingPart}
+use Rattle.amqp_links.specs.amqp_link_calls.Answering.{attach_told, attach_polled, attach_answered_to, attach_answered, attach_answered_now, outcome_answered_to, outcome_answered, outcomes_answered, outcomes_answered_now, outcome_now}
+use Rattle.amqp_links.specs.amqp_link_calls.Called.{Called, with_side, answering, stopped, awaits_outcome}
+use Rattle.amqp_links.specs.amqp_link_calls.Hearing as hearing
+use Rattle.amqp_links.specs.amqp_link_calls.Leaving.{closed_by, known, told_part, asked_part, detach_asked, closed_side, closed_at_once, close_asked, abandoned, leaves, part_reply, awaits_part, part_given_up, part_answered_to, part_answered, part_answered_now, handle_given, handle_refused, left_by}
+use Rattle.amqp_links.specs.amqp_link_calls.Calling as calling
+use Rattle.amqp_links.specs.amqp_link_calls.declared.leave.PartKind.{PartKind}
+use Rattle.amqp_links.specs.amqp_link_calls.declared.leave.PartKind.TheVariants as kind
 use Rattle.amqp_link_words.specs.declared.link_call.Parting.{Parting}
 use Rattle.amqp_link_words.specs.declared.link_call.Parting.TheVariants as parting
-use Rattle.amqp_link_calls.specs.Replies.{is_pending, error_of}
-use Rattle.amqp_link_calls.specs.Side as side
-use Rattle.amqp_link_calls.specs.Side.{Side, Sender, Receiver, link_of, is_stopped, is_closed_by_both, polled, polled_answer}
+use Rattle.amqp_links.specs.amqp_link_calls.Replies.{is_pending, error_of}
+use Rattle.amqp_links.specs.amqp_link_calls.Side as side
+use Rattle.amqp_links.specs.amqp_link_calls.Side.{Side, Sender, Receiver, link_of, is_stopped, is_closed_by_both, polled, polled_answer}
 use Rattle.amqp_links.specs.Parts.{output_of, emptied, is_heard, heard, disposition_heard}
 use Rattle.link_lives.specs.Lives.{Event, Wrote, Lives, Went}
 use Rattle.link_lives.proofs.Sides.{lives_then, lives_on, emptied_lives, polled_lives, attach_lives, flow_lives, transfer_lives, detach_lives, stopped_lives, parts_lives, closed_lives, abandoned_lives, unplaced_lives, reattached_lives, sender_disposition, receiver_disposition}

@@ -6,12 +6,12 @@ use Rattle.amqp_composites.specs.declared.modes.Role.TheVariants as role
 use Rattle.amqp_delivery.specs.declared.info.DeliveryInfo.{DeliveryInfo}
 use Rattle.amqp_delivery.specs.declared.info.DisposerView.{DisposerView}
 use Rattle.amqp_sender.specs.declared.sender.DeliveryToken.{DeliveryToken}
-use Rattle.amqp_link_calls.specs.Answering as known
-use Rattle.amqp_link_calls.specs.Called.{Called, with_side}
-use Rattle.amqp_link_calls.specs.Calling.{Receives, sends, token_of, having_sent, outcome_asked, having_received, disposes, sets_credit}
-use Rattle.amqp_link_calls.specs.Disposers.{view_of, disposes_by, settles, settles_at_once}
-use Rattle.amqp_link_calls.specs.Leaving.{leaves}
-use Rattle.amqp_link_calls.specs.Regulating.{regulates}
+use Rattle.amqp_links.specs.amqp_link_calls.Answering as known
+use Rattle.amqp_links.specs.amqp_link_calls.Called.{Called, with_side}
+use Rattle.amqp_links.specs.amqp_link_calls.Calling.{Receives, sends, token_of, having_sent, outcome_asked, having_received, disposes, sets_credit}
+use Rattle.amqp_links.specs.amqp_link_calls.Disposers.{view_of, disposes_by, settles, settles_at_once}
+use Rattle.amqp_links.specs.amqp_link_calls.Leaving.{leaves}
+use Rattle.amqp_links.specs.amqp_link_calls.Regulating.{regulates}
 use Rattle.amqp_link_words.specs.declared.link_call.Disposal.{Disposal}
 use Rattle.amqp_link_words.specs.declared.link_call.Parting.{Parting}
 use Rattle.amqp_link_words.specs.declared.link_call.Sendable.{Sendable}

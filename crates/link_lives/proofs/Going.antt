@@ -6,7 +6,7 @@ use Rattle.std.proofs.lemmas.Grind.{flat_map-append}
 use Rattle.std.proofs.lemmas.List.{append-nil}
 use Rattle.std.specs.Map.{lookup, set_value}
 use Rattle.amqp_parts.specs.declared.part.Part.{Part}
-use Rattle.amqp_link_calls.specs.Called.{Called}
+use Rattle.amqp_links.specs.amqp_link_calls.Called.{Called}
 use Rattle.amqp_session_links.specs.State.{State as Place, none_attached}
 use Rattle.amqp_links.specs.Parts.{Astray}
 use Rattle.amqp_links.specs.State.{State, place_of, link_of, with_place, stepped, at_place, entered_at, entered}

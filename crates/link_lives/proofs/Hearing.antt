@@ -15,10 +15,10 @@ use Rattle.amqp_performatives.specs.declared.transfer.Transfer.{Transfer}
 use Rattle.amqp_session.specs.declared.session.LeftDelivery.{LeftDelivery}
 use Rattle.amqp_session.specs.declared.session.LinkInput.{LinkInput}
 use Rattle.amqp_session.specs.declared.session.LinkInput.TheVariants as input
-use Rattle.amqp_link_calls.specs.Answering.{answers_taken}
-use Rattle.amqp_link_calls.specs.Called.{Called}
-use Rattle.amqp_link_calls.specs.Called as called
-use Rattle.amqp_link_calls.specs.Hearing as hears
+use Rattle.amqp_links.specs.amqp_link_calls.Answering.{answers_taken}
+use Rattle.amqp_links.specs.amqp_link_calls.Called.{Called}
+use Rattle.amqp_links.specs.amqp_link_calls.Called as called
+use Rattle.amqp_links.specs.amqp_link_calls.Hearing as hears
 use Rattle.amqp_session_links.specs.Claims.{parted, joined}
 use Rattle.amqp_session_links.specs.Numbers as numbers
 use Rattle.amqp_session_links.specs.Incoming.{kept, kept_at}

@@ -6,8 +6,8 @@ use Rattle.std.proofs.lemmas.List.{append-nil}
 use Rattle.std.proofs.lemmas.List.Elements.{filter-append}
 use Rattle.amqp_frames.specs.declared.body.FrameBody.{FrameBody}
 use Rattle.amqp_parts.specs.declared.part.Part.{Part}
-use Rattle.amqp_link_calls.specs.Called.{Called}
-use Rattle.amqp_link_calls.specs.Side.{Side}
+use Rattle.amqp_links.specs.amqp_link_calls.Called.{Called}
+use Rattle.amqp_links.specs.amqp_link_calls.Side.{Side}
 use Rattle.amqp_links.specs.Parts.{Told}
 use Rattle.amqp_links.specs.State.{link_of}
 use Rattle.amqp_sender.specs.Sender.{State as SenderState}

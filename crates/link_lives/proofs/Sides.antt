@@ -26,13 +26,13 @@ use Rattle.amqp_link_words.specs.declared.link_reply.LinkReply.TheVariants as re
 use Rattle.amqp_link_words.specs.declared.regulation.Regulation.{Regulation}
 use Rattle.amqp_link_words.specs.declared.regulation.Regulation.TheVariants as regulation
 use Rattle.amqp_receiver.specs.AutoAccept.{auto_accepted}
-use Rattle.amqp_link_calls.specs.Calling.{sends, having_told, having_received, TellsReceived, Receives, disposes, sets_credit}
-use Rattle.amqp_link_calls.specs.Disposers.{disposes_by}
-use Rattle.amqp_link_calls.specs.Leaving.{closes, closed_unless, credit_taken, receiver_closed, closed_side}
-use Rattle.amqp_link_calls.specs.Regulating.{regulating, regulates}
-use Rattle.amqp_link_calls.specs.Replies.{terminal_of}
-use Rattle.amqp_link_calls.specs.Side as side
-use Rattle.amqp_link_calls.specs.Side.{Side, Sender, Receiver, link_of}
+use Rattle.amqp_links.specs.amqp_link_calls.Calling.{sends, having_told, having_received, TellsReceived, Receives, disposes, sets_credit}
+use Rattle.amqp_links.specs.amqp_link_calls.Disposers.{disposes_by}
+use Rattle.amqp_links.specs.amqp_link_calls.Leaving.{closes, closed_unless, credit_taken, receiver_closed, closed_side}
+use Rattle.amqp_links.specs.amqp_link_calls.Regulating.{regulating, regulates}
+use Rattle.amqp_links.specs.amqp_link_calls.Replies.{terminal_of}
+use Rattle.amqp_links.specs.amqp_link_calls.Side as side
+use Rattle.amqp_links.specs.amqp_link_calls.Side.{Side, Sender, Receiver, link_of}
 use Rattle.session_laws.specs.Sending as sending
 use Rattle.session_laws.specs.Messages.{Message}
 use Rattle.session_laws.specs.Receiving as receiving

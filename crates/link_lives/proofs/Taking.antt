@@ -6,10 +6,10 @@ use Rattle.amqp_frames.specs.declared.body.FrameBody.{FrameBody}
 use Rattle.amqp_link_tables.specs.declared.error.AllocLinkError.{AllocLinkError}
 use Rattle.amqp_link_tables.specs.declared.error.AllocLinkError.TheVariants as full
 use Rattle.amqp_link_tables.specs.Calls as table
-use Rattle.amqp_link_calls.specs.Answering.{answers_taken}
-use Rattle.amqp_link_calls.specs.Called.{Called}
-use Rattle.amqp_link_calls.specs.Leaving.{wants_handle, handle_given, handle_refused}
-use Rattle.amqp_link_calls.specs.Side.{role_of}
+use Rattle.amqp_links.specs.amqp_link_calls.Answering.{answers_taken}
+use Rattle.amqp_links.specs.amqp_link_calls.Called.{Called}
+use Rattle.amqp_links.specs.amqp_link_calls.Leaving.{wants_handle, handle_given, handle_refused}
+use Rattle.amqp_links.specs.amqp_link_calls.Side.{role_of}
 use Rattle.amqp_link_words.specs.declared.link_reply.LinkReply.{LinkReply}
 use Rattle.amqp_session_links.specs.declared.place.Claim.{Claim}
 use Rattle.amqp_session_links.specs.declared.place.Claim.TheVariants.{Handle, Refused}

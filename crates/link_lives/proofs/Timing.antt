@@ -3,11 +3,11 @@ use Rattle.std.specs.Prelude.{◌≡◌, ℕ, Bool, true, false, List, [], ◌�
 use Rattle.std.proofs.Common.{sym, ◌∙◌, ap}
 use Rattle.std.proofs.lemmas.List.{append-nil}
 use Rattle.amqp_sender.specs.declared.sender.DeliveryToken.{DeliveryToken}
-use Rattle.amqp_link_calls.specs.Answering as known
-use Rattle.amqp_link_calls.specs.Called.{Called, awaits_outcome}
-use Rattle.amqp_link_calls.specs.Calling.{sends, token_of, having_sent, outcome_asked, outcome_given_up}
-use Rattle.amqp_link_calls.specs.Leaving.{awaits_part, part_given_up}
-use Rattle.amqp_link_calls.specs.Replies.{is_pending}
+use Rattle.amqp_links.specs.amqp_link_calls.Answering as known
+use Rattle.amqp_links.specs.amqp_link_calls.Called.{Called, awaits_outcome}
+use Rattle.amqp_links.specs.amqp_link_calls.Calling.{sends, token_of, having_sent, outcome_asked, outcome_given_up}
+use Rattle.amqp_links.specs.amqp_link_calls.Leaving.{awaits_part, part_given_up}
+use Rattle.amqp_links.specs.amqp_link_calls.Replies.{is_pending}
 use Rattle.amqp_link_words.specs.declared.link_call.Sendable.{Sendable}
 use Rattle.amqp_link_words.specs.declared.link_reply.LinkReply.{LinkReply}
 use Rattle.amqp_link_words.specs.declared.link_reply.LinkReply.TheVariants as reply

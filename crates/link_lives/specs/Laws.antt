@@ -1,7 +1,7 @@
 -- The lives of links among all links of an end (OASIS AMQP 1.0, part 2, section 2.6).
 use Rattle.std.specs.Prelude.{◌≡◌, ℕ, List, ◌++◌, Some}
-use Rattle.amqp_link_calls.specs.Called.{Called}
-use Rattle.amqp_link_calls.specs.Side.{Sender, Receiver}
+use Rattle.amqp_links.specs.amqp_link_calls.Called.{Called}
+use Rattle.amqp_links.specs.amqp_link_calls.Side.{Sender, Receiver}
 use Rattle.amqp_links.specs.State.{State, link_of}
 use Rattle.amqp_receiver.specs.Receiver.{State as ReceiverState}
 use Rattle.amqp_sender.specs.Sender.{State as SenderState}

@@ -4,8 +4,8 @@ use Rattle.amqp_frames.specs.declared.body.FrameBody.{FrameBody}
 use Rattle.amqp_parts.specs.declared.part.Part.{Part}
 use Rattle.amqp_receiver.specs.Receiver.{State as ReceiverState}
 use Rattle.amqp_sender.specs.Sender.{State as SenderState}
-use Rattle.amqp_link_calls.specs.Called.{Called}
-use Rattle.amqp_link_calls.specs.Side.{Side, Sender, Receiver}
+use Rattle.amqp_links.specs.amqp_link_calls.Called.{Called}
+use Rattle.amqp_links.specs.amqp_link_calls.Side.{Side, Sender, Receiver}
 use Rattle.session_laws.specs.Messages.{Message}
 use Rattle.session_laws.specs.Sending as sending
 use Rattle.session_laws.specs.Receiving as receiving

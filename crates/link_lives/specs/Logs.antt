@@ -1,7 +1,7 @@
 -- What all links of an end tell, one after another (OASIS AMQP 1.0, part 2, section 2.6).
 use Rattle.std.specs.Prelude.{◌≡◌, ℕ, nat_eq, Bool, false, List, [], ◌∷◌, ◌++◌, flat_map, Option, Some, None, if◌then◌else◌}
 use Rattle.amqp_parts.specs.declared.part.Part.{Part}
-use Rattle.amqp_link_calls.specs.Called.{Called}
+use Rattle.amqp_links.specs.amqp_link_calls.Called.{Called}
 use Rattle.amqp_session_links.specs.declared.place.WaitingAccept.{WaitingAccept}
 use Rattle.amqp_session_links.specs.State.{State as Place}
 use Rattle.amqp_links.specs.Parts.{Told, Frame, Astray}

@@ -10,3 +10,5 @@ pub mod ScramBodies
 pub mod ScramClient
 pub mod ScramServer
 pub mod UserInfo
+pub use Rattle.amqp_sasl_bodies.specs as amqp_sasl_bodies
+pub use Rattle.amqp_sasl_bodies.specs.amqp_value

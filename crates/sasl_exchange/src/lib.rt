@@ -3,6 +3,7 @@
 #![tactic(auto)]
 
 pub use acceptor::SaslAcceptor;
+pub use amqp_sasl_bodies;
 pub use client::ClientExchange;
 pub use error::NegotiationError;
 pub use exchange::{Exchange, Turn, Verdict};

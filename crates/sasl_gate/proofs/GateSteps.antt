@@ -1,8 +1,8 @@
 -- The steps of a negotiation.
 use Rattle.std.proofs.Common.{◌≡◌, ◌<◌, ◌≤◌, inl, inr, ℕ, List, [], ◌∷◌, ◌++◌, length, take, drop, Some, None, Result, Ok, Err, refl, sym, ap, ◌∙◌, subst}
-use Rattle.amqp_sasl_bodies.specs.declared.sasl_body.SaslBody.{SaslBody}
-use Rattle.amqp_sasl_bodies.specs.declared.sasl_code.SaslCode.{SaslCode}
-use Rattle.amqp_sasl_bodies.specs.SaslBytes.{SpellsSasl}
+use Rattle.sasl_exchange.specs.amqp_sasl_bodies.declared.sasl_body.SaslBody.{SaslBody}
+use Rattle.sasl_exchange.specs.amqp_sasl_bodies.declared.sasl_code.SaslCode.{SaslCode}
+use Rattle.sasl_exchange.specs.amqp_sasl_bodies.SaslBytes.{SpellsSasl}
 use Rattle.amqp_wire.specs.declared.link.Link.{Ghosts}
 use Rattle.amqp_wire.specs.declared.link.Stop.{Stop}
 use Rattle.amqp_wire.specs.declared.link.Stop.TheVariants.{Empty, End, Failed as FailedRead}

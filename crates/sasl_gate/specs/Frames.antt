@@ -1,10 +1,10 @@
 -- The frames of a negotiation (OASIS AMQP 1.0, part 5, section 5.3.1; part 2, section 2.3).
 use Rattle.std.specs.Prelude.{◌≡◌, ℕ, List, [], ◌∷◌, ◌++◌, ◌≤◌, length, drop, flat_map, All}
-use Rattle.amqp_sasl_bodies.specs.declared.sasl_body.SaslBody.{SaslBody}
-use Rattle.amqp_sasl_bodies.specs.SaslBytes.{SpellsSasl}
+use Rattle.sasl_exchange.specs.amqp_sasl_bodies.declared.sasl_body.SaslBody.{SaslBody}
+use Rattle.sasl_exchange.specs.amqp_sasl_bodies.SaslBytes.{SpellsSasl}
 use Rattle.amqp_data.specs.Data.{item, no_items, items_depth}
-use Rattle.amqp_value.specs.Canonical.{canonical_items, AreSized}
-use Rattle.amqp_sasl_bodies.specs.SaslBody.{of_sasl_body}
+use Rattle.sasl_exchange.specs.amqp_value.Canonical.{canonical_items, AreSized}
+use Rattle.sasl_exchange.specs.amqp_sasl_bodies.SaslBody.{of_sasl_body}
 use Rattle.amqp_wire.specs.Frame.{HasBody, frame_of}
 
 -- the protocol header of the SASL layer (part 5, section 5.3.2)

@@ -5,9 +5,10 @@
 pub use gate::client::{ClientGate, poll_client};
 pub use gate::negotiation::{GatePoll, SASL_HEADER};
 pub use gate::server::{ServerGate, poll_server};
+pub use sasl_exchange;
 pub use sasl_exchange::{
     ClientExchange, InitCheck, InitClient, InitServer, NegotiationError, SaslAcceptor, SaslProfile,
-    ScramClientExchange, ScramServerExchange, ServerExchange,
+    ScramClientExchange, ScramServerExchange, ServerExchange, amqp_sasl_bodies,
 };
 pub use sasl_scram::{
     AnyScramClient, AnyScramServer, Challenge, ClientAnswer, ClientPhase, NoUsers, OneUser,

@@ -8,14 +8,14 @@ use Rattle.amqp_peer.specs.declared.peer.PeerKind.{PeerKind}
 use Rattle.amqp_session_world.specs.Lives.{unlived}
 use Rattle.amqp_serve.specs.Deeds.{deeds_in}
 use Rattle.amqp_serve.specs.Endings.{WasServed, ServedAndTold}
-use Rattle.serve_laws.specs.History.{IsFresh, accepts}
-use Rattle.serve_laws.specs.Runs.{served_life}
-use Rattle.serve_laws.proofs.Deeds.{lives_do}
-use Rattle.serve_laws.proofs.Runs.{served_run}
-use Rattle.listen_laws.specs.Carried.{AreAnew, carried}
-use Rattle.listen_laws.specs.Ended.{ended_in}
-use Rattle.listen_laws.specs.Laws.{IsIdle}
-use Rattle.listen_laws.proofs.Runs.{served_came, served_whole}
+use Rattle.served_connection.specs.ServeLaws.History.{IsFresh, accepts}
+use Rattle.served_connection.specs.ServeLaws.Runs.{served_life}
+use Rattle.served_connection.proofs.ServeLaws.Deeds.{lives_do}
+use Rattle.served_connection.proofs.ServeLaws.Runs.{served_run}
+use Rattle.served_connection.specs.ListenLaws.Carried.{AreAnew, carried}
+use Rattle.served_connection.specs.ListenLaws.Ended.{ended_in}
+use Rattle.served_connection.specs.ListenLaws.Laws.{IsIdle}
+use Rattle.served_connection.proofs.ListenLaws.Runs.{served_came, served_whole}
 use Rattle.served_connection.specs.Bytes.{Served}
 
 -- the deeds of its life are those of its turns

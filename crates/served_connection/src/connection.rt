@@ -4,7 +4,7 @@ ghost use Rattle.amqp_served.specs.Count.{IsUnwritten};
 ghost use Rattle.amqp_serve.specs.Endings.{HasFault, IsSound, ServedAndTold};
 ghost use Rattle.amqp_serve.specs.Ran.{Connected};
 ghost use Rattle.amqp_peer.specs.declared.peer.PeerKind.{PeerKind};
-ghost use Rattle.serve_laws.specs.History.{IsFresh};
+ghost use Rattle.served_connection.specs.ServeLaws.History.{IsFresh};
 ghost use Rattle.served_connection.specs.Bytes.{Served, Sent};
 
 use amqp_end::End;
@@ -27,6 +27,7 @@ pub fn serve_on<R: Wait + AllocGlobal, L: WaitLink, K: Sink>(
     ensures usage { ¬ (result ≡ Ending.Usage) }
     ensures unwritten { IsUnwritten result → K.written sink.new ≡ K.written sink.old }
     ensures read_fault { result ≡ Ending.ReadFault → HasFault L.Link end.new }
+    ensures peer_fault { result ≡ Ending.PeerFault → IsSound L.Link end.new }
     ensures later { K.faults sink.old ≤ K.faults sink.new }
 {
     amqp_serve::serve_on(rt, end, sink)
@@ -45,6 +46,7 @@ pub fn connect_on<R: Wait + AllocGlobal, L: WaitLink>(
     ensures sound { result ≡ Ending.Done → IsSound L.Link end.new }
     ensures usage { ¬ (result ≡ Ending.Usage) }
     ensures read_fault { result ≡ Ending.ReadFault → HasFault L.Link end.new }
+    ensures peer_fault { result ≡ Ending.PeerFault → IsSound L.Link end.new }
 {
     amqp_serve::connect_on(rt, end, count)
 }

@@ -5,3 +5,4 @@ pub mod Steps
 pub mod Answering
 pub mod Deeds
 pub mod Traces
+pub mod Given

@@ -1,6 +1,5 @@
 -- The answers of two ends to calls for sessions, step after step.
-use Rattle.std.proofs.Common.{◌≡◌, ◌∙◌, ap, refl, sym, subst, append_assoc, Bool, true, false, List, [], ◌∷◌, ◌++◌, map, length, ℕ, All}
-use Rattle.std.proofs.lemmas.List.{append-nil, map-append}
+use Rattle.std.proofs.Common.{◌≡◌, ap, sym, subst, List, [], ◌∷◌, ◌++◌, map, length, ℕ}
 use Rattle.std.proofs.lemmas.List.Elements.{All-nil, All-append}
 use Rattle.std.specs.Map.{values_of}
 use Rattle.amqp_wire.specs.Piped.{Piped}
@@ -14,19 +13,20 @@ use Rattle.amqp_calls.specs.declared.trace.Entry.{Entry}
 use Rattle.amqp_links.specs.State.{seen as linked}
 use Rattle.amqp_session.specs.State.{Framed}
 use Rattle.amqp_sessions.specs.declared.sessions.Sessions.{Sessions}
-use Rattle.amqp_sessions.specs.State.{State, seen, none_begun}
+use Rattle.amqp_sessions.specs.State.{State, seen}
 use Rattle.amqp_world.specs.History.{is_same}
 use Rattle.amqp_world.specs.Turn.{piping}
 use Rattle.amqp_end.specs.declared.end.End.{End}
-use Rattle.amqp_end.specs.Deeds.{Deed, framed_of, given_of, given_by, told_by}
+use Rattle.amqp_end.specs.Deeds.{Deed, framed_of, given_by, told_by}
 use Rattle.amqp_end.proofs.Goes.{told_then}
 use Rattle.amqp_session_world.specs.Turn.{View, count_of, given, marked, named, Turned, IsTurnAt, Turns, IsFresh, IsStart, AreMade}
 use Rattle.amqp_session_world.specs.Lives.{Life, unlived, lived, lived_if, done_at, done, life_of, told_at}
 use Rattle.amqp_session_world.specs.Carried.{life_in, AreCarried}
-use Rattle.session_answers.specs.Standing.{Past, nothing, AllStand, StandsAs, AreStanding}
-use Rattle.session_answers.specs.Passing.{read_of, read_by, accepted_of, accepted_by, endings_of, endings_by, behind}
+use Rattle.session_answers.specs.Past.{Past, nothing}
+use Rattle.session_answers.specs.Standing.{AllStand, StandsAs, AreStanding}
+use Rattle.session_answers.specs.Passing.{behind}
 use Rattle.session_answers.specs.Laws.{DeedsStand, TraceStands}
-use Rattle.session_answers.proofs.Parts.{Grows, answers_grow}
+use Rattle.session_answers.proofs.Parts.{answers_grow}
 use Rattle.session_answers.proofs.Deeds.{none_stands, answers_stand, grows_behind, given_both, behind_both}
 
 -- an end whose life began with nothing: what its sessions have put out, and what stands

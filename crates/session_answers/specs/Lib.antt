@@ -1,3 +1,5 @@
+pub mod Past
+pub mod Causes
 pub mod Standing
 pub mod Passing
 pub mod Laws

@@ -1,5 +1,5 @@
 -- No session writes more Transfers than the window of the other allows.
-use Rattle.std.specs.Prelude.{◌≡◌, ◌⊎◌, ℕ, suc, ◌+◌, ◌-◌, ◌<◌, ◌≤◌, true, false, List, [], ◌∷◌, length, Option, Some, unwrap_or, refl}
+use Rattle.std.specs.Prelude.{◌≡◌, ◌⊎◌, ℕ, suc, ◌+◌, ◌-◌, ◌<◌, ◌≤◌, true, false, List, [], ◌∷◌, ◌++◌, length, All, Option, Some, unwrap_or, refl}
 use Rattle.std.proofs.Common.{inl, inr, sym, ◌∙◌, ap, subst, arith}
 use Rattle.std.proofs.lemmas.Bool.{cases_lt}
 use Rattle.amqp_frames.specs.declared.body.FrameBody.{FrameBody}
@@ -11,9 +11,9 @@ use Rattle.session_laws.specs.Holding.{after_all, transfers}
 use Rattle.window_laws.specs.Starting.{session_of, reads, writes, window, first_number}
 use Rattle.window_laws.specs.Announcing.{Announces}
 use Rattle.window_laws.specs.Counting.{number_at, count, InOrder, NamesNext, Numbers, ReportsWithin}
-use Rattle.window_laws.specs.Keeping.{KeepsTheWindow, IsNotBegin, WaitsForTheBegin}
+use Rattle.window_laws.specs.Keeping.{KeepsTheWindow, KeepsWhatItHears, IsNotBegin, WaitsForTheBegin}
 use Rattle.window_laws.proofs.Walks.{View, is_mapped, Walks, counted, lives}
-use Rattle.window_laws.proofs.Orders.{counted_all, order_first, order_both, Each, all_each}
+use Rattle.window_laws.proofs.Orders.{counted_all, order_first, order_both, Each, each_all, all_each}
 use Rattle.window_laws.proofs.Announces.{announces_its_window}
 use Rattle.window_laws.proofs.Counts.{plain_push, flow_push, transfer_push, next_number, first_is, numbers_its_transfers, reports_no_more}
 
@@ -105,19 +105,28 @@ keeps first size most short few = record {
 zero_within : (m : ℕ) → 0 ≤ m
 zero_within m = omega arith
 
-pub keeps_the_window : KeepsTheWindow
-keeps_the_window t ns u js p short few =
+pub keeps_what_it_hears : KeepsWhatItHears
+keeps_what_it_hears t ns size most short few announced reported =
     let first = first_number t in
-    let size = window u in
-    let most = count (reads u js) in
-    let numbers : Numbers first (reads u js) = order_first (NamesNext first) 0 (reads u js) p.unread (subst (λ (xs : List Framed). Numbers first xs) (sym p.hears) (numbers_its_transfers t ns short)) in
-    let announced = all_each (Announces size) 0 (writes u js) (announces_its_window u js).announced in
-    let reported = all_each (ReportsWithin first most) 0 (writes u js) (reports_no_more u js first numbers) in
-    let all : InOrder (Grants first size most) 0 (writes u js) = order_both (Each (Announces size)) (Each (ReportsWithin first most)) (Grants first size most) 0 (writes u js) (λ m x h k. (h, k)) announced reported in
-    let known : InOrder (Grants first size most) 0 (reads t ns) = order_first (Grants first size most) 0 (reads t ns) p.unanswered (subst (λ (xs : List Framed). InOrder (Grants first size most) 0 xs) (sym p.answers) all) in
+    let known : InOrder (Grants first size most) 0 (reads t ns) =
+    order_both (Each (Announces size)) (Each (ReportsWithin first most)) (Grants first size most) 0 (reads t ns) (λ m x h k. (h, k))
+    (all_each (Announces size) 0 (reads t ns) announced) (all_each (ReportsWithin first most) 0 (reads t ns) reported) in
     let e = first_is first short in
     let h = lives (Grants first size most) (Open first size most) (keeps first size most short few) t ns (λ channel remote. record { starts_at = refl; next = e; room = zero_within (most + size) }) known in
     subst (λ (n : ℕ). n ≤ most + size) (counted_all (writes t ns)) (less_room (after_all (session_of t) ns).windows.allowance (counted 0 (writes t ns)) (most + size) h.room)
+
+-- what holds of each frame that was written holds of those that are read
+front_all : (P : FrameBody → Type 0) (xs later ys : List Framed) → xs ++ later ≡ ys → All (λ (x : Framed). P x.body) ys → All (λ (x : Framed). P x.body) xs
+front_all P xs later ys e h = each_all P 0 xs (order_first (Each P) 0 xs later (subst (λ (zs : List Framed). InOrder (Each P) 0 zs) (sym e) (all_each P 0 ys h)))
+
+pub keeps_the_window : KeepsTheWindow
+keeps_the_window t ns u js p short few =
+    let first = first_number t in
+    let most = count (reads u js) in
+    let numbers : Numbers first (reads u js) = order_first (NamesNext first) 0 (reads u js) p.unread (subst (λ (xs : List Framed). Numbers first xs) (sym p.hears) (numbers_its_transfers t ns short)) in
+    keeps_what_it_hears t ns (window u) most short few
+    (front_all (Announces (window u)) (reads t ns) p.unanswered (writes u js) p.answers (announces_its_window u js).announced)
+    (front_all (ReportsWithin first most) (reads t ns) p.unanswered (writes u js) p.answers (reports_no_more u js first numbers))
 
 -- ---- before a Begin
 

@@ -1,11 +1,12 @@
 -- No session writes more Transfers than the window of the other allows (OASIS AMQP 1.0, part 2, section 2.5.6).
-use Rattle.std.specs.Prelude.{◌≡◌, ◌+◌, ◌<◌, ◌≤◌, List, [], ◌∷◌, ◌++◌, All}
+use Rattle.std.specs.Prelude.{◌≡◌, ℕ, ◌+◌, ◌<◌, ◌≤◌, List, [], ◌∷◌, ◌++◌, All}
 use Rattle.amqp_frames.specs.declared.body.FrameBody.{FrameBody}
 use Rattle.amqp_frames.specs.declared.body.FrameBody.TheVariants as b
 use Rattle.amqp_session.specs.State.{Framed}
 use Rattle.session_laws.specs.Holding.{Move, transfers}
 use Rattle.window_laws.specs.Starting.{Start, reads, writes, window, first_number}
-use Rattle.window_laws.specs.Counting.{count}
+use Rattle.window_laws.specs.Announcing.{Announces}
+use Rattle.window_laws.specs.Counting.{count, ReportsWithin}
 
 -- each of two sessions has read a front of what the other has written
 pub record Hear (t : Start) (ns : List Move) (u : Start) (js : List Move) : Type 0 where
@@ -20,6 +21,16 @@ abbrev pub KeepsTheWindow : Type 0
 KeepsTheWindow =
     (t : Start) (ns : List Move) (u : Start) (js : List Move) → Hear t ns u js → first_number t < 4294967296
     → count (reads u js) + window u < 4294967296 → count (writes t ns) ≤ count (reads u js) + window u
+
+-- Whatever a session goes through and reads: where each Begin and each Flow of that announces this window, and no Flow
+-- reports more than so many Transfers, it has written no more than those and the window, as long as that is less than
+-- 2^32.
+abbrev pub KeepsWhatItHears : Type 0
+KeepsWhatItHears =
+    (t : Start) (ns : List Move) (size most : ℕ) → first_number t < 4294967296 → most + size < 4294967296
+    → All (λ (x : Framed). Announces size x.body) (reads t ns)
+    → All (λ (x : Framed). ReportsWithin (first_number t) most x.body) (reads t ns)
+    → count (writes t ns) ≤ most + size
 
 -- a move of the one session, or of the other
 pub data Step : Type 0 where

@@ -3,7 +3,7 @@ ghost use Rattle.window_laws.specs.Announcing.{AnnouncesItsWindow};
 ghost use Rattle.window_laws.specs.Example.{WindowIsMet};
 ghost use Rattle.window_laws.specs.Counting.{NumbersItsTransfers, ReportsWhatItHeard, ReportsNoMore};
 ghost use Rattle.window_laws.specs.Granting.{WritesWhatIsGranted};
-ghost use Rattle.window_laws.specs.Keeping.{KeepsTheWindow, KeepsTheWindowForEver, WaitsForTheBegin};
+ghost use Rattle.window_laws.specs.Keeping.{KeepsTheWindow, KeepsTheWindowForEver, KeepsWhatItHears, WaitsForTheBegin};
 
 #[tactic(auto, using(crate::proofs::Announces::announces_its_window))]
 /// Whatever a session goes through from its begin on: its incoming window stays as it was built, and each Begin and
@@ -45,6 +45,14 @@ pub fn keeps_the_window()
     ensures within { KeepsTheWindow }
     ensures for_ever { KeepsTheWindowForEver }
     ensures first { WaitsForTheBegin }
+{}
+
+/// Whatever a session goes through from its begin on, and whoever its peer is: where each Begin and each Flow that it
+/// reads announces one window, and no Flow reports more than so many Transfers, it has written no more than those and
+/// that window. The premises: the number of the first Transfer has 32 bits, and those with the window are fewer than
+/// 2^32.
+pub fn keeps_what_it_hears()
+    ensures { KeepsWhatItHears }
 {}
 
 /// There are two sessions that meet these premises: one fills the window of the other, waits while it is full, and

@@ -2,7 +2,7 @@
 use Rattle.amqp_links.specs.State.{no_links}
 use Rattle.amqp_world.specs.History.{other}
 use Rattle.amqp_session_world.specs.Turn.{accepts}
-use Rattle.end_lives.proofs.Between.{messages_pass}
+use Rattle.world_lives.proofs.EndLives.Between.{messages_pass}
 use Rattle.world_lives.specs.Lived.{sessions_at, sessions_by, links_at, links_by, life}
 use Rattle.world_lives.specs.Hearing.{Listens, Speaks}
 use Rattle.world_lives.specs.Arriving.{MessagesArrive, LinksCarry}

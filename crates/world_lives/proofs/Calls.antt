@@ -15,7 +15,7 @@ use Rattle.link_lives.proofs.Tables.{flip}
 use Rattle.link_lives.proofs.Runs.{links_live}
 use Rattle.session_lives.specs.Channels.{AreApart}
 use Rattle.session_lives.specs.Laws.{SessionLives}
-use Rattle.end_lives.proofs.Receivers.{receivers_pass}
+use Rattle.world_lives.proofs.EndLives.Receivers.{receivers_pass}
 use Rattle.world_lives.specs.Lived.{Both, sessions_by, links_by, Moment}
 use Rattle.world_lives.specs.Naming.{asked_of, asked_in, NamesAreNew, SendersGo, ReceiversGo}
 use Rattle.world_lives.proofs.Naming.{sessions_are_new}
@@ -80,11 +80,11 @@ none_asked n (Knows at ∷ ds) far = (tt, none_asked n ds far)
 none_asked n (Looks ∷ ds) far = (tt, none_asked n ds far)
 none_asked n (Tells ∷ ds) far = (tt, none_asked n ds far)
 
-asked_more : (ds es : List Deed) → asked_in (ds ++ es) ≡ asked_in ds ++ asked_in es
+pub asked_more : (ds es : List Deed) → asked_in (ds ++ es) ≡ asked_in ds ++ asked_in es
 asked_more [] es = refl
 asked_more (d ∷ ds) es = ap (λ xs. asked_of d ++ xs) (asked_more ds es) ∙ sym (append_assoc (asked_of d) (asked_in ds) (asked_in es))
 
-links_by_more : (xs ys : List Both) → links_by (xs ++ ys) ≡ links_by xs ++ links_by ys
+pub links_by_more : (xs ys : List Both) → links_by (xs ++ ys) ≡ links_by xs ++ links_by ys
 links_by_more xs ys = flat_map-append (λ (x : Both). x.links) xs ys
 
 -- a link that stands was asked for by a call of its name

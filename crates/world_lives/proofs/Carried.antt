@@ -7,7 +7,7 @@ use Rattle.amqp_end.specs.Deeds as end
 use Rattle.amqp_end.specs.Deeds.{framed_of}
 use Rattle.amqp_end.specs.Moves as move
 use Rattle.session_lives.specs.Deeds.{Deed, read_of, read_in, wrote_of, wrote_in}
-use Rattle.end_lives.specs.Ends.{of_move, sessions_of, sessions_in}
+use Rattle.world_lives.specs.EndLives.Ends.{of_move, sessions_of, sessions_in}
 
 pub read_more : (ds es : List Deed) → read_in (ds ++ es) ≡ read_in ds ++ read_in es
 read_more [] es = refl

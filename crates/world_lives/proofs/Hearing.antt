@@ -20,10 +20,10 @@ use Rattle.amqp_sessions.specs.Parts.{EndpointState}
 use Rattle.amqp_sessions.specs.State.{State as Sessions, none_begun}
 use Rattle.amqp_end.specs.Deeds.{framed_of, heard_by, given_by}
 use Rattle.amqp_world.specs.History.{other}
-use Rattle.amqp_end_streams.specs.Streams.{IsFront as IsFrontOf}
+use Rattle.amqp_ends.specs.Streams.{IsFront as IsFrontOf}
 use Rattle.amqp_session_world.specs.Carried.{AreCarried, life_in}
 use Rattle.amqp_links.specs.State.{State as Links, no_links}
-use Rattle.amqp_session_world.specs.Turn.{accepts}
+use Rattle.amqp_session_world.specs.Turn.{AreMade, accepts}
 use Rattle.session_laws.specs.Handing.{heard}
 use Rattle.session_laws.specs.Holding.{after_all, handed_all, transfers, written}
 use Rattle.session_laws.specs.Messages.{transfer_in, on as on_handle}
@@ -44,9 +44,9 @@ use Rattle.world_lives.proofs.Carried.{read_more, wrote_more, life_read, life_wr
 -- ---- fronts
 
 -- the one begins the other
-record Begins {X : Type 0} (some all : List X) : Type 0 where
-  later : List X
-  whole : some ++ later ≡ all
+pub record Begins {X : Type 0} (some all : List X) : Type 0 where
+  pub later : List X
+  pub whole : some ++ later ≡ all
 
 begins_then : {X : Type 0} (xs ys zs : List X) → Begins xs ys → Begins ys zs → Begins xs zs
 begins_then xs ys zs p q = record { later = p.later ++ q.later; whole = sym (append_assoc xs p.later q.later) ∙ (ap (λ vs. vs ++ q.later) p.whole ∙ q.whole) }
@@ -160,10 +160,10 @@ as_read_all kind (x ∷ xs) = by (kind x.body) (as_read_all kind xs)
 
 -- ---- the Transfers on a handle
 
-abbrev on_it : ℕ → FrameBody → List Part
+abbrev pub on_it : ℕ → FrameBody → List Part
 on_it handle body = on_handle handle (transfer_in body)
 
-on_it_again : (handle : ℕ) (body : FrameBody) → on_it handle (read_again_body body) ≡ on_it handle body
+pub on_it_again : (handle : ℕ) (body : FrameBody) → on_it handle (read_again_body body) ≡ on_it handle body
 on_it_again handle (b.Open x) = refl
 on_it_again handle (b.Begin x) = refl
 on_it_again handle (b.Attach x) = refl
@@ -175,7 +175,7 @@ on_it_again handle (b.End x) = refl
 on_it_again handle (b.Close x) = refl
 on_it_again handle b.Empty = refl
 
-on_it_all : (handle : ℕ) (xs : List Framed) → said (on_it handle) xs ≡ on_handle handle (transfers xs)
+pub on_it_all : (handle : ℕ) (xs : List Framed) → said (on_it handle) xs ≡ on_handle handle (transfers xs)
 on_it_all handle [] = refl
 on_it_all handle (x ∷ xs) =
     ap (λ (ys : List Part). on_it handle x.body ++ ys) (on_it_all handle xs) ∙ sym (filter-append (λ (z : Part). nat_eq z.transfer.handle handle) (transfer_in x.body) (transfers xs))
@@ -183,20 +183,25 @@ on_it_all handle (x ∷ xs) =
 -- ---- both ends
 
 -- what the sessions of an end read came over the connection
-came : {X : Type 0} (f g : FrameBody → List X) → ((body : FrameBody) → f (read_again_body body) ≡ g body) → ((x : Begin) → g (b.Begin x) ≡ [])
-    → (c : ℕ) (e : Side) (steps : List Step) (entries : List Entry) (k : AreCarried steps entries)
-    → Begins (said f (on c (read_in (sessions_by (life e steps entries k.made))))) (said g (on c (wrote_in (sessions_by (life (other e) steps entries k.made)))))
-came {X} f g again none c e steps entries k =
-    let l = life_in e steps entries k.made in
-    let m = life_in (other e) steps entries k.made in
-    let r = heard_at e in
+pub came_by : {X : Type 0} (f g : FrameBody → List X) → ((body : FrameBody) → f (read_again_body body) ≡ g body) → ((x : Begin) → g (b.Begin x) ≡ [])
+    → (c : ℕ) (e : Side) (steps : List Step) (entries : List Entry) (m : AreMade steps entries)
+    → IsFrontOf (heard_by (life_in e steps entries m).deeds) (map amqp_again (others_of (given_by (life_in (other e) steps entries m).deeds)))
+    → Begins (said f (on c (read_in (sessions_by (life e steps entries m))))) (said g (on c (wrote_in (sessions_by (life (other e) steps entries m)))))
+came_by {X} f g again none c e steps entries m r =
+    let near = life_in e steps entries m in
+    let far = life_in (other e) steps entries m in
     record {
       later = said f (on c (map framed_of r.0));
       whole =
-          ap (λ (xs : List Framed). said f (on c xs) ++ said f (on c (map framed_of r.0))) (ap read_in (life_sessions e steps entries k.made) ∙ life_read l.deeds)
-          ∙ (carried f g again none c (given_by m.deeds) (heard_by l.deeds) r.0 r.1
-          ∙ ap (λ (xs : List Framed). said g (on c xs)) (sym (ap wrote_in (life_sessions (other e) steps entries k.made) ∙ life_wrote m.deeds)));
+          ap (λ (xs : List Framed). said f (on c xs) ++ said f (on c (map framed_of r.0))) (ap read_in (life_sessions e steps entries m) ∙ life_read near.deeds)
+          ∙ (carried f g again none c (given_by far.deeds) (heard_by near.deeds) r.0 r.1
+          ∙ ap (λ (xs : List Framed). said g (on c xs)) (sym (ap wrote_in (life_sessions (other e) steps entries m) ∙ life_wrote far.deeds)));
     }
+
+came : {X : Type 0} (f g : FrameBody → List X) → ((body : FrameBody) → f (read_again_body body) ≡ g body) → ((x : Begin) → g (b.Begin x) ≡ [])
+    → (c : ℕ) (e : Side) (steps : List Step) (entries : List Entry) (k : AreCarried steps entries)
+    → Begins (said f (on c (read_in (sessions_by (life e steps entries k.made))))) (said g (on c (wrote_in (sessions_by (life (other e) steps entries k.made)))))
+came {X} f g again none c e steps entries k = came_by f g again none c e steps entries k.made (heard_at e)
   where
     heard_at : (d : Side) → IsFrontOf (heard_by (life_in d steps entries k.made).deeds) (map amqp_again (others_of (given_by (life_in (other d) steps entries k.made).deeds)))
     heard_at Client = k.client.heard

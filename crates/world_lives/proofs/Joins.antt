@@ -12,8 +12,8 @@ use Rattle.link_lives.specs.Deeds as links
 use Rattle.link_lives.specs.Deeds.{handed, all_handed}
 use Rattle.session_lives.specs.Deeds as sessions
 use Rattle.session_lives.specs.Deeds.{gave_of, gave_in}
-use Rattle.end_lives.specs.Ends.{sessions_of, sessions_in, links_of, heard_of, heard_in, taken_of, taken_in, Together}
-use Rattle.end_lives.proofs.Deeds.{ends_do}
+use Rattle.world_lives.specs.EndLives.Ends.{sessions_of, sessions_in, links_of, heard_of, heard_in, taken_of, taken_in, Together}
+use Rattle.world_lives.proofs.EndLives.Deeds.{ends_do}
 use Rattle.world_lives.specs.Lived.{Both, sessions_by, links_by, both_in}
 
 -- ---- lists of deeds

@@ -7,4 +7,11 @@ pub mod Alone
 pub mod Senders
 pub mod Naming
 pub mod Calls
+pub mod Awaiting
+pub mod Once
 pub mod Arriving
+pub mod EndLives
+pub mod WorldLinks
+pub mod OutcomeLives
+pub mod WordsCarry
+pub mod WorldWindows

@@ -18,7 +18,7 @@ use Rattle.amqp_session_world.specs.Turn.{View, Turned, IsTurnAt, Turns, IsFresh
 use Rattle.amqp_session_world.specs.Lives.{Life, unlived, lived_if, done_at, done, life_of}
 use Rattle.amqp_session_world.specs.Carried.{life_in}
 use Rattle.session_lives.specs.Deeds as sessions
-use Rattle.end_lives.specs.Ends.{sessions_in}
+use Rattle.world_lives.specs.EndLives.Ends.{sessions_in}
 use Rattle.world_lives.specs.Lived.{Both, sessions_by, end_at, sessions_at, links_at, both_turned, both_done_at, both_done, both_over, life, LifeGoes, LifeStops}
 use Rattle.world_lives.proofs.Joins.{Run, run_as, run_then, run_together, run_halves, end_run, end_sessions, sessions_by_more, newest_first}
 
@@ -79,7 +79,7 @@ turn_sessions ds Listener Listener name old step new entry t l e = after_turn ds
 
 -- ---- steps, one after another
 
-turns_run : (e : Side) (old : View) (ss : List Step) (new : View) (t : Turns old ss new) → Run (sessions_at e old) (links_at e old) (both_over e old ss new t) (sessions_at e new) (links_at e new)
+pub turns_run : (e : Side) (old : View) (ss : List Step) (new : View) (t : Turns old ss new) → Run (sessions_at e old) (links_at e old) (both_over e old ss new t) (sessions_at e new) (links_at e new)
 turns_run e old [] new t = (ap (sessions_at e) t, ap (links_at e) t)
 turns_run e old (s ∷ ss) new t =
     run_then (sessions_at e old) (sessions_at e t.0) (sessions_at e new) (links_at e old) (links_at e t.0) (links_at e new)
@@ -101,7 +101,7 @@ start_at : (e : Side) (w : View) → IsStart w → IsFresh e (end_at e w)
 start_at Client w s = s.client
 start_at Listener w s = s.listener
 
-life_run : (e : Side) (steps : List Step) (entries : List Entry) (m : AreMade steps entries) → Run none_begun (no_links (accepts e)) (life e steps entries m) (sessions_at e m.view) (links_at e m.view)
+pub life_run : (e : Side) (steps : List Step) (entries : List Entry) (m : AreMade steps entries) → Run none_begun (no_links (accepts e)) (life e steps entries m) (sessions_at e m.view) (links_at e m.view)
 life_run e steps entries m =
     let f = start_at e m.first m.starts in
     run_as (sessions_at e m.first) none_begun (sessions_at e m.view) (sessions_at e m.view) (links_at e m.first) (no_links (accepts e)) (links_at e m.view) (links_at e m.view)

@@ -168,7 +168,7 @@ module _ (Q : ℕ → Type 0) where
 -- ---- names that are not used from then on
 
 -- a name is none of those
-abbrev IsFar : List ℕ → ℕ → Type 0
+abbrev pub IsFar : List ℕ → ℕ → Type 0
 IsFar ns n = AllByRecursion (λ m. nat_eq n m ≡ false) ns
 
 far_later : (xs ys : List ℕ) (n : ℕ) → IsFar (xs ++ ys) n → IsFar ys n
@@ -232,6 +232,24 @@ unfolding IsDistinct
 distinct_later [] ys k = k
 distinct_later (x ∷ xs) ys k = distinct_later xs ys k.1
 
+far_first : (xs ys : List ℕ) (n : ℕ) → IsFar (xs ++ ys) n → IsFar xs n
+far_first [] ys n h = tt
+far_first (x ∷ xs) ys n h = (h.0, far_first xs ys n h.1)
+
+pub distinct_first : (xs ys : List ℕ) → IsDistinct nat_eq (xs ++ ys) → IsDistinct nat_eq xs
+unfolding IsDistinct
+distinct_first [] ys k = tt
+distinct_first (x ∷ xs) ys k = (far_first xs ys x k.0, distinct_first xs ys k.1)
+
+-- a name that is used first is not used later
+pub far_made : (name : ℕ) (ns : List ℕ) → IsDistinct nat_eq (name ∷ ns) → IsFar ns name
+unfolding IsDistinct
+far_made name ns k = k.0
+
+pub later_distinct : (name : ℕ) (ns : List ℕ) → IsDistinct nat_eq (name ∷ ns) → IsDistinct nat_eq ns
+unfolding IsDistinct
+later_distinct name ns k = k.1
+
 -- ---- deeds, one after another
 
 -- behind deeds each name in the tables is none of those that are made later
@@ -252,14 +270,14 @@ named_run (d ∷ ds) ns old new did sound k o =
     let r = named_run ds ns did.0 new did.1.1 (one_sound d old did.0 did.1.0 fresh sound) (distinct_later (made_of d) all k2) next in
     record { new_names = (fresh, r.new_names); sound = r.sound; far = r.far }
 
-made_more : (ds es : List Deed) → made_in (ds ++ es) ≡ made_in ds ++ made_in es
+pub made_more : (ds es : List Deed) → made_in (ds ++ es) ≡ made_in ds ++ made_in es
 made_more [] es = refl
 made_more (d ∷ ds) es = ap (λ xs. made_of d ++ xs) (made_more ds es) ∙ sym (append_assoc (made_of d) (made_in ds) (made_in es))
 
 none_of : (Q : ℕ → Type 0) → AreOf Q none_begun
 none_of Q = record { standing = λ n e at. absurd cc; own = λ c n led. absurd cc; peer = λ c n led. absurd cc }
 
-others : (n : ℕ) (ds : List Deed) → IsFar (made_in ds) n → AreOther n ds
+pub others : (n : ℕ) (ds : List Deed) → IsFar (made_in ds) n → AreOther n ds
 others n [] far = tt
 others n (Begins name x channel limit ∷ ds) far = (far.0, others n ds far.1)
 others n (Accepts name x channel limit incoming ∷ ds) far = (far.0, others n ds far.1)

@@ -1,4 +1,4 @@
--- A sender and a life of its session go on together (as `senders_pass` of end_lives, which finds a life by itself).
+-- A sender and a life of its session go on together (as `senders_pass` of `ends`, which finds a life by itself).
 use Rattle.std.specs.Prelude.{◌≡◌, ℕ, List, [], ◌++◌, Some, refl}
 use Rattle.std.proofs.Common.{sym, ◌∙◌, ap}
 use Rattle.std.proofs.lemmas.Grind.{flat_map-append}
@@ -24,11 +24,11 @@ use Rattle.session_lives.specs.Laws.{SessionLives}
 use Rattle.session_lives.specs.Lives.{moves}
 use Rattle.session_lives.specs.Lives as lives
 use Rattle.session_lives.specs.Logs.{AreKeyed}
-use Rattle.end_lives.specs.Ends.{taken_in, Together}
-use Rattle.end_lives.specs.Laws.{IsFront, SenderPasses}
-use Rattle.end_lives.proofs.Fronts.{front_more, front_then, front_to, front_on}
-use Rattle.end_lives.proofs.Phases.{parts_given, takes_front}
-use Rattle.end_lives.proofs.Gone.{meant, takes_first, parts_first, meant_parts}
+use Rattle.world_lives.specs.EndLives.Ends.{taken_in, Together}
+use Rattle.world_lives.specs.EndLives.Laws.{IsFront, SenderPasses}
+use Rattle.world_lives.proofs.EndLives.Fronts.{front_more, front_then, front_to, front_on}
+use Rattle.world_lives.proofs.EndLives.Phases.{parts_given, takes_front}
+use Rattle.world_lives.proofs.EndLives.Gone.{meant, takes_first, parts_first, meant_parts}
 
 -- what the session takes is a front of what goes to it
 taken_goes : (session : ℕ) (e : EndpointState) (s : Sessions) (sd : List sessions.Deed) (s' : Sessions) (did : sessions.Did s sd s') → AreKeyed s → sessions.AreOther session sd → e.session.state ≡ Mapped

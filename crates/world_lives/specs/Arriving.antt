@@ -26,7 +26,7 @@ use Rattle.link_lives.specs.Logs.{IsFree}
 use Rattle.session_lives.specs.Channels.{IsJoined}
 use Rattle.session_lives.specs.Lives.{moves}
 use Rattle.session_lives.specs.Logs.{own}
-use Rattle.end_lives.specs.Laws.{SenderPasses, ReceiverPasses, AreLed}
+use Rattle.world_lives.specs.EndLives.Laws.{SenderPasses, ReceiverPasses, AreLed}
 use Rattle.world_lives.specs.Lived.{Both, sessions_at, sessions_by, links_at, links_by, Moment, MomentOf}
 use Rattle.world_lives.specs.Hearing.{Listens, Speaks, read_before, written_before}
 use Rattle.world_lives.specs.Alone.{StandsAlone, AreElsewhere}

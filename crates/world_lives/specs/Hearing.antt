@@ -22,7 +22,7 @@ use Rattle.session_lives.specs.Deeds.{read_in, wrote_in, AreOther}
 use Rattle.session_lives.specs.Laws.{SessionLives}
 use Rattle.session_lives.specs.Lives.{moves}
 use Rattle.session_lives.specs.Sound.{AreNewIn}
-use Rattle.end_lives.specs.Laws.{IsFront}
+use Rattle.world_lives.specs.EndLives.Laws.{IsFront}
 use Rattle.world_lives.specs.Lived.{Both, sessions_by, Moment, MomentOf, sessions_at}
 
 -- ---- frames of a kind

@@ -2,4 +2,10 @@ pub mod Lived
 pub mod Hearing
 pub mod Alone
 pub mod Naming
+pub mod Once
 pub mod Arriving
+pub mod EndLives
+pub mod WorldLinks
+pub mod OutcomeLives
+pub mod WordsCarry
+pub mod WorldWindows

@@ -19,7 +19,7 @@ use Rattle.amqp_session_world.specs.Turn.{count_of, given, named}
 use Rattle.amqp_session_world.specs.Carried.{life_in}
 use Rattle.link_lives.specs.Deeds as links
 use Rattle.session_lives.specs.Deeds as sessions
-use Rattle.end_lives.specs.Ends.{sessions_of, sessions_in, links_of, Together}
+use Rattle.world_lives.specs.EndLives.Ends.{sessions_of, sessions_in, links_of, Together}
 
 -- an end of a view, and its sessions and its links
 abbrev pub end_at : Side → View → End Piped

@@ -15,7 +15,7 @@ use Rattle.link_lives.specs.Logs.{IsFree}
 use Rattle.session_lives.specs.Channels.{AreApart}
 use Rattle.session_lives.specs.Deeds as sessions
 use Rattle.session_lives.specs.Deeds.{Begins, Accepts}
-use Rattle.end_lives.specs.Laws.{SenderPasses, ReceiverPasses}
+use Rattle.world_lives.specs.EndLives.Laws.{SenderPasses, ReceiverPasses}
 use Rattle.world_lives.specs.Lived.{Both, sessions_by, links_by, Moment}
 use Rattle.world_lives.specs.Hearing.{AreNamed}
 use Rattle.world_lives.specs.Alone.{StandsAlone, AreElsewhere}

@@ -4,6 +4,7 @@ ghost use Rattle.world_lives.specs.Arriving.{MessagesArrive, LinksCarry};
 ghost use Rattle.world_lives.specs.Hearing.{SessionsHear};
 ghost use Rattle.world_lives.specs.Lived.{LifeGoes, LifeStops};
 ghost use Rattle.world_lives.specs.Naming.{NamesAreNew, SendersGo, ReceiversGo};
+ghost use Rattle.world_lives.specs.Once.{NamesAreUsedOnce};
 
 /// Of all that an end did in steps from the start: its sessions and its links did it together, one deed after
 /// another, from where no session was begun and no link attached to what they are behind the last step. What
@@ -16,6 +17,12 @@ pub fn life_goes()
 /// of them and before the other.
 pub fn life_stops()
     ensures { LifeStops }
+{}
+
+/// No two sessions of an end are made under one name, and no two calls on its links have one: each is done under the name of
+/// the call that is made, once, or of one that waits, and names rise.
+pub fn names_are_used_once()
+    ensures { NamesAreUsedOnce }
 {}
 
 /// Where no two sessions of an end are made under one name, and no two calls on its links have one: each name of a
@@ -33,14 +40,14 @@ pub fn speaks_alone()
 {}
 
 /// So a sender that stands at a moment, with its session, which both ends have begun, passes on what it sends from
-/// that on, as `senders_pass` of end_lives says, where no call that waits has its name; and where its session is alone
+/// that on, as `senders_pass` of `ends` says, where no call that waits has its name; and where its session is alone
 /// on its channel, no other has written there.
 pub fn senders_go()
     ensures { SendersGo }
 {}
 
 /// And a receiver that stands at a moment, with its session, reads what that hands over (`receivers_pass` of
-/// end_lives).
+/// `ends`).
 pub fn receivers_go()
     ensures { ReceiversGo }
 {}
@@ -55,7 +62,7 @@ pub fn sessions_hear()
 
 /// A sender of the one end and a receiver of the other, each with its session, each from a moment on: what the
 /// receiver answers are the first of the messages that the sender has sent, in order and unchanged. The premises:
-/// those of `messages_pass` of end_lives, but that the one session hears what the other writes, which follows here.
+/// those of `messages_pass` of `ends`, but that the one session hears what the other writes, which follows here.
 pub fn messages_arrive()
     ensures { MessagesArrive }
 {}

@@ -4,9 +4,9 @@ ghost use Rattle.std.specs.Borrow.{Lends, sem};
 ghost use Rattle.amqp_wire.specs.declared.frame.Front.TheVariants.{Refused, Foreign, Partial};
 ghost use Rattle.amqp_wire.specs.declared.reading.Wait.{Wait};
 ghost use Rattle.amqp_wire.specs.Events.{LinkEvent};
-ghost use Rattle.amqp_sasl_bodies.specs.declared.sasl_body.SaslBody.{SaslBody};
+ghost use Rattle.sasl_exchange.specs.amqp_sasl_bodies.declared.sasl_body.SaslBody.{SaslBody};
 ghost use Rattle.sasl_gate.specs.Frames.{HasSaslFrame, canonical_of, sasl_header};
-ghost use Rattle.amqp_sasl_bodies.specs.SaslBytes.{SpellsSasl};
+ghost use Rattle.sasl_exchange.specs.amqp_sasl_bodies.SaslBytes.{SpellsSasl};
 ghost use Rattle.amqp_wire.specs.Frame.{HasBody, IsFront};
 ghost use Rattle.amqp_wire.specs.contracts.codec.FramedCodec.{the_row as codec_row};
 ghost use Rattle.sasl_gate.specs.contracts.gate.negotiation.Negotiation.{the_row};
@@ -16,13 +16,13 @@ ghost use Rattle.sasl_gate.specs.Negotiation.{Negotiating, GoesOn, IsPassed, Pol
 ghost use Rattle.sasl_gate.specs.Steps.{Stepped, step_in, measure_of, HasEnded, IsAlive, IsFailed, IsStopAnswer, IsWaitAnswer, ArrivesAt, IsDecoded, IsOwed, IsEndAnswer};
 
 use amqp_fields::BaseError;
-use amqp_sasl_bodies::sasl_body::SaslBody;
-use amqp_sasl_bodies::{FRAME_TYPE_SASL, decode_sasl, encode_sasl};
 use amqp_text::Binary;
 use amqp_wire::codec::FramedCodec;
 use amqp_wire::frame::Front;
 use amqp_wire::link::{Held, IoKind, Link, Stop};
 use amqp_wire::reading::{Arrival, Wait, read_front, read_header};
+use sasl_exchange::amqp_sasl_bodies::sasl_body::SaslBody;
+use sasl_exchange::amqp_sasl_bodies::{FRAME_TYPE_SASL, decode_sasl, encode_sasl};
 use sasl_exchange::error::NegotiationError;
 use sasl_exchange::exchange::{Exchange, Turn, Verdict};
 use std::alloc::{AllocError, Global};

@@ -1,6 +1,6 @@
 use Rattle.std.proofs.Common.{ap}
 use Rattle.std.specs.Prelude.{Err}
-use Rattle.amqp_data.specs.View.{view}
+use Rattle.amqp_value.specs.amqp_data.View.{view}
 use Rattle.amqp_described.proofs.Front.{the_front, refused_front}
 use Rattle.amqp_described.proofs.reading.read_front.Goals as goal
 

@@ -1,5 +1,5 @@
 use Rattle.std.proofs.Common.{ℕ, subst}
-use Rattle.amqp_data.specs.Data.{scalar, ulong}
+use Rattle.amqp_value.specs.amqp_data.Data.{scalar, ulong}
 use Rattle.amqp_value.specs.Writing.{Writes}
 use Rattle.amqp_described.proofs.Numbered.{number_put}
 use Rattle.amqp_described.proofs.writing.put_number.Goals as goal

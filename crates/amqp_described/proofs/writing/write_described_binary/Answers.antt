@@ -1,5 +1,5 @@
 use Rattle.std.proofs.Common.{arith}
-use Rattle.amqp_data.specs.Data.{scalar, binary}
+use Rattle.amqp_value.specs.amqp_data.Data.{scalar, binary}
 use Rattle.amqp_described.proofs.Numbered.{behind_number}
 use Rattle.amqp_described.proofs.writing.write_described_binary.Goals as goal
 

@@ -1,6 +1,6 @@
 use Rattle.std.proofs.Common.{arith}
-use Rattle.amqp_data.specs.Data.{list}
-use Rattle.amqp_data.specs.View.{items_view}
+use Rattle.amqp_value.specs.amqp_data.Data.{list}
+use Rattle.amqp_value.specs.amqp_data.View.{items_view}
 use Rattle.amqp_described.proofs.Numbered.{behind_number}
 use Rattle.amqp_described.proofs.writing.write_described_fields.Goals as goal
 

@@ -1,5 +1,5 @@
 use Rattle.std.proofs.Common.{[], ◌==◌, not}
-use Rattle.amqp_calls.specs.declared.reply.NamedReply.{NamedReply}
+use Rattle.amqp_sessions.specs.amqp_calls.declared.reply.NamedReply.{NamedReply}
 use Rattle.amqp_end.proofs.Telling.{one_more}
 use Rattle.amqp_end.proofs.running.add_own.Goals as goal
 

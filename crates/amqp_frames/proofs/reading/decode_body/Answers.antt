@@ -1,7 +1,7 @@
 use Rattle.std.proofs.Common.{ℕ, List, subst, arith}
 use Rattle.std.proofs.lemmas.List.{nil_from_length, take_rest}
 use Rattle.std.proofs.lemmas.Result.{err_from_is_err_and}
-use Rattle.amqp_fields.specs.Fields.{Gives}
+use Rattle.amqp_described.specs.amqp_fields.Fields.{Gives}
 use Rattle.amqp_frames.specs.Body.{framed}
 use Rattle.amqp_frames.proofs.Read.{the_empty, unread, unsaid, said_body}
 use Rattle.amqp_frames.proofs.reading.decode_body.Goals as goal

@@ -1,6 +1,6 @@
 use Rattle.std.proofs.Common.{[], sym, ap, subst, ◌∙◌}
 use Rattle.std.specs.Prelude.{List, ℕ, Some, Ok}
-use Rattle.amqp_composites.specs.declared.kind.CompositeKind.TheVariants as kind
+use Rattle.amqp_described.specs.amqp_composites.declared.kind.CompositeKind.TheVariants as kind
 use Rattle.amqp_performatives.specs.declared.performative.Performative.TheVariants as p
 use Rattle.amqp_performatives.specs.Open.{open_fields}
 use Rattle.amqp_performatives.specs.Begin.{begin_fields}

@@ -1,4 +1,4 @@
-use Rattle.sasl_exchange.specs.Credentials.{credentials_of}
+use Rattle.sasl_gate.specs.sasl_exchange.Credentials.{credentials_of}
 use Rattle.amqp_opening.proofs.Made.{client_made, client_begins, client_refused}
 use Rattle.amqp_opening.proofs.authentication.client_exchange.Goals as goal
 

@@ -1,7 +1,7 @@
 use Rattle.std.proofs.Common.{sym, subst, ap}
 use Rattle.std.specs.Prelude.{IfOk, IfErr}
-use Rattle.sasl_exchange.specs.declared.server.ServerExchange.TheVariants as server
-use Rattle.sasl_exchange.specs.InitServer.{InitServerEnd}
+use Rattle.sasl_gate.specs.sasl_exchange.declared.server.ServerExchange.TheVariants as server
+use Rattle.sasl_gate.specs.sasl_exchange.InitServer.{InitServerEnd}
 use Rattle.sasl_scram.specs.States.{Account}
 use Rattle.amqp_opening.specs.Admission.{Admission, account_by}
 use Rattle.amqp_opening.specs.Authentication.{IsListenerMade, IsAccountRefusal}

@@ -1,5 +1,5 @@
 use Rattle.std.proofs.lemmas.Result.{err_from_is_err_and}
-use Rattle.amqp_fields.specs.Left.{left}
+use Rattle.amqp_composites.specs.amqp_fields.Left.{left}
 use Rattle.amqp_performatives.proofs.Parts.{attach_stops}
 use Rattle.amqp_performatives.proofs.attach.read_attach.Goals as goal
 

@@ -1,8 +1,8 @@
 use Rattle.std.proofs.Common.{[], refl, subst}
-use Rattle.amqp_composites.specs.declared.kind.CompositeKind.{CompositeKind}
-use Rattle.amqp_composites.specs.Kind.{number_of}
+use Rattle.amqp_described.specs.amqp_composites.declared.kind.CompositeKind.{CompositeKind}
+use Rattle.amqp_described.specs.amqp_composites.Kind.{number_of}
 use Rattle.amqp_sasl_bodies.specs.SaslBody.{kind_of_sasl_body, sasl_body_fields, of_sasl_body}
-use Rattle.amqp_data.specs.Data.{item, no_items}
+use Rattle.amqp_described.specs.amqp_data.Data.{item, no_items}
 use Rattle.amqp_described.specs.Bodies.{Puts}
 use Rattle.amqp_described.proofs.BodyWritten.{encodes}
 use Rattle.amqp_sasl_bodies.proofs.SaslWritten.{spells_sasl}

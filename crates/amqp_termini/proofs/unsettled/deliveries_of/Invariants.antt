@@ -1,6 +1,6 @@
 use Rattle.std.proofs.Common.{◌≡◌, length}
 use Rattle.std.specs.Vec.Iter.{into_iter_items}
-use Rattle.amqp_data.specs.View.{pairs_view}
+use Rattle.amqp_composites.specs.amqp_data.View.{pairs_view}
 use Rattle.amqp_termini.specs.Unsettled.{deliveries_in}
 use Rattle.amqp_termini.proofs.Deliveries.{with_front}
 use Rattle.amqp_termini.proofs.unsettled.deliveries_of.Given as goal

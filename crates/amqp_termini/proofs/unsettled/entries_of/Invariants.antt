@@ -1,5 +1,5 @@
 use Rattle.std.proofs.Common.{◌≡◌, take}
-use Rattle.amqp_data.specs.View.{pairs_view}
+use Rattle.amqp_composites.specs.amqp_data.View.{pairs_view}
 use Rattle.amqp_termini.specs.Unsettled.{pairs_of, AreStatesValid}
 use Rattle.amqp_termini.proofs.unsettled.entries_of.Given as goal
 

@@ -1,5 +1,5 @@
 use Rattle.std.proofs.Common.{codes}
-use Rattle.serve_laws.proofs.Runs.{connected_run}
+use Rattle.served_connection.proofs.ServeLaws.Runs.{connected_run}
 use Rattle.served_connection.proofs.connection.connect_on.Goals as goal
 
 pub returns-clause-bytes : goal.returns-clause-bytes

@@ -1,12 +1,15 @@
 use Rattle.std.proofs.Common.{[]}
-use Rattle.amqp_end.proofs.Goes.{on_ok, goes_then}
+use Rattle.amqp_end.proofs.Goes.{on_ok, goes_then, goes_before}
 use Rattle.amqp_end.proofs.end.End.call_link.Goals as goal
 
-pub returns : goal.returns
-returns g c =
+pub returns-clause-goes : goal.returns-clause-goes
+returns-clause-goes g c =
     let at = c.args.at in
-    let asked = goes_then g.L.Link at [] [] c.args.self.now c.know.new.self c.ask_links.new.self c.know.ensures.goes.goes (c.in_ok-ask_links.ensures at).goes in
+    let asked = goes_before g.L.Link at c.args.self.now c.know.new.self c.ask_links.new.self c.know.ensures.goes.goes (c.in_ok-ask_links.ensures at).goes in
     let collected = goes_then g.L.Link at [] [] c.args.self.now c.ask_links.new.self c.collect_for.new.self asked (c.in_ok-collect_for.ensures at).goes in
-    let ran = goes_then g.L.Link at [] [] c.args.self.now c.collect_for.new.self c.run.new.self collected c.in_ok-run.ensures in
+    let ran = goes_then g.L.Link at [] [] c.args.self.now c.collect_for.new.self c.run.new.self collected c.in_ok-run.ensures.goes in
     let out = goes_then g.L.Link at [] [] c.args.self.now c.run.new.self c.let_links_out.new.self ran (c.in_ok-let_links_out.ensures at).goes in
-    on_ok c.steps.result (λ h. goes_then g.L.Link at [] [] c.args.self.now c.let_links_out.new.self c.steps.new.self out h) c.steps.ensures
+    on_ok c.steps.result (λ h. goes_then g.L.Link at [] [] c.args.self.now c.let_links_out.new.self c.steps.new.self out h) c.steps.ensures.goes
+
+pub returns-clause-rests : goal.returns-clause-rests
+returns-clause-rests g c = c.steps.ensures.rests

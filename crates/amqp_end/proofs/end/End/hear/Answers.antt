@@ -1,5 +1,5 @@
 use Rattle.std.proofs.Common.{refl}
-use Rattle.amqp_end.proofs.Goes.{on_then, on_heard, on_none_heard}
+use Rattle.amqp_end.proofs.Goes.{on_then, on_heard, on_none_heard, none_waits}
 use Rattle.amqp_end.proofs.end.End.hear.Goals as goal
 
 pub frames-preserved : goal.frames-preserved
@@ -11,6 +11,9 @@ frames-preserved g c =
     (c.in_ok-hand_on_all.ensures.goes at))
     (c.in_ok-look_at_links.ensures.goes at)
 
-pub returns : goal.returns
-returns g c =
+pub returns-clause-goes : goal.returns-clause-goes
+returns-clause-goes g c =
     λ at. on_then g.L.Link at _ c.frames.self _ (c.frames.invariant at) (on_none_heard g.L.Link at c.frames.self _ c.in_default.ensures.takes c.in_default.ensures.rest refl refl refl refl refl)
+
+pub returns-clause-heard : goal.returns-clause-heard
+returns-clause-heard g c = none_waits _ _ c.in_default.ensures.takes

@@ -9,5 +9,5 @@ returns g c =
     on_ok c.hand_over.result
     (λ h at. on_then g.L.Link at c.args.self.now c.hand_on_all.new.self c.hand_over.new.self
     (on_then g.L.Link at c.args.self.now mid c.hand_on_all.new.self
-    (on_move g.L.Link at (HandedOut c.args.session) c.args.self.now mid refl c.in_ok-hand_out.ensures refl refl refl refl) (c.in_ok-hand_on_all.ensures.goes at)) (h at))
-    c.hand_over.ensures
+    (on_move g.L.Link at (HandedOut c.args.session) c.args.self.now mid tt tt refl c.in_ok-hand_out.ensures refl refl refl refl) (c.in_ok-hand_on_all.ensures.goes at)) (h at))
+    c.hand_over.ensures.goes

@@ -2,9 +2,12 @@ use Rattle.std.proofs.Common.{[]}
 use Rattle.amqp_end.proofs.Goes.{on_ok, goes_then}
 use Rattle.amqp_end.proofs.end.End.run.Goals as goal
 
-pub returns : goal.returns
-returns g c =
+pub returns-clause-goes : goal.returns-clause-goes
+returns-clause-goes g c =
     let at = c.args.at in
     let began = goes_then g.L.Link at [] [] c.args.self.now c.know.new.self c.exchange.new.self c.know.ensures.goes.goes c.in_ok-exchange.ensures in
-    let ran = goes_then g.L.Link at [] [] c.args.self.now c.exchange.new.self c.steps.new.self began c.in_ok-steps.ensures in
-    on_ok c.look.result (λ h. goes_then g.L.Link at [] [] c.args.self.now c.steps.new.self c.look.new.self ran (h at).goes) c.look.ensures
+    let ran = goes_then g.L.Link at [] [] c.args.self.now c.exchange.new.self c.steps.new.self began c.in_ok-steps.ensures.goes in
+    on_ok c.look.result (λ h. goes_then g.L.Link at [] [] c.args.self.now c.steps.new.self c.look.new.self ran (h at).goes) c.look.ensures.goes
+
+pub returns-clause-rests : goal.returns-clause-rests
+returns-clause-rests g c = on_ok c.look.result (λ h. h c.in_ok-steps.ensures.rests) c.look.ensures.rests

@@ -1,18 +1,25 @@
 use Rattle.std.proofs.Common.{refl}
 use Rattle.amqp_session.specs.declared.error.BeginError.TheVariants.{IllegalState, LocalChannelMaxReached}
 use Rattle.amqp_end.specs.Moves.{Refused}
-use Rattle.amqp_end.proofs.Goes.{on_then, on_move, on_allocated}
+use Rattle.amqp_end.proofs.Goes.{on_before, on_move, on_allocated}
 use Rattle.amqp_end.proofs.end.End.seat.Goals as goal
 
 pub returns-then-not-is_running : goal.returns-then-not-is_running
-returns-then-not-is_running g c = record { ok = λ at. on_move g.L.Link at (Refused c.args.name IllegalState) c.args.self.now _ refl c.in_ok-refuse.ensures refl refl refl refl }
+returns-then-not-is_running g c = λ at call by. on_move g.L.Link at (Refused c.args.name IllegalState) c.args.self.now _ by tt refl c.in_ok-refuse.ensures refl refl refl refl
 
 pub returns-in_ok-refuse-in-Err-ChannelMaxReached : goal.returns-in_ok-refuse-in-Err-ChannelMaxReached
-returns-in_ok-refuse-in-Err-ChannelMaxReached g c = record {
-  ok = λ at. on_then g.L.Link at c.args.self.now (record c.args.self.now { connection = c.allocate_session.new.self }) _
-      (on_allocated g.L.Link at _ c.args.self.now (record c.args.self.now { connection = c.allocate_session.new.self }) c.allocate_session.ensures.allocates c.allocate_session.ensures.rest refl refl refl refl refl)
-      (on_move g.L.Link at (Refused c.args.name LocalChannelMaxReached) (record c.args.self.now { connection = c.allocate_session.new.self }) _ refl c.in_ok-refuse-in-Err-ChannelMaxReached.ensures refl refl refl refl);
-}
+returns-in_ok-refuse-in-Err-ChannelMaxReached g c =
+    λ at call by. on_before g.L.Link at c.args.self.now (record c.args.self.now { connection = c.allocate_session.new.self }) _
+    (on_allocated g.L.Link at c.allocate_session.result c.args.self.now (record c.args.self.now { connection = c.allocate_session.new.self }) c.allocate_session.ensures.allocates c.allocate_session.ensures.rest refl refl refl refl refl)
+    (on_move g.L.Link at (Refused c.args.name LocalChannelMaxReached) (record c.args.self.now { connection = c.allocate_session.new.self }) _ by tt refl c.in_ok-refuse-in-Err-ChannelMaxReached.ensures refl refl refl refl)
 
 pub returns-in-Ok : goal.returns-in-Ok
-returns-in-Ok g c = record { ok = λ at. on_allocated g.L.Link at _ c.args.self.now _ c.allocate_session.ensures.allocates c.allocate_session.ensures.rest refl refl refl refl refl }
+returns-in-Ok g c = record {
+  allocates = c.in-Ok.ensures.allocates;
+  rest = c.allocate_session.ensures.rest;
+  sessions = refl;
+  links = refl;
+  last = refl;
+  failed = refl;
+  replies = refl;
+}

@@ -1,8 +1,29 @@
-use Rattle.amqp_end.proofs.Goes.{on_then}
+use Rattle.std.proofs.Common.{arith}
+use Rattle.amqp_end.proofs.Goes.{on_none, on_then}
+use Rattle.amqp_end.proofs.Rests.{early_rests}
 use Rattle.amqp_end.proofs.end.End.steps.Goals as goal
 
-pub returns-then-not-branch : goal.returns-then-not-branch
-returns-then-not-branch g c = (on_then g.L.Link c.args.at c.args.self.now c.steps.self c.advance.new.self c.steps.invariant.0 c.in_ok-advance.ensures).goes
+pub returns-then-not-branch-clause-goes : goal.returns-then-not-branch-clause-goes
+returns-then-not-branch-clause-goes g c = (on_then g.L.Link c.args.at c.args.self.now c.steps.self c.advance.new.self c.steps.invariant.goes c.in_ok-advance.ensures.goes).goes
 
 pub steps-preserved : goal.steps-preserved
-steps-preserved g c = (on_then g.L.Link c.args.at c.args.self.now c.steps.self c.advance.new.self c.steps.invariant.0 c.in_ok-advance.ensures, c.in_ok-advance.ensures.late c.steps.invariant.1)
+steps-preserved g c = record {
+  goes = on_then g.L.Link c.args.at c.args.self.now c.steps.self c.advance.new.self c.steps.invariant.goes c.in_ok-advance.ensures.goes;
+  late = c.in_ok-advance.ensures.goes.late c.steps.invariant.late;
+  rests = λ h. c.in_ok-advance.ensures.rests;
+}
+
+pub returns-clause-rests : goal.returns-clause-rests
+returns-clause-rests g c = c.steps.invariant.rests (omega (arith, c.steps-test.false))
+
+pub steps-init : goal.steps-init
+steps-init g c = record { goes = on_none g.L.Link c.args.at c.args.self.now; late = c.is_running.ensures.0 c.if-not-is_running.false; rests = λ h. absurd (omega (arith, h)) }
+
+pub returns-then-not-is_running-clause-rests : goal.returns-then-not-is_running-clause-rests
+returns-then-not-is_running-clause-rests g c = early_rests c.args.self.now (λ l. absurd (cc (c.is_running.ensures.1 l, c.if-not-is_running.true)))
+
+pub returns-clause-goes : goal.returns-clause-goes
+returns-clause-goes g c = c.steps.invariant.goes.goes
+
+pub returns-then-not-branch-clause-rests : goal.returns-then-not-branch-clause-rests
+returns-then-not-branch-clause-rests g c = c.in_ok-advance.ensures.rests

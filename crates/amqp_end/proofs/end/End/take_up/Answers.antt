@@ -1,13 +1,22 @@
-use Rattle.amqp_end.proofs.Goes.{on_ok, on_then}
+use Rattle.amqp_end.proofs.Goes.{on_ok, on_both, on_then}
 use Rattle.amqp_end.proofs.end.End.take_up.Goals as goal
 
-pub returns : goal.returns
-returns g c =
+pub returns-clause-goes : goal.returns-clause-goes
+returns-clause-goes g c =
     on_ok c.collect.result
     (λ h at.
-    let heard = on_then g.L.Link at c.args.self.now c.hear.new.self c.accept_waiting.new.self (c.in_ok-hear.ensures at) (c.in_ok-accept_waiting.ensures at) in
-    let handed = on_then g.L.Link at c.args.self.now c.accept_waiting.new.self c.hand_over.new.self heard (c.in_ok-hand_over.ensures at) in
-    let looked = on_then g.L.Link at c.args.self.now c.hand_over.new.self c.look_at_fault.new.self handed (c.in_ok-look_at_fault.ensures at) in
-    let concluded = on_then g.L.Link at c.args.self.now c.look_at_fault.new.self c.conclude.new.self looked (c.in_ok-conclude.ensures at) in
+    let heard = on_then g.L.Link at c.args.self.now c.hear.new.self c.accept_waiting.new.self (c.in_ok-hear.ensures.goes at) (c.in_ok-accept_waiting.ensures at) in
+    let handed = on_then g.L.Link at c.args.self.now c.accept_waiting.new.self c.hand_over.new.self heard (c.in_ok-hand_over.ensures.goes at) in
+    let looked = on_then g.L.Link at c.args.self.now c.hand_over.new.self c.look_at_fault.new.self handed (c.in_ok-look_at_fault.ensures.goes at) in
+    let concluded = on_then g.L.Link at c.args.self.now c.look_at_fault.new.self c.conclude.new.self looked (c.in_ok-conclude.ensures.goes at) in
     on_then g.L.Link at c.args.self.now c.conclude.new.self c.collect.new.self concluded (h at))
-    c.collect.ensures
+    c.collect.ensures.goes
+
+pub returns-clause-rests : goal.returns-clause-rests
+returns-clause-rests g c =
+    on_both c.collect.result
+    (λ h s.
+    let handed = (c.in_ok-hand_over.ensures.goes 0).heard ((c.in_ok-accept_waiting.ensures 0).heard c.in_ok-hear.ensures.heard) in
+    let concluded = (c.in_ok-conclude.ensures.goes 0).heard ((c.in_ok-look_at_fault.ensures.goes 0).heard handed) in
+    record { heard = (h 0).heard concluded; said = s (c.in_ok-conclude.ensures.said (c.in_ok-look_at_fault.ensures.said c.in_ok-hand_over.ensures.said)) })
+    c.collect.ensures.goes c.collect.ensures.said

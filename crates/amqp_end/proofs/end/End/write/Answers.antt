@@ -10,5 +10,8 @@ frames-preserved g c = record {
   opened = c.in-Ok.ensures.sent.opens c.frames.invariant.opened;
 }
 
-pub returns : goal.returns
-returns g c = λ at. on_then g.L.Link at _ c.frames.self _ (c.frames.invariant.goes at) (on_still g.L.Link at c.frames.self _ refl (none_written _ _ c.in_default.ensures) refl refl refl refl)
+pub returns-clause-goes : goal.returns-clause-goes
+returns-clause-goes g c = λ at. on_then g.L.Link at _ c.frames.self _ (c.frames.invariant.goes at) (on_still g.L.Link at c.frames.self _ refl (none_written _ _ c.in_default.ensures) refl refl refl refl)
+
+pub returns-clause-written : goal.returns-clause-written
+returns-clause-written g c = c.in_default.ensures.0.1

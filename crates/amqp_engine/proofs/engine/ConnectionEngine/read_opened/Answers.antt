@@ -2,13 +2,13 @@ use Rattle.std.proofs.Common.{◌≡◌, refl, ap, ◌∙◌, inl, Ok, Err}
 use Rattle.amqp_transport.specs.declared.frames.Frame.{Frame}
 use Rattle.amqp_transport.specs.declared.transport.Next.TheVariants as next
 use Rattle.amqp_transport.specs.Kinds.{no_frame}
-use Rattle.amqp_frames.specs.Session.{of_session}
+use Rattle.amqp_transport.specs.amqp_frames.Session.{of_session}
 use Rattle.amqp_engine.specs.declared.error.Error.{Error}
 use Rattle.amqp_engine.specs.declared.phase.Phase.TheVariants as p
 use Rattle.amqp_engine.specs.declared.sessions.Plan.{Plan}
 use Rattle.amqp_engine.specs.declared.sessions.Plan.TheVariants as plan
 use Rattle.amqp_engine.specs.Channels.{Channels, channels_of, frame_in, taken_in}
-use Rattle.amqp_engine.specs.Plans.{planned, is_among}
+use Rattle.amqp_engine.specs.Plans.{planned}
 use Rattle.amqp_engine.specs.Machine.{plan_of, phase_after}
 use Rattle.amqp_engine.specs.State.{State, failing}
 use Rattle.amqp_engine.specs.Calls.{failing_by}
@@ -23,7 +23,7 @@ returns-in-Ok g c =
     let y : Frame = frame_in c.in-Ok.frame in
     let q : Plan = c.plan-plan.result in
     let again : y ≡ c.in-Ok-Frame.frame = λ i. record { channel = c.in-Ok.ensures.ok.0 i; body = c.in-Ok.ensures.ok.1 i } in
-    let plan_is : q ≡ plan_of s y = c.plan-plan.ensures ∙ ap (λ (k : Channels). planned (is_among y.channel k.remotes) s.settings.is_listener k.seats y.body) c.make_room.ensures.same in
+    let plan_is : q ≡ plan_of s y = c.plan-plan.ensures ∙ ap (λ (k : Channels). planned s.settings k y) c.make_room.ensures.same in
     let took = c.take.ensures ∙ ap (λ (k : Channels). taken_in q k y) c.make_room.ensures.same in
     rw (← c.self.view_is) (inl (reads_so g.L.Link c.args.at _ _ c.poll_next.result (Ok (next.Frame c.in-Ok-Frame.frame)) c.poll_next.new.self _ c.poll_next.ensures.answer c.poll_next.ensures.joined (nested _ _ _ c.in-Ok-Frame.is c.in-Ok-Frame.field-0-is) (session_after c.args.at s c.in-Ok-Frame.frame y q _ _ e again c.in-Ok.ensures.ok.2 plan_is c.follow.ensures.answer (c.follow.ensures.state ∙ ap (λ (k : Channels). record s { phase = phase_after q s.phase; channels = k }) took))))
 

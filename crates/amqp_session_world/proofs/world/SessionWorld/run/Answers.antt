@@ -2,7 +2,7 @@ use Rattle.std.specs.Prelude.{IsErrOf}
 use Rattle.std.proofs.Common.{◌≡◌, ◌∙◌, ℕ, Result, Ok, Err, sym, ap}
 use Rattle.amqp_world.specs.declared.world.WorldError.{WorldError}
 use Rattle.amqp_world.specs.declared.world.WorldError.TheVariants.{BadStep}
-use Rattle.amqp_calls.specs.declared.trace.Trace.{Trace}
+use Rattle.amqp_end.specs.amqp_calls.declared.trace.Trace.{Trace}
 use Rattle.amqp_session_world.specs.Worlds.{view_of}
 use Rattle.amqp_session_world.proofs.Carrying.{made_carried}
 use Rattle.amqp_session_world.proofs.world.SessionWorld.run.Goals as goal

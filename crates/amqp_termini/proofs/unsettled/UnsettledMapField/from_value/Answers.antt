@@ -1,6 +1,6 @@
 use Rattle.std.proofs.Common.{List, sym, ap, ◌∙◌}
-use Rattle.amqp_data.specs.declared.value.Entry.{Entry}
-use Rattle.amqp_data.specs.View.{pairs_view}
+use Rattle.amqp_composites.specs.amqp_data.declared.value.Entry.{Entry}
+use Rattle.amqp_composites.specs.amqp_data.View.{pairs_view}
 use Rattle.amqp_termini.specs.Unsettled.{deliveries_in}
 use Rattle.amqp_termini.proofs.Deliveries.{stay_distinct}
 use Rattle.amqp_termini.proofs.unsettled.UnsettledMapField.from_value.Goals as goal

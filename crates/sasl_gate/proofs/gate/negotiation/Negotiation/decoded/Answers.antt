@@ -1,6 +1,6 @@
 use Rattle.std.proofs.Common.{◌≡◌, ◌-◌, ◌∙◌, ap, sym, subst, take, drop, length, List, ℕ}
 use Rattle.std.proofs.lemmas.List.{take_rest}
-use Rattle.amqp_sasl_bodies.specs.SaslBytes.{SpellsSasl}
+use Rattle.sasl_exchange.specs.amqp_sasl_bodies.SaslBytes.{SpellsSasl}
 use Rattle.sasl_gate.specs.Negotiation.{Negotiating}
 use Rattle.sasl_gate.proofs.gate.negotiation.Negotiation.decoded.Goals as goal
 

@@ -1,0 +1,4 @@
+pub mod Bodies
+pub mod Delivered
+pub mod Peers
+pub mod Report

@@ -1,0 +1,2 @@
+pub use Rattle.amqp_receiver.specs as amqp_receiver
+pub use Rattle.amqp_sender.specs as amqp_sender

@@ -1,0 +1,7 @@
+use Rattle.std.proofs.Common.{refl}
+use Rattle.amqp_composites.specs.declared.kind.CompositeKind.TheVariants as kind
+use Rattle.amqp_performatives.specs.Flow.{flow_fields}
+use Rattle.amqp_sizes.proofs.performatives.flow_size.Goals as goal
+
+pub returns : goal.returns
+returns c = c.composite_size.ensures kind.Flow (flow_fields c.args.body.now) _ refl (c.optional.ensures, (c.required.ensures, (c.required-2.ensures, (c.required-3.ensures, (c.optional-2.ensures, (c.optional-3.ensures, (c.optional-4.ensures, (c.optional-5.ensures, (c.unless.ensures _ c.is.ensures, (c.unless-2.ensures _ c.is-2.ensures, (c.optional-6.ensures, tt)))))))))))

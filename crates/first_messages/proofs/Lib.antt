@@ -1,0 +1,10 @@
+pub mod Lists
+pub mod Silent
+pub mod Deaf
+pub mod Unsent
+pub mod Limits
+pub mod Each
+pub mod None
+pub mod Early
+pub mod Unread
+pub mod Unwritten

@@ -1,0 +1,4 @@
+pub mod Before
+pub mod Arriving
+pub mod Writing
+pub mod Reading

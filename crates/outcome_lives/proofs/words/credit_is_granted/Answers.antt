@@ -1,5 +1,0 @@
-use Rattle.outcome_lives.proofs.Credits.{credit_is_granted}
-use Rattle.outcome_lives.proofs.words.credit_is_granted.Goals as goal
-
-pub returns : goal.returns
-returns c = credit_is_granted

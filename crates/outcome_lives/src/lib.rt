@@ -1,8 +1,0 @@
-//! Laws over outcomes and credit between two ends that share a connection (OASIS AMQP 1.0, part 2, sections 2.6.7 and
-//! 2.6.12).
-//!
-//! Each function is empty: its contract is the law.
-#![tactic(auto)]
-
-pub mod ends;
-pub mod words;

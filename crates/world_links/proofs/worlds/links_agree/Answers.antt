@@ -1,8 +1,0 @@
-use Rattle.world_links.proofs.Agreeing.{links_agree, handles_lead}
-use Rattle.world_links.proofs.worlds.links_agree.Goals as goal
-
-pub returns-clause-agree : goal.returns-clause-agree
-returns-clause-agree c = links_agree
-
-pub returns-clause-lead : goal.returns-clause-lead
-returns-clause-lead c = handles_lead

@@ -1,0 +1,4 @@
+pub mod Carrying
+pub mod Cutting
+pub mod Starting
+pub mod Unsent

@@ -1,0 +1,5 @@
+pub mod Making
+pub mod Living
+pub mod Hearing
+pub mod Keeping
+pub mod Facing
