@@ -16,6 +16,9 @@ use std::time::Duration;
 /// How often a call that a signal ended is made again before it counts as a fault.
 const TRIES: u32 = 1_000;
 
+/// How many bytes are read in a row: then a read finds nothing, so that a peer which goes on sending does not hold up the caller.
+const AT_ONCE: usize = 65_536;
+
 /// The name of the socket in the events of its poll.
 const SOCKET: Token = Token(0);
 
@@ -32,6 +35,8 @@ pub struct SocketLink {
     faults: u64,
     /// How many reads have given bytes.
     reads: u64,
+    /// How many bytes were read since a read found nothing.
+    in_a_row: usize,
     /// The direction of the first fault, where there was one.
     first: LinkFault,
 }
@@ -47,6 +52,7 @@ impl Drop for SocketLink {
             limit: _,
             faults: _,
             reads: _,
+            in_a_row: _,
             first: _,
         } = self;
         drop(stream);
@@ -106,6 +112,7 @@ impl SocketLink {
             limit: None,
             faults: 0,
             reads: 0,
+            in_a_row: 0,
             first: LinkFault::Writing,
         })
     }
@@ -157,6 +164,13 @@ impl SocketLink {
         self.poll.poll(&mut self.events, self.limit)
     }
 
+    fn count_read(&mut self, bytes: usize)
+        ensures { self.new.faults ≡ self.old.faults }
+    {
+        self.reads = self.reads.saturating_add(1);
+        self.in_a_row = self.in_a_row.saturating_add(bytes);
+    }
+
     fn count_fault(&mut self, fault: LinkFault)
         ensures { HasCause self.old.faults self.new.faults ⊤ }
     {
@@ -183,7 +197,8 @@ impl Link for SocketLink {
     ghost faults = { λ s. s.faults };
 
     fn read(&mut self, buf: &mut [u8]) -> LinkRead {
-        if buf.is_empty() {
+        if buf.is_empty() || self.in_a_row >= AT_ONCE {
+            self.in_a_row = 0;
             return LinkRead::Empty;
         }
         match read_from(&mut self.stream, buf) {
@@ -192,10 +207,13 @@ impl Link for SocketLink {
                 LinkRead::End
             }
             Ok(count) => {
-                self.reads = self.reads.saturating_add(1);
+                self.count_read(count);
                 LinkRead::Bytes(count)
             }
-            Err(error) if error.kind() == ErrorKind::WouldBlock => LinkRead::Empty,
+            Err(error) if error.kind() == ErrorKind::WouldBlock => {
+                self.in_a_row = 0;
+                LinkRead::Empty
+            }
             Err(_) => {
                 self.count_fault(LinkFault::Reading);
                 LinkRead::Failed
