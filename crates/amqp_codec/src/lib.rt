@@ -9,7 +9,7 @@ pub use amqp_data::{
     Value, ValueArray, ValueList,
 };
 pub use amqp_fields::{AnnotationMap, BaseError, FieldMap, TextMap};
-pub use amqp_frames::{FRAME_TYPE_AMQP, FrameBody, decode_body, encode_body};
+pub use amqp_frames::{FRAME_TYPE_AMQP, FrameBody, decode_body, encode_body, let_go};
 pub use amqp_message_pieces::decode_message_pieces;
 pub use amqp_messages::{Body, FromBody, Message, OneOrMore, decode_message, encode_message};
 pub use amqp_performatives::{
@@ -30,6 +30,18 @@ pub use amqp_text::{SymbolError, TextError};
 pub use amqp_value::{
     PayloadBytes, PayloadList, PayloadReader, ValueError, read_value, serialized_size, to_vec,
 };
-pub use made::{no_properties, text_value};
+pub use condition::{Condition, error_of};
+pub use kinds::{AsKind, get_symbol, get_text};
+pub use messages::{message_of_bytes, message_of_text, no_header, no_properties};
+pub use values::{bytes_value, symbol_value, text_value};
+pub use whole::{WholeValueError, read_whole_value};
 
-pub mod made;
+pub mod condition;
+pub mod kinds;
+pub mod laws;
+pub mod messages;
+pub mod performatives;
+pub mod sasl;
+pub mod termini;
+pub mod values;
+pub mod whole;

@@ -1,0 +1,4 @@
+pub mod Looked
+pub mod Conditions
+pub mod Wholes
+pub mod Read

@@ -1,0 +1,4 @@
+pub mod Defaults
+pub mod Condition
+pub mod Kinds
+pub mod Whole
