@@ -1,0 +1,11 @@
+pub mod Grows
+pub mod Stages
+pub mod Agrees
+pub mod Fronts
+pub mod Attaches
+pub mod Stays
+pub mod Examples
+pub mod Projects
+pub mod Goings
+pub mod SenderGoes
+pub mod ReceiverGoes

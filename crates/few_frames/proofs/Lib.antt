@@ -1,0 +1,11 @@
+pub mod Counts
+pub mod Holds
+pub mod Sessions
+pub mod Lives
+pub mod Both
+pub mod Links
+pub mod Senders
+pub mod Books
+pub mod Receivers
+pub mod Ends
+pub mod Whole
