@@ -1,6 +1,6 @@
 //! What a run over a link leaves in the bytes of that link.
 ghost use Rattle.served_connection.specs.ServeLaws.History.{LivesBegin, LivesGo, LivesDo};
-ghost use Rattle.served_connection.specs.ServeLaws.Runs.{ServedRun, ConnectedRun};
+ghost use Rattle.served_connection.specs.ServeLaws.Runs.{ServedRun, ConnectedRun, LeftRun};
 
 use amqp_wire::link::Link;
 
@@ -24,4 +24,11 @@ pub fn served_run<L: Link>()
 /// some time, and it read a Close without an error, whole in the bytes that it read.
 pub fn connected_run<L: Link>()
     ensures { ConnectedRun L.Link }
+{}
+
+/// An end on which nothing was done before, that closed the connection behind any turns: it has such a history, in which
+/// the last frame that it queued is its own Close, whole in the bytes that it wrote unless the link was full at some
+/// time, and it read a Close without an error, whole in the bytes that it read.
+pub fn left_run<L: Link>()
+    ensures { LeftRun L.Link }
 {}

@@ -18,7 +18,7 @@ use Rattle.amqp_serve.specs.Ran.{Turn, Ran, told, SentAll, Left, ConnectedWith, 
 use Rattle.amqp_serve.proofs.Runs.{told_append, has_behind}
 use Rattle.served_connection.specs.ServeLaws.History.{IsFresh, Lived, called, life_of}
 use Rattle.served_connection.specs.ServeLaws.Closes.{IsClosedByBoth}
-use Rattle.served_connection.specs.ServeLaws.Runs.{served_life, ServedFrames, turns_by, life_by, sent_turns, sent_life, left_life, SentFrames, ConnectedFrames}
+use Rattle.served_connection.specs.ServeLaws.Runs.{served_life, ServedFrames, turns_by, life_by, sent_turns, sent_life, left_life, SentFrames, ConnectedFrames, LeftFrames}
 use Rattle.served_connection.proofs.ServeLaws.Calls.{HasCall, makes_called, called_then, call_before}
 use Rattle.served_connection.proofs.ServeLaws.Closes.{closed_by_peer}
 use Rattle.served_connection.proofs.ServeLaws.History.{lives_go, lives_begin}
@@ -76,3 +76,10 @@ sent_run link first kind old new message count c f =
 
 pub connected_run : {L : Type 0} (link : Ghosts L) (first : L) (kind : PeerKind) (old new : End L) (text : List ℕ) (count : ℕ) (connected : Connected link old new text count) → IsFresh first kind old → ConnectedFrames link first old new text count connected
 connected_run link first kind old new text count connected f = sent_run link first kind old new connected.message count connected.connected f
+
+pub left_run : {L : Type 0} (link : Ghosts L) (first : L) (kind : PeerKind) (old between new : End L) (turns : List Turn) (ran : Ran link old turns between) (left : Left link between new) → IsFresh first kind old → LeftFrames link first old between new turns ran left
+left_run link first kind old between new turns ran left f =
+    let life = life_of link old turns between ran unlived in
+    let before = lives_from link first kind old between turns ran f in
+    let v = lives_go link first (called turns) (told turns) between new left.turns life left.ran before in
+    record { before = before; lived = v; closed = left_both link first (called turns) (told turns) between new left (life_of link between left.turns new left.ran life) v }

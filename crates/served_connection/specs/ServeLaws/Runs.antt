@@ -7,7 +7,7 @@ use Rattle.amqp_peer.specs.declared.peer.PeerKind.{PeerKind}
 use Rattle.amqp_end.specs.declared.end.End.{End}
 use Rattle.amqp_session_world.specs.Lives.{Life, unlived}
 use Rattle.amqp_serve.specs.Endings.{WasServed}
-use Rattle.amqp_serve.specs.Ran.{Turn, told, SentAll, ConnectedWith, Connected}
+use Rattle.amqp_serve.specs.Ran.{Turn, Ran, told, SentAll, Left, ConnectedWith, Connected}
 use Rattle.served_connection.specs.ServeLaws.History.{IsFresh, Lived, called, life_of}
 use Rattle.served_connection.specs.ServeLaws.Closes.{IsClosedByPeer, IsClosedByBoth}
 
@@ -83,3 +83,21 @@ ConnectedRun {L} link =
     (first : L) (kind : PeerKind) (old new : End L) (text : List ℕ) (count : ℕ)
     (connected : Connected link old new text count) → IsFresh first kind old
     → ConnectedFrames link first old new text count connected
+
+-- ---- a run that closed the connection
+
+-- The end has a history from its first call on, whose frames are those of the bytes at its link: up to where it began
+-- to close the connection, and to the end; and in it both ends have closed the connection, this end first.
+pub record LeftFrames {L : Type 0} (link : Ghosts L) (first : L) (old between new : End L) (turns : List Turn)
+    (ran : Ran link old turns between) (left : Left link between new) : Type 0 where
+  pub before : Lived link first (called turns) (told turns) between (life_of link old turns between ran unlived)
+  pub lived : Lived link first (called left.turns ++ called turns) (told turns ++ told left.turns) new
+      (life_of link between left.turns new left.ran (life_of link old turns between ran unlived))
+  pub closed : IsClosedByBoth
+      (life_of link between left.turns new left.ran (life_of link old turns between ran unlived)).h
+
+-- an end on which nothing was done before, and that closed the connection behind these turns
+abbrev pub LeftRun : {L : Type 0} → Ghosts L → Type 0
+LeftRun {L} link =
+    (first : L) (kind : PeerKind) (old between new : End L) (turns : List Turn) (ran : Ran link old turns between)
+    (left : Left link between new) → IsFresh first kind old → LeftFrames link first old between new turns ran left
