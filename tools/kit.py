@@ -44,6 +44,12 @@ def forget(crate):
     _stamps.pop(crate.folder, None)
 
 
+def forget_all():
+    """Has all sums computed anew, as those of another clone."""
+    _stamps.clear()
+    _belows.clear()
+
+
 def remember():
     """From here on each sum is computed once."""
     rtlib.Crate.stamp, rtlib.Crate.below = stamp, below

@@ -2,7 +2,7 @@
 use Rattle.std.specs.Prelude.{OnOk}
 use Rattle.std.proofs.lemmas.List.{append-nil}
 use Rattle.std.proofs.lemmas.Option.{none-some}
-use Rattle.std.proofs.Common.{◌≡◌, ◌∙◌, inl, inr, ℕ, List, [], ◌∷◌, ◌++◌, Bool, true, false, Option, Some, None, Result, Ok, Err, refl, sym, ap, subst, append_assoc}
+use Rattle.std.proofs.Common.{◌≡◌, ◌<◌, ◌∙◌, inl, inr, ℕ, List, [], ◌∷◌, ◌++◌, Bool, true, false, Option, Some, None, Result, Ok, Err, refl, sym, ap, subst, append_assoc}
 use Rattle.amqp_wire.specs.declared.link.Link.{Ghosts}
 use Rattle.amqp_frames.specs.declared.shared.IncomingSession.{IncomingSession}
 use Rattle.amqp_frames.specs.declared.shared.LinkFrame.{LinkFrame}
@@ -19,7 +19,7 @@ use Rattle.amqp_transport.specs.declared.frames.Frame.{Frame}
 use Rattle.amqp_engine.specs.declared.error.AllocSessionError.{AllocSessionError}
 use Rattle.amqp_engine.specs.declared.error.AllocSessionError.TheVariants.{ChannelMaxReached, Memory}
 use Rattle.amqp_engine.specs.Calls.{with_channels, Allocates}
-use Rattle.amqp_engine.specs.Channels.{Channels}
+use Rattle.amqp_engine.specs.Channels.{Channels, first_free}
 use Rattle.amqp_engine.specs.State.{State as Engine}
 use Rattle.amqp_words.specs.declared.call.Call.{Call as ConnectionCall}
 use Rattle.amqp_peer.specs.declared.held.Held.{Held}
@@ -41,11 +41,11 @@ use Rattle.amqp_sessions.specs.Frames.{heard, written, refusing}
 use Rattle.amqp_sessions.specs.State.{State, seen, TakesFrame, TakesInput, TakesChannel}
 use Rattle.amqp_end.specs.declared.end.End.{End}
 use Rattle.amqp_end.specs.Goes.{Goes as Going, GoesOn, GoesOnFor, Seated}
-use Rattle.amqp_end.specs.Deeds.{Deed, Makes, Polls, Goes, Moves, Hears, Writes, Seats, Lacks, Frees, Accepts, Asks, LinksHear, LinksWrite, LinksLack, LinksKnow, LinksLook, Tells, TellsFirst, IsDeed, Did, called_of, called_by, told_of, told_by, framed_of}
+use Rattle.amqp_end.specs.Deeds.{Deed, Makes, Polls, Goes, Moves, Hears, Writes, Seats, Lacks, Frees, Accepts, Asks, LinksHear, LinksWrite, LinksLack, LinksKnow, LinksLook, Tells, TellsFirst, IsDeed, Did, called_of, called_by, links_called_of, links_called_by, told_of, told_by, framed_of}
 use Rattle.amqp_end.specs.Answers.{together, AreOrdered, with_first}
 use Rattle.amqp_end.specs.Taken.{TakenOut}
 use Rattle.amqp_end.specs.Asks.{limit_for}
-use Rattle.amqp_end.specs.Moves.{Move, Begun, on}
+use Rattle.amqp_end.specs.Moves.{Move, Begun, on, IsCaused}
 use Rattle.amqp_end.specs.Named.{Awaits, IsBy, IsMoved, IsNamed, AreNamed, moved_on, seated_on, IsTaken, AreSeated, TakesSeat}
 
 -- ---- what was done
@@ -90,6 +90,10 @@ pub called_then : (es ds : List Deed) → called_by (es ++ ds) ≡ called_by es 
 called_then [] ds = refl
 called_then (e ∷ es) ds = ap (λ (u : List (ℕ × ConnectionCall)). called_of e ++ u) (called_then es ds) ∙ sym (append_assoc (called_of e) (called_by es) (called_by ds))
 
+pub links_called_then : (es ds : List Deed) → links_called_by (es ++ ds) ≡ links_called_by es ++ links_called_by ds
+links_called_then [] ds = refl
+links_called_then (e ∷ es) ds = ap (λ (u : List (ℕ × LinkCall)). links_called_of e ++ u) (links_called_then es ds) ∙ sym (append_assoc (links_called_of e) (links_called_by es) (links_called_by ds))
+
 pub told_then : (es ds : List Deed) → told_by (es ++ ds) ≡ told_by ds ++ told_by es
 told_then [] ds = sym (append-nil (told_by ds))
 told_then (e ∷ es) ds = ap (λ (u : List NamedReply). u ++ told_of e) (told_then es ds) ∙ append_assoc (told_by ds) (told_by es) (told_of e)
@@ -104,18 +108,19 @@ seated_then (e ∷ es) ds x y = (taken_then (seated_on e) es ds x.0, seated_then
 
 -- ---- an end
 
-pub goes_none : {L : Type 0} (link : Ghosts L) (at : ℕ) {call : Option ℕ} (a : End L) → Going link at call [] a a
-goes_none link at a = record { deeds = []; did = (refl, refl, refl); made = refl; answers = sym (append-nil a.replies.items); last = refl; failed = refl; named = tt; seated = tt }
+pub goes_none : {L : Type 0} (link : Ghosts L) (at : ℕ) {call : Option ℕ} (a : End L) → Going link at call [] [] a a
+goes_none link at a = record { deeds = []; did = (refl, refl, refl); made = refl; asked = refl; answers = sym (append-nil a.replies.items); last = refl; failed = refl; named = tt; seated = tt }
 
 -- a call is made on the links or the sessions, and the end goes on
-pub goes_then : {L : Type 0} (link : Ghosts L) (at : ℕ) {call : Option ℕ} (cs ds : List (ℕ × ConnectionCall)) (a b c : End L) → Going link at call cs a b → Going link at None ds b c → Going link at call (ds ++ cs) a c
-goes_then link at {call} cs ds a b c x y =
+pub goes_then : {L : Type 0} (link : Ghosts L) (at : ℕ) {call : Option ℕ} (cs ds : List (ℕ × ConnectionCall)) {qs rs : List (ℕ × LinkCall)} (a b c : End L) → Going link at call cs qs a b → Going link at None ds rs b c → Going link at call (ds ++ cs) (rs ++ qs) a c
+goes_then link at {call} cs ds {qs} {rs} a b c x y =
     let does = does_then link at call a.connection b.connection c.connection (seen a.sessions) (seen b.sessions) (seen c.sessions) (linked a.links) (linked b.links) (linked c.links) x.deeds y.deeds (x.did, x.named) (y.did, y.named) in
     record {
       deeds = y.deeds ++ x.deeds;
       did = does.0;
       answers = y.answers ∙ ap (λ (u : List NamedReply). u ++ told_by y.deeds) x.answers ∙ append_assoc a.replies.items (told_by x.deeds) (told_by y.deeds) ∙ ap (λ (u : List NamedReply). a.replies.items ++ u) (sym (told_then y.deeds x.deeds));
       made = called_then y.deeds x.deeds ∙ ap (λ (u : List (ℕ × ConnectionCall)). u ++ called_by x.deeds) y.made ∙ ap (λ (u : List (ℕ × ConnectionCall)). ds ++ u) x.made;
+      asked = links_called_then y.deeds x.deeds ∙ ap (λ (u : List (ℕ × LinkCall)). u ++ links_called_by x.deeds) y.asked ∙ ap (λ (u : List (ℕ × LinkCall)). rs ++ u) x.asked;
       last = y.last ∙ x.last;
       failed = y.failed ∙ x.failed;
       named = does.1;
@@ -123,14 +128,15 @@ goes_then link at {call} cs ds a b c x y =
     }
 
 -- an end goes on, and then a call is made on the links or the sessions
-pub goes_before : {L : Type 0} (link : Ghosts L) (at : ℕ) {call : Option ℕ} (a b c : End L) → Going link at None [] a b → Going link at call [] b c → Going link at call [] a c
-goes_before link at {call} a b c x y =
+pub goes_before : {L : Type 0} (link : Ghosts L) (at : ℕ) {call : Option ℕ} {qs : List (ℕ × LinkCall)} (a b c : End L) → Going link at None [] [] a b → Going link at call [] qs b c → Going link at call [] qs a c
+goes_before link at {call} {qs} a b c x y =
     let does = others_then link at call a.connection b.connection c.connection (seen a.sessions) (seen b.sessions) (seen c.sessions) (linked a.links) (linked b.links) (linked c.links) x.deeds y.deeds (x.did, x.named) (y.did, y.named) in
     record {
       deeds = y.deeds ++ x.deeds;
       did = does.0;
       answers = y.answers ∙ ap (λ (u : List NamedReply). u ++ told_by y.deeds) x.answers ∙ append_assoc a.replies.items (told_by x.deeds) (told_by y.deeds) ∙ ap (λ (u : List NamedReply). a.replies.items ++ u) (sym (told_then y.deeds x.deeds));
       made = called_then y.deeds x.deeds ∙ ap (λ (u : List (ℕ × ConnectionCall)). u ++ called_by x.deeds) y.made ∙ x.made;
+      asked = links_called_then y.deeds x.deeds ∙ ap (λ (u : List (ℕ × LinkCall)). u ++ links_called_by x.deeds) y.asked ∙ ap (λ (u : List (ℕ × LinkCall)). qs ++ u) x.asked ∙ append-nil qs;
       last = y.last ∙ x.last;
       failed = y.failed ∙ x.failed;
       named = does.1;
@@ -138,11 +144,11 @@ goes_before link at {call} a b c x y =
     }
 
 -- one deed, for a call or for none
-goes_for : {L : Type 0} (link : Ghosts L) (at : ℕ) (call : Option ℕ) (d : Deed) (a b : End L) → IsDeed link at a.connection (seen a.sessions) (linked a.links) d b.connection (seen b.sessions) (linked b.links) → IsNamed call (seen a.sessions) d → IsTaken (seated_on d) [] → b.last ≡ a.last → b.failed ≡ a.failed → b.replies.items ≡ a.replies.items ++ told_of d → Going link at call (called_of d ++ []) a b
+goes_for : {L : Type 0} (link : Ghosts L) (at : ℕ) (call : Option ℕ) (d : Deed) (a b : End L) → IsDeed link at a.connection (seen a.sessions) (linked a.links) d b.connection (seen b.sessions) (linked b.links) → IsNamed call (seen a.sessions) d → IsTaken (seated_on d) [] → b.last ≡ a.last → b.failed ≡ a.failed → b.replies.items ≡ a.replies.items ++ told_of d → Going link at call (called_of d ++ []) (links_called_of d ++ []) a b
 goes_for link at call d a b h named free last failed told =
-    record { deeds = d ∷ []; did = (a.connection, seen a.sessions, linked a.links, (refl, refl, refl), h); made = refl; answers = told; last = last; failed = failed; named = inr (named, tt); seated = (free, tt) }
+    record { deeds = d ∷ []; did = (a.connection, seen a.sessions, linked a.links, (refl, refl, refl), h); made = refl; asked = refl; answers = told; last = last; failed = failed; named = inr (named, tt); seated = (free, tt) }
 
-goes_deed : {L : Type 0} (link : Ghosts L) (at : ℕ) (d : Deed) (a b : End L) → IsDeed link at a.connection (seen a.sessions) (linked a.links) d b.connection (seen b.sessions) (linked b.links) → IsNamed None (seen a.sessions) d → IsTaken (seated_on d) [] → b.last ≡ a.last → b.failed ≡ a.failed → b.replies.items ≡ a.replies.items ++ told_of d → Going link at None (called_of d ++ []) a b
+goes_deed : {L : Type 0} (link : Ghosts L) (at : ℕ) (d : Deed) (a b : End L) → IsDeed link at a.connection (seen a.sessions) (linked a.links) d b.connection (seen b.sessions) (linked b.links) → IsNamed None (seen a.sessions) d → IsTaken (seated_on d) [] → b.last ≡ a.last → b.failed ≡ a.failed → b.replies.items ≡ a.replies.items ++ told_of d → Going link at None (called_of d ++ []) (links_called_of d ++ []) a b
 goes_deed link at d a b h named free last failed told = goes_for link at None d a b h named free last failed told
 
 -- nothing is told
@@ -168,12 +174,12 @@ same_heard {L} p q same h = subst (λ (z : Peering L). waiting_in z.held ≡ [])
 -- nothing is done
 pub on_still : {L : Type 0} (link : Ghosts L) (at : ℕ) (a b : End L) → b.connection ≡ a.connection → seen b.sessions ≡ seen a.sessions → linked b.links ≡ linked a.links → b.last ≡ a.last → b.failed ≡ a.failed → b.replies.items ≡ a.replies.items → GoesOn link at a b
 on_still link at a b same s l last failed same_replies =
-    record { goes = record { deeds = []; did = (same, s, l); made = refl; answers = untold a.replies.items b.replies.items same_replies; last = last; failed = failed; named = tt; seated = tt }; late = same_late a.connection b.connection same; heard = same_heard a.connection b.connection same }
+    record { goes = record { deeds = []; did = (same, s, l); made = refl; asked = refl; answers = untold a.replies.items b.replies.items same_replies; last = last; failed = failed; named = tt; seated = tt }; late = same_late a.connection b.connection same; heard = same_heard a.connection b.connection same }
 
 -- the sessions alone make a move
-pub on_move : {L : Type 0} (link : Ghosts L) (at : ℕ) {call : Option ℕ} (m : Move) (a b : End L) → IsMoved call (seen a.sessions) m → IsTaken (moved_on m) [] → b.connection ≡ a.connection → seen b.sessions ≡ on m (seen a.sessions) → linked b.links ≡ linked a.links → b.last ≡ a.last → b.failed ≡ a.failed → b.replies.items ≡ a.replies.items → GoesOnFor link at call a b
-on_move link at {call} m a b named free same h k last failed same_replies =
-    record { goes = goes_for link at call (Moves m) a b (same, h, k) named free last failed (untold a.replies.items b.replies.items same_replies); late = same_late a.connection b.connection same; heard = same_heard a.connection b.connection same }
+pub on_move : {L : Type 0} (link : Ghosts L) (at : ℕ) {call : Option ℕ} (m : Move) (a b : End L) → IsMoved call (seen a.sessions) m → IsCaused m a.connection.held → IsTaken (moved_on m) [] → b.connection ≡ a.connection → seen b.sessions ≡ on m (seen a.sessions) → linked b.links ≡ linked a.links → b.last ≡ a.last → b.failed ≡ a.failed → b.replies.items ≡ a.replies.items → GoesOnFor link at call a b
+on_move link at {call} m a b named cause free same h k last failed same_replies =
+    record { goes = goes_for link at call (Moves m) a b (same, h, k, cause) named free last failed (untold a.replies.items b.replies.items same_replies); late = same_late a.connection b.connection same; heard = same_heard a.connection b.connection same }
 
 -- ---- what happens to a connection that has begun
 
@@ -246,11 +252,19 @@ early_heard (Unopened c) e = refl
 early_heard Moving e = refl
 early_heard (Late s) e = absurd (e tt)
 
+-- where no channel was free none is
+pub none_free : {L : Type 0} (h h' : Held L) → AllocatesLate h (Err ChannelMaxReached) h' → AllocatesLate h' (Err ChannelMaxReached) h'
+none_free (Early o p) h' t = absurd t
+none_free (Unopened c) h' t = absurd t
+none_free Moving h' t = absurd t
+none_free {L} (Late s) h' t =
+    subst (λ (k : Held L). AllocatesLate k (Err ChannelMaxReached) k) (sym t.1) (t.0, refl, (subst (λ (z : Engine L). z.settings.channel_max < first_free z.channels.seats) (sym t.2.1) t.2.0, refl))
+
 abbrev seat_of : Result ℕ AllocSessionError → Deed
 seat_of (Ok channel) = Seats channel
 seat_of (Err e) = Lacks e
 
-seat_is : {L : Type 0} (link : Ghosts L) (at : ℕ) (r : Result ℕ AllocSessionError) (a b : End L) → AllocatesLate a.connection.held r b.connection.held → IsHeldAlone a.connection b.connection → seen b.sessions ≡ seen a.sessions → linked b.links ≡ linked a.links → b.last ≡ a.last → b.failed ≡ a.failed → b.replies.items ≡ a.replies.items → Going link at None [] a b
+seat_is : {L : Type 0} (link : Ghosts L) (at : ℕ) (r : Result ℕ AllocSessionError) (a b : End L) → AllocatesLate a.connection.held r b.connection.held → IsHeldAlone a.connection b.connection → seen b.sessions ≡ seen a.sessions → linked b.links ≡ linked a.links → b.last ≡ a.last → b.failed ≡ a.failed → b.replies.items ≡ a.replies.items → Going link at None [] [] a b
 seat_is link at (Ok channel) a b t h e k last failed same_replies = goes_deed link at (Seats channel) a b (t, h, e, k) tt tt last failed (untold a.replies.items b.replies.items same_replies)
 seat_is link at (Err x) a b t h e k last failed same_replies = goes_deed link at (Lacks x) a b (t, h, e, k) tt tt last failed (untold a.replies.items b.replies.items same_replies)
 
@@ -306,8 +320,9 @@ pub on_begun : {L : Type 0} (link : Ghosts L) (at name : ℕ) (x : SessionNumber
 on_begun link at name x channel limit a m b k same h l last failed told = record {
   goes = record {
     deeds = Moves (Begun name x channel limit) ∷ Seats channel ∷ [];
-    did = (m.connection, seen m.sessions, linked m.links, (a.connection, seen a.sessions, linked a.links, (refl, refl, refl), (k.allocates, k.rest, k.sessions, k.links)), (same, h, l));
+    did = (m.connection, seen m.sessions, linked m.links, (a.connection, seen a.sessions, linked a.links, (refl, refl, refl), (k.allocates, k.rest, k.sessions, k.links)), (same, h, l, tt));
     made = refl;
+    asked = refl;
     answers = untold a.replies.items b.replies.items (told ∙ k.replies);
     last = last ∙ k.last;
     failed = failed ∙ k.failed;
@@ -325,6 +340,7 @@ on_accepted link at name {call} x channel limit incoming a m b by k t h e l last
     deeds = Accepts name x channel limit incoming ∷ Seats channel ∷ [];
     did = (m.connection, seen m.sessions, linked m.links, (a.connection, seen a.sessions, linked a.links, (refl, refl, refl), (k.allocates, k.rest, k.sessions, k.links)), (t, h, e, l));
     made = refl;
+    asked = refl;
     answers = untold a.replies.items b.replies.items (told ∙ k.replies);
     last = last ∙ k.last;
     failed = failed ∙ k.failed;
@@ -367,8 +383,8 @@ on_told_first {L} link at name answers a m b o p s l last failed told = record {
 }
 
 -- a call is made on the links
-pub on_asked : {L : Type 0} (link : Ghosts L) (at name : ℕ) (call : LinkCall) (a b : End L) → b.connection ≡ a.connection → seen b.sessions ≡ seen a.sessions → Calls name call (limit_for call (seen a.sessions)) (linked a.links) (linked b.links) → b.last ≡ a.last → b.failed ≡ a.failed → b.replies.items ≡ a.replies.items → GoesOnFor link at (Some name) a b
-on_asked link at name call a b same h k last failed same_replies = record { goes = goes_for link at (Some name) (Asks name call) a b (same, h, k) refl tt last failed (untold a.replies.items b.replies.items same_replies); late = same_late a.connection b.connection same; heard = same_heard a.connection b.connection same }
+pub goes_asked : {L : Type 0} (link : Ghosts L) (at name : ℕ) (call : LinkCall) (a b : End L) → b.connection ≡ a.connection → seen b.sessions ≡ seen a.sessions → Calls name call (limit_for call (seen a.sessions)) (linked a.links) (linked b.links) → b.last ≡ a.last → b.failed ≡ a.failed → b.replies.items ≡ a.replies.items → Going link at (Some name) [] ((name, call) ∷ []) a b
+goes_asked link at name call a b same h k last failed same_replies = goes_for link at (Some name) (Asks name call) a b (same, h, k) refl tt last failed (untold a.replies.items b.replies.items same_replies)
 
 -- the links are told the moment
 pub on_known : {L : Type 0} (link : Ghosts L) (at : ℕ) (a b : End L) → b.connection ≡ a.connection → seen b.sessions ≡ seen a.sessions → linked b.links ≡ at_moment at (linked a.links) → b.last ≡ a.last → b.failed ≡ a.failed → b.replies.items ≡ a.replies.items → GoesOn link at a b
@@ -393,7 +409,7 @@ on_lacking link at session a b same h k last failed same_replies = record { goes
 
 -- a step, behind which another follows or none does
 pub goes_step : {L : Type 0} (link : Ghosts L) (at : ℕ) (more : Bool) (a b : End L) → (◌≡◌ {A = Result Bool PeerError} (Ok more) (Ok true) → HandsOn link at a.connection b.connection) → (◌≡◌ {A = Result Bool PeerError} (Ok more) (Ok false) → HandsLast link at a.connection b.connection)
-    → seen b.sessions ≡ seen a.sessions → linked b.links ≡ linked a.links → b.last ≡ a.last → b.failed ≡ a.failed → b.replies.items ≡ a.replies.items → Going link at None [] a b
+    → seen b.sessions ≡ seen a.sessions → linked b.links ≡ linked a.links → b.last ≡ a.last → b.failed ≡ a.failed → b.replies.items ≡ a.replies.items → Going link at None [] [] a b
 goes_step link at true a b hands rests s l last failed same_replies =
     let k = hands refl in
     goes_deed link at (Goes k.0.run.events) a b (inl (k, refl), s, l) tt tt last failed (untold a.replies.items b.replies.items same_replies)
@@ -402,10 +418,10 @@ goes_step link at false a b hands rests s l last failed same_replies =
     goes_deed link at (Goes k.0.run.events) a b (inr (k, refl), s, l) tt tt last failed (untold a.replies.items b.replies.items same_replies)
 
 -- a call or a poll
-pub goes_called : {L : Type 0} (link : Ghosts L) (at name : ℕ) (call : ConnectionCall) (a b : End L) → Stepped link a.connection (Made at name call) b.connection → seen b.sessions ≡ seen a.sessions → linked b.links ≡ linked a.links → b.last ≡ a.last → b.failed ≡ a.failed → b.replies.items ≡ a.replies.items → Going link at None ((name, call) ∷ []) a b
+pub goes_called : {L : Type 0} (link : Ghosts L) (at name : ℕ) (call : ConnectionCall) (a b : End L) → Stepped link a.connection (Made at name call) b.connection → seen b.sessions ≡ seen a.sessions → linked b.links ≡ linked a.links → b.last ≡ a.last → b.failed ≡ a.failed → b.replies.items ≡ a.replies.items → Going link at None ((name, call) ∷ []) [] a b
 goes_called link at name call a b k s l last failed same_replies = goes_deed link at (Makes name call k.events) a b ((k, refl), s, l) tt tt last failed (untold a.replies.items b.replies.items same_replies)
 
-pub goes_polled : {L : Type 0} (link : Ghosts L) (at : ℕ) (a b : End L) → Stepped link a.connection (Polled at) b.connection → seen b.sessions ≡ seen a.sessions → linked b.links ≡ linked a.links → b.last ≡ a.last → b.failed ≡ a.failed → b.replies.items ≡ a.replies.items → Going link at None [] a b
+pub goes_polled : {L : Type 0} (link : Ghosts L) (at : ℕ) (a b : End L) → Stepped link a.connection (Polled at) b.connection → seen b.sessions ≡ seen a.sessions → linked b.links ≡ linked a.links → b.last ≡ a.last → b.failed ≡ a.failed → b.replies.items ≡ a.replies.items → Going link at None [] [] a b
 goes_polled link at a b k s l last failed same_replies = goes_deed link at (Polls k.events) a b ((k, refl), s, l) tt tt last failed (untold a.replies.items b.replies.items same_replies)
 
 -- ---- what was found

@@ -1,4 +1,5 @@
 pub mod Goes
+pub mod Handed
 pub mod Opened
 pub mod Passing
 pub mod Telling

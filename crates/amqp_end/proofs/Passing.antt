@@ -11,6 +11,7 @@ use Rattle.amqp_engine.specs.declared.error.AllocSessionError.{AllocSessionError
 use Rattle.amqp_engine.specs.declared.error.AllocSessionError.TheVariants.{ChannelMaxReached, Memory}
 use Rattle.amqp_engine.specs.Calls.{Allocates}
 use Rattle.amqp_engine.specs.State.{State as Engine}
+use Rattle.amqp_sessions.specs.amqp_link_words.declared.link_call.LinkCall.{LinkCall}
 use Rattle.amqp_words.specs.declared.call.Call.{Call as ConnectionCall}
 use Rattle.amqp_peer.specs.declared.held.Held.{Held}
 use Rattle.amqp_peer.specs.declared.held.Held.TheVariants.{Early, Late, Unopened, Moving}
@@ -131,5 +132,5 @@ did_passes link at [] p p' s s' l l' h = passes_still link p p' h.0
 did_passes link at (d ∷ ds) p p' s s' l l' h =
     passes_then link p h.0 p' (behind at ds []) (adds at d) (did_passes link at ds p h.0 s h.1 l h.2 h.3) (deed_passes link at d h.0 p' h.1 s' h.2 l' h.4)
 
-pub goes_passes : {L : Type 0} (link : Ghosts L) (at : ℕ) {call : Option ℕ} (calls : List (ℕ × ConnectionCall)) (a b : End L) (g : Going link at call calls a b) → Passes link a.connection b.connection (behind at g.deeds [])
+pub goes_passes : {L : Type 0} (link : Ghosts L) (at : ℕ) {call : Option ℕ} (calls : List (ℕ × ConnectionCall)) {asks : List (ℕ × LinkCall)} (a b : End L) (g : Going link at call calls asks a b) → Passes link a.connection b.connection (behind at g.deeds [])
 goes_passes link at calls a b g = did_passes link at g.deeds a.connection b.connection (seen a.sessions) (seen b.sessions) (linked a.links) (linked b.links) g.did

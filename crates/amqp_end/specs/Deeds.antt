@@ -29,14 +29,14 @@ use Rattle.amqp_sessions.specs.Calls.{accepted}
 use Rattle.amqp_sessions.specs.Frames.{heard, written, refusing}
 use Rattle.amqp_end.specs.Answers.{together, AreOrdered, with_first}
 use Rattle.amqp_end.specs.Asks.{limit_for}
-use Rattle.amqp_end.specs.Moves.{Move, on}
+use Rattle.amqp_end.specs.Moves.{Move, on, IsCaused}
 
 -- a frame of a session, as its endpoint sees it
 abbrev pub framed_of : Frame → Framed
 framed_of x = record { channel = x.channel; body = x.body }
 
 -- a call is made on the connection, or it is polled, or it makes one step, each with what this adds to its history; the sessions move by
--- themselves; the first frame that waits for them at the connection is heard; the first that they have to write is given to it, with what this
+-- themselves, for a cause; the first frame that waits for them at the connection is heard; the first that they have to write is given to it, with what this
 -- adds to its history; a channel is taken, or there is none; a channel of a session that is ended is given back; a session that the peer asks
 -- for is accepted; a call is made on the links; the first of what the sessions have for their links is heard by them; the first frame that the
 -- links write goes to its session; for an Attach of a link that this end does not have its session is ended; the links are told the moment,
@@ -80,7 +80,7 @@ abbrev pub IsDeed : {L : Type 0} → Ghosts L → ℕ → Peering L → State �
 IsDeed link at p s l (Makes name call events) p' s' l' = ((k : Stepped link p (Made at name call) p') × (k.events ≡ events)) × (s' ≡ s) × (l' ≡ l)
 IsDeed link at p s l (Polls events) p' s' l' = ((k : Stepped link p (Polled at) p') × (k.events ≡ events)) × (s' ≡ s) × (l' ≡ l)
 IsDeed link at p s l (Goes events) p' s' l' = IsStep link at p events p' × (s' ≡ s) × (l' ≡ l)
-IsDeed link at p s l (Moves m) p' s' l' = (p' ≡ p) × (s' ≡ on m s) × (l' ≡ l)
+IsDeed link at p s l (Moves m) p' s' l' = (p' ≡ p) × (s' ≡ on m s) × (l' ≡ l) × IsCaused m p.held
 IsDeed link at p s l (Hears x) p' s' l' =
     TakesIncoming p.held (Some x) p'.held × IsHeldAlone p p' × (s' ≡ heard (framed_of x) s) × (l' ≡ l)
 IsDeed link at p s l (Writes x events) p' s' l' = IsPassedOn link p s x events p' s' × (l' ≡ l)
@@ -130,6 +130,15 @@ called_of deed = []
 abbrev pub called_by : List Deed → List (ℕ × ConnectionCall)
 called_by [] = []
 called_by (d ∷ ds) = called_of d ++ called_by ds
+
+-- the calls that were made on the links, the newest first
+abbrev pub links_called_of : Deed → List (ℕ × LinkCall)
+links_called_of (Asks name call) = (name, call) ∷ []
+links_called_of deed = []
+
+abbrev pub links_called_by : List Deed → List (ℕ × LinkCall)
+links_called_by [] = []
+links_called_by (d ∷ ds) = links_called_of d ++ links_called_by ds
 
 -- the frames by which the sessions that were accepted were asked for, in order
 abbrev pub asked_of : Deed → List Frame

@@ -2,6 +2,7 @@ pub mod Answers
 pub mod Asks
 pub mod Deeds
 pub mod Goes
+pub mod Handed
 pub mod Moves
 pub mod Named
 pub mod Taken

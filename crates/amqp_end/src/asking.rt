@@ -1,6 +1,7 @@
 //! The calls of an end.
 ghost use Rattle.std.specs.Prelude.{◌≡◌, ℕ, [], ◌∷◌, Option, Some, OnOk, IfOk};
 ghost use Rattle.amqp_end.specs.Goes.{Goes, GoesOn, GoesOnFor, Seated};
+ghost use Rattle.amqp_end.specs.Handed.{HandsAll};
 ghost use Rattle.amqp_end.specs.Named.{IsBy};
 ghost use Rattle.amqp_end.specs.Rests.{Rests};
 ghost use Rattle.amqp_peer.specs.Peering.{MayCall};
@@ -46,8 +47,9 @@ impl<L: Link> End<L> {
         call: ConnectionCall,
     ) -> Result<(), AllocError>
         requires { MayCall self.old.connection name call }
-        ensures goes { OnOk result (Goes L.Link at (Some name) ((name, call) ∷ []) self.old self.new) }
+        ensures goes { OnOk result (Goes L.Link at (Some name) ((name, call) ∷ []) [] self.old self.new) }
         ensures rests { OnOk result (Rests self.new) }
+        ensures handed { OnOk result (HandsAll L.Link at self.old self.new) }
     {
         self.know(at);
         self.stop_sessions(&call)?;
@@ -60,16 +62,25 @@ impl<L: Link> End<L> {
         self.look()
     }
 
-    /// A `close` stops the sessions, of which their links hear.
+    /// A `close` stops the sessions, of which their links hear. What was left between them is handed on whatever the call.
     fn stop_sessions(&mut self, call: &ConnectionCall) -> Result<(), AllocError>
+        ensures ok { OnOk result ((at : ℕ) → GoesOn L.Link at self.old self.new) }
+        ensures connection { self.new.connection ≡ self.old.connection }
+        ensures handed { OnOk result ((at : ℕ) → HandsAll L.Link at self.old self.new) }
+    {
+        self.halt_for(call)?;
+        self.hand_on_all()
+    }
+
+    /// The sessions stop where the call is a `close`.
+    fn halt_for(&mut self, call: &ConnectionCall) -> Result<(), AllocError>
         ensures ok { OnOk result ((at : ℕ) → GoesOn L.Link at self.old self.new) }
         ensures connection { self.new.connection ≡ self.old.connection }
     {
         match own_reason(self.alloc, call)? {
             Some(reason) => {
                 self.has_closed = true;
-                self.sessions.halt(&reason)?;
-                self.hand_on_all()
+                self.sessions.halt(&reason)
             }
             None => Ok(()),
         }
@@ -82,8 +93,9 @@ impl<L: Link> End<L> {
         name: u64,
         call: SessionCall,
     ) -> Result<(), AllocError>
-        ensures goes { OnOk result (Goes L.Link at (Some name) [] self.old self.new) }
+        ensures goes { OnOk result (Goes L.Link at (Some name) [] [] self.old self.new) }
         ensures rests { OnOk result (Rests self.new) }
+        ensures handed { OnOk result (HandsAll L.Link at self.old self.new) }
     {
         let session = self.ask(name, call)?;
         self.collect()?;
@@ -94,7 +106,8 @@ impl<L: Link> End<L> {
 
     /// The frames of a session go out, and its links hear what it has for them.
     fn let_out(&mut self, session: u64) -> Result<(), AllocError>
-        ensures { OnOk result ((at : ℕ) → GoesOn L.Link at self.old self.new) }
+        ensures goes { OnOk result ((at : ℕ) → GoesOn L.Link at self.old self.new) }
+        ensures handed { OnOk result ((at : ℕ) → HandsAll L.Link at self.old self.new) }
     {
         self.sessions.hand_out(session)?;
         self.hand_on_all()?;
@@ -136,7 +149,7 @@ impl<L: Link> End<L> {
     fn seat(&mut self, name: u64) -> Result<Option<u16>, AllocError>
         ensures { IfOk result (Seated L.Link name self.old self.new) }
     {
-        if !self.connection.is_running() || !self.connection.is_open() {
+        if !self.connection.is_open() {
             self.sessions.refuse(name, BeginError::IllegalState)?;
             return Ok(None);
         }

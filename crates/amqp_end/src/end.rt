@@ -3,7 +3,8 @@ ghost use Rattle.std.specs.Prelude.{◌≡◌, ◌↔◌, [], None, Some, true, 
 ghost use Rattle.std.specs.Borrow.{Lends, sem};
 ghost use Rattle.amqp_end.specs.contracts.end.End.{the_row};
 ghost use Rattle.amqp_end.specs.Asks.{IsNew, Takes, HasSession, TakesForLink, MayAskFor, MayAsk};
-ghost use Rattle.amqp_end.specs.Goes.{Goes, on_connection};
+ghost use Rattle.amqp_end.specs.Goes.{Goes, on_connection, on_links};
+ghost use Rattle.amqp_end.specs.Handed.{HandsAll};
 ghost use Rattle.amqp_end.specs.Rests.{Rests};
 ghost use Rattle.amqp_links.specs.Forgetting.{forgotten};
 ghost use Rattle.amqp_links.specs.State.{seen as linked, no_links};
@@ -219,8 +220,9 @@ impl<L: Link> End<L> {
     /// memory is final: each later call and poll answers `Failed`.
     pub fn call(&mut self, at: u64, name: u64, call: Call) -> Result<(), EndError>
         requires { MayAsk self.old name call }
-        ensures ok { OnOk result (Goes L.Link at (Some name) (on_connection name call) (record self.old { last = Some name }) self.new) }
+        ensures ok { OnOk result (Goes L.Link at (Some name) (on_connection name call) (on_links name call) (record self.old { last = Some name }) self.new) }
         ensures rests { OnOk result (Rests self.new) }
+        ensures handed { OnOk result (HandsAll L.Link at (record self.old { last = Some name }) self.new) }
         ensures memory { OnErr result (self.new.failed ≡ true) }
         ensures failed { IsErrOf result EndError.Failed ↔ (self.old.failed ≡ true) }
     {
@@ -239,8 +241,9 @@ impl<L: Link> End<L> {
 
     fn make(&mut self, at: u64, name: u64, call: Call) -> Result<(), AllocError>
         requires { MayAsk self.old name call }
-        ensures ok { OnOk result (Goes L.Link at (Some name) (on_connection name call) (record self.old { last = Some name }) self.new) }
+        ensures ok { OnOk result (Goes L.Link at (Some name) (on_connection name call) (on_links name call) (record self.old { last = Some name }) self.new) }
         ensures rests { OnOk result (Rests self.new) }
+        ensures handed { OnOk result (HandsAll L.Link at (record self.old { last = Some name }) self.new) }
     {
         self.last = Some(name);
         match call {
@@ -253,15 +256,16 @@ impl<L: Link> End<L> {
     /// Goes on at the moment `at`, in milliseconds, until nothing more can be done. Want of memory is final: each later call and
     /// poll answers `Failed`.
     pub fn poll(&mut self, at: u64) -> Result<(), EndError>
-        ensures ok { OnOk result (Goes L.Link at None [] self.old self.new) }
+        ensures ok { OnOk result (Goes L.Link at None [] [] self.old self.new) }
         ensures rests { OnOk result (Rests self.new) }
+        ensures handed { OnOk result (HandsAll L.Link at self.old self.new) }
         ensures memory { OnErr result (self.new.failed ≡ true) }
         ensures failed { IsErrOf result EndError.Failed ↔ (self.old.failed ≡ true) }
     {
         if self.failed {
             return Err(EndError::Failed);
         }
-        match self.run(at) {
+        match self.go_on(at) {
             Ok(()) => Ok(()),
             Err(error) => {
                 self.failed = true;

@@ -1,7 +1,8 @@
 //! The links of an end: their calls, what they hear of their sessions, and what they write on them.
-ghost use Rattle.std.specs.Prelude.{◌≡◌, ℕ, [], Some, OnOk};
+ghost use Rattle.std.specs.Prelude.{◌≡◌, ℕ, [], ◌∷◌, Some, OnOk, IfOk};
 ghost use Rattle.amqp_end.specs.Asks.{limit_for};
-ghost use Rattle.amqp_end.specs.Goes.{Goes, GoesOn, GoesOnFor};
+ghost use Rattle.amqp_end.specs.Goes.{Goes, GoesOn};
+ghost use Rattle.amqp_end.specs.Handed.{HandsAll, HearsOne, WritesOne, HandsOne};
 ghost use Rattle.amqp_end.specs.Rests.{Rests};
 ghost use Rattle.amqp_links.specs.May.{is_spent_on};
 ghost use Rattle.amqp_links.specs.State.{seen as linked};
@@ -20,8 +21,9 @@ const HANDED_IN_A_ROW: u64 = 1 << 62;
 impl<L: Link> End<L> {
     /// Makes a call for a link: what it answers at once comes first, then what was read, then what the call writes.
     pub(crate) fn call_link(&mut self, at: u64, name: u64, call: LinkCall) -> Result<(), AllocError>
-        ensures goes { OnOk result (Goes L.Link at (Some name) [] self.old self.new) }
+        ensures goes { OnOk result (Goes L.Link at (Some name) [] ((name, call) ∷ []) self.old self.new) }
         ensures rests { OnOk result (Rests self.new) }
+        ensures handed { OnOk result (HandsAll L.Link at self.old self.new) }
     {
         self.know(at);
         self.ask_links(name, call)?;
@@ -61,7 +63,7 @@ impl<L: Link> End<L> {
     }
 
     fn ask_links(&mut self, name: u64, call: LinkCall) -> Result<(), AllocError>
-        ensures { OnOk result ((at : ℕ) → GoesOnFor L.Link at (Some name) self.old self.new) }
+        ensures { OnOk result ((at : ℕ) → Goes L.Link at (Some name) [] ((name, call) ∷ []) self.old self.new) }
     {
         let limit = self.limit_for(&call);
         self.links.call(name, call, limit)
@@ -69,7 +71,8 @@ impl<L: Link> End<L> {
 
     /// What the links write goes out.
     fn let_links_out(&mut self) -> Result<(), AllocError>
-        ensures { OnOk result ((at : ℕ) → GoesOn L.Link at self.old self.new) }
+        ensures goes { OnOk result ((at : ℕ) → GoesOn L.Link at self.old self.new) }
+        ensures handed { OnOk result ((at : ℕ) → HandsAll L.Link at self.old self.new) }
     {
         self.hand_on_all()?;
         self.hand_over()
@@ -79,6 +82,7 @@ impl<L: Link> End<L> {
     pub(crate) fn hand_on_all(&mut self) -> Result<(), AllocError>
         ensures goes { OnOk result ((at : ℕ) → GoesOn L.Link at self.old self.new) }
         ensures connection { self.new.connection ≡ self.old.connection }
+        ensures handed { OnOk result ((at : ℕ) → HandsAll L.Link at self.old self.new) }
     {
         let mut left = HANDED_IN_A_ROW;
         'handed: while left > 0 {
@@ -94,6 +98,7 @@ impl<L: Link> End<L> {
     fn hand_on(&mut self) -> Result<bool, AllocError>
         ensures goes { OnOk result ((at : ℕ) → GoesOn L.Link at self.old self.new) }
         ensures connection { self.new.connection ≡ self.old.connection }
+        ensures one { IfOk result (HandsOne L.Link self.old self.new) }
     {
         if self.hear_session()? {
             return Ok(true);
@@ -105,6 +110,7 @@ impl<L: Link> End<L> {
     fn hear_session(&mut self) -> Result<bool, AllocError>
         ensures goes { OnOk result ((at : ℕ) → GoesOn L.Link at self.old self.new) }
         ensures connection { self.new.connection ≡ self.old.connection }
+        ensures one { IfOk result (HearsOne L.Link self.old self.new) }
     {
         match self.sessions.take_for_link() {
             Some((session, input)) => {
@@ -120,6 +126,7 @@ impl<L: Link> End<L> {
     fn write_on_session(&mut self) -> Result<bool, AllocError>
         ensures goes { OnOk result ((at : ℕ) → GoesOn L.Link at self.old self.new) }
         ensures connection { self.new.connection ≡ self.old.connection }
+        ensures one { IfOk result (WritesOne L.Link self.old self.new) }
     {
         match self.links.take_output() {
             Some(LinksOutput::Frame(session, frame)) => {

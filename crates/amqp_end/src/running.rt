@@ -2,6 +2,7 @@
 ghost use Rattle.std.specs.Prelude.{◌≡◌, ℕ, [], ◌∷◌, ◌++◌, map, true, None, OnOk, IfOk};
 ghost use Rattle.amqp_end.specs.Answers.{of_connection, of_link, AreOrdered, answers_to, answers_to_others};
 ghost use Rattle.amqp_end.specs.Goes.{Goes, GoesOn};
+ghost use Rattle.amqp_end.specs.Handed.{HandsAll, KeepsHanded, KeepsBetween};
 ghost use Rattle.amqp_end.specs.Rests.{IsSaid, Rests};
 ghost use Rattle.amqp_end.specs.Taken.{TakenOut};
 ghost use Rattle.amqp_peer.specs.Hearing.{hears_in, IsOpenIn, waiting_in};
@@ -103,10 +104,21 @@ fn append(replies: &mut Vec<NamedReply>, fresh: Vec<NamedReply>) -> Result<(), A
 }
 
 impl<L: Link> End<L> {
+    /// What was left between sessions and links is handed on, and the end goes on until nothing more can be done.
+    pub(crate) fn go_on(&mut self, at: u64) -> Result<(), AllocError>
+        ensures goes { OnOk result (Goes L.Link at None [] [] self.old self.new) }
+        ensures rests { OnOk result (Rests self.new) }
+        ensures handed { OnOk result (HandsAll L.Link at self.old self.new) }
+    {
+        self.hand_on_all()?;
+        self.run(at)
+    }
+
     /// Goes on until nothing more can be done.
     pub(crate) fn run(&mut self, at: u64) -> Result<(), AllocError>
-        ensures goes { OnOk result (Goes L.Link at None [] self.old self.new) }
+        ensures goes { OnOk result (Goes L.Link at None [] [] self.old self.new) }
         ensures rests { OnOk result (Rests self.new) }
+        ensures kept { OnOk result (KeepsHanded L.Link at self.old self.new) }
     {
         self.know(at);
         self.exchange(at)?;
@@ -118,6 +130,7 @@ impl<L: Link> End<L> {
     pub(crate) fn know(&mut self, at: u64)
         ensures goes { GoesOn L.Link at self.old self.new }
         ensures connection { self.new.connection ≡ self.old.connection }
+        ensures between { KeepsBetween self.old self.new }
     {
         self.links.set_moment(at);
     }
@@ -126,6 +139,7 @@ impl<L: Link> End<L> {
     pub(crate) fn look(&mut self) -> Result<(), AllocError>
         ensures goes { OnOk result ((at : ℕ) → GoesOn L.Link at self.old self.new) }
         ensures rests { OnOk result (Rests self.old → Rests self.new) }
+        ensures between { OnOk result (KeepsBetween self.old self.new) }
     {
         self.look_at_links()?;
         self.collect()
@@ -135,13 +149,15 @@ impl<L: Link> End<L> {
         ensures goes { OnOk result ((at : ℕ) → GoesOn L.Link at self.old self.new) }
         ensures connection { self.new.connection ≡ self.old.connection }
         ensures sessions { self.new.sessions ≡ self.old.sessions }
+        ensures between { OnOk result (KeepsBetween self.old self.new) }
     {
         self.links.look()
     }
 
     /// Goes on with the exchange of headers, where the connection has not begun.
     fn exchange(&mut self, at: u64) -> Result<(), AllocError>
-        ensures { OnOk result (Goes L.Link at None [] self.old self.new) }
+        ensures goes { OnOk result (Goes L.Link at None [] [] self.old self.new) }
+        ensures kept { OnOk result (KeepsHanded L.Link at self.old self.new) }
     {
         if self.connection.is_running() {
             return Ok(());
@@ -154,8 +170,9 @@ impl<L: Link> End<L> {
 
     /// The connection goes on, step by step, until nothing more can be done.
     pub(crate) fn steps(&mut self, at: u64) -> Result<(), AllocError>
-        ensures goes { OnOk result (Goes L.Link at None [] self.old self.new) }
+        ensures goes { OnOk result (Goes L.Link at None [] [] self.old self.new) }
         ensures rests { OnOk result (Rests self.new) }
+        ensures kept { OnOk result (KeepsHanded L.Link at self.old self.new) }
     {
         if !self.connection.is_running() {
             return Ok(());
@@ -175,6 +192,7 @@ impl<L: Link> End<L> {
         requires { IsLate self.old.connection.held }
         ensures goes { OnOk result (GoesOn L.Link at self.old self.new) }
         ensures rests { OnOk result (Rests self.new) }
+        ensures kept { OnOk result (KeepsHanded L.Link at self.old self.new) }
     {
         match self.connection.step(at) {
             Ok(more) => {
@@ -189,6 +207,7 @@ impl<L: Link> End<L> {
     pub(crate) fn take_up(&mut self) -> Result<(), AllocError>
         ensures goes { OnOk result ((at : ℕ) → GoesOn L.Link at self.old self.new) }
         ensures rests { OnOk result (Rests self.new) }
+        ensures kept { OnOk result ((at : ℕ) → KeepsHanded L.Link at self.old self.new) }
     {
         self.hear()?;
         self.accept_waiting()?;
@@ -213,6 +232,7 @@ impl<L: Link> End<L> {
     fn look_at_fault(&mut self) -> Result<(), AllocError>
         ensures goes { OnOk result ((at : ℕ) → GoesOn L.Link at self.old self.new) }
         ensures said { OnOk result (IsSaid self.old → IsSaid self.new) }
+        ensures between { OnOk result (KeepsBetween self.old self.new) }
     {
         if self.has_concluded || !self.has_fault() {
             return Ok(());
@@ -224,6 +244,7 @@ impl<L: Link> End<L> {
     fn hear(&mut self) -> Result<(), AllocError>
         ensures goes { OnOk result ((at : ℕ) → GoesOn L.Link at self.old self.new) }
         ensures heard { OnOk result (waiting_in self.new.connection.held ≡ []) }
+        ensures kept { OnOk result ((at : ℕ) → KeepsHanded L.Link at self.old self.new) }
     {
         'frames: while let Some(frame) = self.connection.take_incoming() {
             self.sessions.on_frame(frame)?;
@@ -235,7 +256,8 @@ impl<L: Link> End<L> {
 
     /// An `accept_session` that waits takes the first session that the peer has begun and that waits.
     fn accept_waiting(&mut self) -> Result<(), AllocError>
-        ensures { OnOk result ((at : ℕ) → GoesOn L.Link at self.old self.new) }
+        ensures goes { OnOk result ((at : ℕ) → GoesOn L.Link at self.old self.new) }
+        ensures kept { OnOk result ((at : ℕ) → KeepsHanded L.Link at self.old self.new) }
     {
         let Some(Waiting::Accept(name, numbers)) = self.sessions.waiting() else {
             return Ok(());
@@ -252,6 +274,7 @@ impl<L: Link> End<L> {
     pub(crate) fn hand_over(&mut self) -> Result<(), AllocError>
         ensures goes { OnOk result ((at : ℕ) → GoesOn L.Link at self.old self.new) }
         ensures said { OnOk result (IsSaid self.new) }
+        ensures between { OnOk result (KeepsBetween self.old self.new) }
     {
         if !self.connection.is_open() {
             return Ok(());
@@ -267,6 +290,7 @@ impl<L: Link> End<L> {
         requires opened { hears_in self.old.connection.held ≡ true → IsOpenIn self.old.connection.held }
         ensures goes { OnOk result ((at : ℕ) → GoesOn L.Link at self.old self.new) }
         ensures written { OnOk result ((seen self.new.sessions).output ≡ []) }
+        ensures between { OnOk result (KeepsBetween self.old self.new) }
     {
         'frames: while let Some(frame) = self.sessions.take_output() {
             match self.connection.send(frame) {
@@ -282,6 +306,7 @@ impl<L: Link> End<L> {
         ensures goes { (at : ℕ) → GoesOn L.Link at self.old self.new }
         ensures output { (seen self.new.sessions).output ≡ (seen self.old.sessions).output }
         ensures freed { (seen self.new.sessions).freed ≡ [] }
+        ensures between { KeepsBetween self.old self.new }
     {
         'channels: while let Some(channel) = self.sessions.take_freed() {
             self.connection.deallocate_session(channel);
@@ -292,6 +317,7 @@ impl<L: Link> End<L> {
     fn conclude(&mut self) -> Result<(), AllocError>
         ensures goes { OnOk result ((at : ℕ) → GoesOn L.Link at self.old self.new) }
         ensures said { OnOk result (IsSaid self.old → IsSaid self.new) }
+        ensures kept { OnOk result ((at : ℕ) → KeepsHanded L.Link at self.old self.new) }
     {
         if self.has_concluded {
             return Ok(());
@@ -319,6 +345,7 @@ impl<L: Link> End<L> {
     pub(crate) fn collect(&mut self) -> Result<(), AllocError>
         ensures goes { OnOk result ((at : ℕ) → GoesOn L.Link at self.old self.new) }
         ensures said { OnOk result (IsSaid self.old → IsSaid self.new) }
+        ensures between { OnOk result (KeepsBetween self.old self.new) }
     {
         let fresh = self.take_answers()?;
         append(&mut self.replies, fresh)

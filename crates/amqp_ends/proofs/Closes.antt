@@ -72,7 +72,7 @@ cause_not : (calls : List (ℕ × Call)) (given : List Frame) (error : Option Am
 cause_not calls given error n t z a (called name condition earlier is e) = (subst NoneCloses is n).0 tt
 cause_not calls given error n t z a (answers c e) = closed_not given a c
 cause_not calls given error n t z a (mistaken o e) = other_first_not given t o
-cause_not calls given error n t z a (rejected s) = z s
+cause_not calls given error n t z a (rejected why s e) = z s.it
 
 said_unclosed : (p : Option Prepared) (calls : List (ℕ × Call)) (given sent : List Frame) → NoneCloses calls → IsTidy given → (HasStray given → ⊥) → AllUnclosed given → IsSaidFor p calls given sent → AllUnclosed sent
 said_unclosed p calls given sent n t z a (inl e) = subst AllUnclosed (sym e) tt

@@ -33,7 +33,7 @@ use Rattle.amqp_peer.specs.amqp_words.declared.open_error.OpenError.TheVariants 
 use Rattle.amqp_peer.specs.amqp_words.declared.reply.Reply.{Reply}
 use Rattle.amqp_peer.specs.amqp_words.declared.reply.Reply.TheVariants as reply
 use Rattle.amqp_peer.specs.amqp_words.declared.reply.NamedReply.{NamedReply}
-use Rattle.amqp_peer.specs.Causes.{IsShut, IsOther, IsOpenCause, not_allowed, in_opening, OpenCauseIn, TransportCause, IsBrokenBy, ConnectionCause, HasCause, AllCaused}
+use Rattle.amqp_peer.specs.Causes.{IsShut, IsOther, IsOpenCause, not_allowed, in_opening, OpenCauseIn, TransportCause, IsRefusedAs, IsBrokenBy, ConnectionCause, HasCause, AllCaused}
 use Rattle.amqp_peer.specs.Said.{HasOtherFirst, HasStray}
 use Rattle.amqp_peer.specs.History.{Local, Made, Polled, AtLink, Exchanged, Got, Put, Replied, made_in, link_in, given_in, replied_in, read_in, wrote_in, Once}
 use Rattle.amqp_peer.proofs.Histories.{link_in-append, given_in-append}
@@ -95,9 +95,9 @@ rejected_among given before later all e r more a = record {
   is = a ∙ ap (λ (u : List Frame). u ++ more) (e ∙ ap (λ (u : List Frame). u ++ later) r.is) ∙ ap (λ (u : List Frame). u ++ more) (append_assoc r.front (r.last ∷ []) later) ∙ append_assoc r.front (r.last ∷ later) more;
 }
 
-once_stray : (later h far : List Local) → MeetsUnstrayed (later ++ h) far → Once (λ g. IsRejected (given_in g)) h → ⊥
-once_stray later h far m o =
-    m.unstrayed (rejected_among (given_in h) (given_in o.earlier) (given_in o.later) (given_in (later ++ h)) (ap given_in o.split ∙ given_in-append o.later o.earlier) o.held (given_in later) (given_in-append later h))
+once_stray : (later h far : List Local) → MeetsUnstrayed (later ++ h) far → (e : ConnectionFault) → Once (λ g. IsRefusedAs e (given_in g)) h → ⊥
+once_stray later h far m e o =
+    m.unstrayed (rejected_among (given_in h) (given_in o.earlier) (given_in o.later) (given_in (later ++ h)) (ap given_in o.split ∙ given_in-append o.later o.earlier) o.held.2.it (given_in later) (given_in-append later h))
 
 pub other_first_not : (given : List Frame) → IsTidy given → HasOtherFirst given → ⊥
 other_first_not given t o = inner_not_open (kind_of o.first.body) o.other (first_open o.first o.more given t o.is)
@@ -179,9 +179,9 @@ negotiation_honest negotiation.FramingError h c o = tt
 connection_honest : (e : ConnectionFault) (later h far : List Local) → MeetsUnstrayed (later ++ h) far → ConnectionCause e h → IsHonest (reply.ConnectionError e)
 connection_honest (connection.Memory a) later h far m c = c
 connection_honest (connection.TransportError e) later h far m c = once_fault later h far m.meets e c
-connection_honest connection.IllegalState later h far m c = once_stray later h far m c
-connection_honest connection.NotImplemented later h far m c = once_stray later h far m c
-connection_honest connection.NotFound later h far m c = once_stray later h far m c
+connection_honest connection.IllegalState later h far m c = once_stray later h far m connection.IllegalState c
+connection_honest connection.NotImplemented later h far m c = once_stray later h far m connection.NotImplemented c
+connection_honest connection.NotFound later h far m c = once_stray later h far m connection.NotFound c
 connection_honest connection.RemoteClosed later h far m c = tt
 connection_honest (connection.RemoteClosedWithError e) later h far m c = tt
 

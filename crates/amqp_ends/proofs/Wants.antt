@@ -111,7 +111,7 @@ cause_called : (far : List Local) (error : Option AmqpError) → given_in far �
 cause_called far error g (called name condition earlier is e) = (name, condition, earlier, is)
 cause_called far error g (answers c e) = absurd (none_among c.front (record { channel = c.channel; body = CloseBody c.last }) c.more (sym c.is ∙ g))
 cause_called far error g (mistaken o e) = absurd (cc (sym o.is ∙ g))
-cause_called far error g (rejected s) = absurd (none_among s.front s.stray s.more (sym s.is ∙ g))
+cause_called far error g (rejected why s e) = absurd (none_among s.it.front s.it.stray s.it.more (sym s.it.is ∙ g))
 
 parted_called : (far : List Local) → given_in far ≡ [] → EndsWithClose (sent_in far) → HasSaid far → LastCloses (made_in far)
 parted_called far g e (inl none) = absurd (ends_closed (sent_in far) e (subst AllUnclosed (sym none) tt))

@@ -1,20 +1,26 @@
 -- What was heard, frame by frame.
-use Rattle.std.proofs.Common.{◌≡◌, inl, inr, ℕ, List, [], ◌∷◌, ◌++◌, Option, Some, None, refl, sym, ap, ◌∙◌, subst}
+use Rattle.std.proofs.Common.{◌≡◌, inl, inr, ℕ, Bool, true, false, List, [], ◌∷◌, ◌++◌, Option, Some, None, if◌then◌else◌, refl, sym, ap, ◌∙◌, subst}
+use Rattle.std.specs.Prelude.{nat_lt, slice_index_or, IsSome}
 use Rattle.amqp_composites.specs.declared.error.Error.{Error as AmqpError}
 use Rattle.amqp_transport.specs.amqp_frames.declared.body.FrameBody.{FrameBody}
 use Rattle.amqp_transport.specs.amqp_frames.declared.body.FrameBody.TheVariants as b
 use Rattle.amqp_transport.specs.amqp_frames.declared.shared.ConnectionStopReason.{ConnectionStopReason}
+use Rattle.amqp_transport.specs.amqp_frames.Session.{of_session}
+use Rattle.amqp_transport.specs.amqp_performatives.declared.begin.Begin.{Begin}
 use Rattle.amqp_transport.specs.declared.frames.Frame.{Frame}
 use Rattle.amqp_engine.specs.declared.phase.BodyKind.{BodyKind}
 use Rattle.amqp_engine.specs.declared.phase.BodyKind.TheVariants as kind
 use Rattle.amqp_engine.specs.declared.phase.Phase.{Phase}
 use Rattle.amqp_engine.specs.declared.phase.Phase.TheVariants as p
+use Rattle.amqp_engine.specs.declared.phase.Rejection.TheVariants as rejection
 use Rattle.amqp_engine.specs.declared.sessions.Plan.{Plan}
 use Rattle.amqp_engine.specs.declared.sessions.Plan.TheVariants as plan
+use Rattle.amqp_engine.specs.Channels.{Channels, is_among}
 use Rattle.amqp_engine.specs.Phases.{kind_of, IsInner, IsClose}
+use Rattle.amqp_engine.specs.Plans.{answer_plan, begin_plan, known_plan, within_plan}
 use Rattle.amqp_engine.specs.State.{State, own_reason, answered_reason, failed_reason, close_phase}
 use Rattle.amqp_engine.specs.Machine.{received, awaited, arrived, outlasted, phase_after, plan_of}
-use Rattle.amqp_engine.specs.Heard.{IsHeard, IsGreeted, IsRejected, IsStray, AllUnclosed}
+use Rattle.amqp_engine.specs.Heard.{IsHeard, IsGreeted, IsRejected, IsRejectedFor, IsStray, IsStrayFor, AllUnclosed}
 
 -- a frame of that body
 abbrev framed : ℕ → FrameBody → Frame
@@ -53,7 +59,7 @@ greeted_by xs x body e n g = greeted_push xs x (λ c. n (subst (λ (z : FrameBod
 pub rejected_greeted : (given : List Frame) → IsRejected given → IsGreeted given
 rejected_greeted given r = subst (λ (xs : List Frame). IsGreeted xs) (sym r.is) (greeted_push r.front r.last (stray_unclosed (kind_of r.last.body) r.stray) r.before)
 
-rejected_by : (xs : List Frame) (x : Frame) (body : FrameBody) → x.body ≡ body → IsStray (kind_of body) → IsGreeted xs → IsRejected (xs ++ x ∷ [])
+abbrev rejected_by : (xs : List Frame) (x : Frame) (body : FrameBody) → x.body ≡ body → IsStray (kind_of body) → IsGreeted xs → IsRejected (xs ++ x ∷ [])
 rejected_by xs x body e i g = record { front = xs; last = x; before = g; stray = subst (λ (z : FrameBody). IsStray (kind_of z)) (sym e) i; is = refl }
 
 -- the frame of that body, last
@@ -79,27 +85,71 @@ heard_awaited at s xs x (b.Disposition y) e h = mistaken s.reason xs x (b.Dispos
 heard_awaited at s xs x (b.Detach y) e h = mistaken s.reason xs x (b.Detach y) e tt h
 heard_awaited at s xs x (b.End y) e h = mistaken s.reason xs x (b.End y) e tt h
 
-heard_planned : (q : Plan) (phase : Phase) (reason : ConnectionStopReason) (xs : List Frame) → phase ≡ p.Opened → IsRejected xs → IsHeard p.Opened reason xs → IsHeard (phase_after q phase) reason xs
-heard_planned (plan.Reject w) phase reason xs e r h = (r, h.1)
-heard_planned plan.Deliver phase reason xs e r h = subst (λ (q : Phase). IsHeard q reason xs) (sym e) h
-heard_planned plan.Answer phase reason xs e r h = subst (λ (q : Phase). IsHeard q reason xs) (sym e) h
-heard_planned plan.End phase reason xs e r h = subst (λ (q : Phase). IsHeard q reason xs) (sym e) h
-heard_planned plan.Ask phase reason xs e r h = subst (λ (q : Phase). IsHeard q reason xs) (sym e) h
+-- where a frame is refused, it may be for that reason
+abbrev Fits : Plan → FrameBody → Type 0
+Fits (plan.Reject w) body = IsStrayFor w body
+Fits q body = Unit {0}
 
-heard_session : {L : Type 0} (s : State L) (xs : List Frame) (x : Frame) (body : FrameBody) → x.body ≡ body → IsStray (kind_of body) → s.phase ≡ p.Opened → IsHeard p.Opened s.reason xs → IsHeard (phase_after (plan_of s x) s.phase) s.reason (xs ++ x ∷ [])
-heard_session s xs x body e i o h = heard_planned (plan_of s x) s.phase s.reason (xs ++ x ∷ []) o (rejected_by xs x body e i h.0) (greeted_by xs x body e (stray_unclosed (kind_of body) i) h.0, h.1)
+fits_answer : (a z : Bool) (y : Begin) (n : ℕ) → y.remote_channel ≡ Some n → Fits (answer_plan a z) (b.Begin y)
+fits_answer false z y n e = subst (λ (m : Option ℕ). IsSome m) (sym e) refl
+fits_answer true true y n e = tt
+fits_answer true false y n e = tt
+
+fits_begin : (k l : Bool) (c : Channels) (y : Begin) (m : Option ℕ) → y.remote_channel ≡ m → Fits (begin_plan k l c m) (b.Begin y)
+fits_begin true l c y m e = tt
+fits_begin false l c y (Some n) e = fits_answer (slice_index_or c.seats n false) (is_among n c.answered) y n e
+fits_begin false true c y None e = tt
+fits_begin false false c y None e = e
+
+-- another frame, on a channel that is begun or not
+fits_there : (k : Bool) (q : Plan) (body : FrameBody) → Fits q body → IsStrayFor rejection.NotFound body → Fits (if k then q else plan.Reject rejection.NotFound) body
+fits_there true q body f n = f
+fits_there false q body f n = n
+
+fits_known : (k l : Bool) (c : Channels) (body : FrameBody) → of_session body ≡ true → Fits (known_plan k l c body) body
+fits_known k l c (b.Begin y) t = fits_begin k l c y y.remote_channel refl
+fits_known k l c (b.End y) t = fits_there k plan.End (b.End y) tt refl
+fits_known k l c (b.Attach y) t = fits_there k plan.Deliver (b.Attach y) tt refl
+fits_known k l c (b.Flow y) t = fits_there k plan.Deliver (b.Flow y) tt refl
+fits_known k l c (b.Transfer y z) t = fits_there k plan.Deliver (b.Transfer y z) tt refl
+fits_known k l c (b.Disposition y) t = fits_there k plan.Deliver (b.Disposition y) tt refl
+fits_known k l c (b.Detach y) t = fits_there k plan.Deliver (b.Detach y) tt refl
+fits_known k l c (b.Open y) t = absurd (cc t)
+fits_known k l c (b.Close y) t = absurd (cc t)
+fits_known k l c b.Empty t = absurd (cc t)
+
+fits_within : (u : Bool) (q : Plan) (body : FrameBody) → of_session body ≡ true → Fits q body → Fits (within_plan u q) body
+fits_within true q body t f = t
+fits_within false q body t f = f
+
+fits_plan : {L : Type 0} (s : State L) (x : Frame) → of_session x.body ≡ true → Fits (plan_of s x) x.body
+fits_plan s x t =
+    let k : Bool = is_among x.channel s.channels.remotes in
+    fits_within (nat_lt s.settings.channel_max x.channel) (known_plan k s.settings.is_listener s.channels x.body) x.body t
+    (fits_known k s.settings.is_listener s.channels x.body t)
+
+heard_planned : (q : Plan) (phase : Phase) (reason : ConnectionStopReason) (xs : List Frame) (r : IsRejected xs) → phase ≡ p.Opened → Fits q r.last.body → IsHeard p.Opened reason xs → IsHeard (phase_after q phase) reason xs
+heard_planned (plan.Reject w) phase reason xs r e f h = (record { it = r; fits = f }, h.1)
+heard_planned plan.Deliver phase reason xs r e f h = subst (λ (q : Phase). IsHeard q reason xs) (sym e) h
+heard_planned plan.Answer phase reason xs r e f h = subst (λ (q : Phase). IsHeard q reason xs) (sym e) h
+heard_planned plan.End phase reason xs r e f h = subst (λ (q : Phase). IsHeard q reason xs) (sym e) h
+heard_planned plan.Ask phase reason xs r e f h = subst (λ (q : Phase). IsHeard q reason xs) (sym e) h
+
+heard_session : {L : Type 0} (s : State L) (xs : List Frame) (x : Frame) (body : FrameBody) → x.body ≡ body → IsStray (kind_of body) → of_session body ≡ true → s.phase ≡ p.Opened → IsHeard p.Opened s.reason xs → IsHeard (phase_after (plan_of s x) s.phase) s.reason (xs ++ x ∷ [])
+heard_session s xs x body e i t o h = heard_planned (plan_of s x) s.phase s.reason (xs ++ x ∷ []) (rejected_by xs x body e i h.0) o (fits_plan s x (ap of_session e ∙ t)) (greeted_by xs x body e (stray_unclosed (kind_of body) i) h.0, h.1)
 
 heard_arrived : {L : Type 0} (s : State L) (xs : List Frame) (x : Frame) (body : FrameBody) → x.body ≡ body → s.phase ≡ p.Opened → IsHeard p.Opened s.reason xs → IsHeard (arrived s x body).phase (arrived s x body).reason (xs ++ x ∷ [])
-heard_arrived s xs x (b.Open y) e o h = (rejected_by xs x (b.Open y) e tt h.0, h.1)
+heard_arrived s xs x (b.Open y) e o h =
+    (record { it = rejected_by xs x (b.Open y) e tt h.0; fits = subst (λ (z : FrameBody). IsStrayFor rejection.IllegalState z) (sym e) tt }, h.1)
 heard_arrived s xs x (b.Close y) e o h = record { front = xs; channel = x.channel; last = y; before = inr h.0; is = last_is xs x (b.Close y) e; told = refl }
 heard_arrived s xs x b.Empty e o h = subst (λ (q : Phase). IsHeard q s.reason (xs ++ x ∷ [])) (sym o) (greeted_by xs x b.Empty e (λ c. c) h.0, h.1)
-heard_arrived s xs x (b.Begin y) e o h = heard_session s xs x (b.Begin y) e tt o h
-heard_arrived s xs x (b.Attach y) e o h = heard_session s xs x (b.Attach y) e tt o h
-heard_arrived s xs x (b.Flow y) e o h = heard_session s xs x (b.Flow y) e tt o h
-heard_arrived s xs x (b.Transfer y z) e o h = heard_session s xs x (b.Transfer y z) e tt o h
-heard_arrived s xs x (b.Disposition y) e o h = heard_session s xs x (b.Disposition y) e tt o h
-heard_arrived s xs x (b.Detach y) e o h = heard_session s xs x (b.Detach y) e tt o h
-heard_arrived s xs x (b.End y) e o h = heard_session s xs x (b.End y) e tt o h
+heard_arrived s xs x (b.Begin y) e o h = heard_session s xs x (b.Begin y) e tt refl o h
+heard_arrived s xs x (b.Attach y) e o h = heard_session s xs x (b.Attach y) e tt refl o h
+heard_arrived s xs x (b.Flow y) e o h = heard_session s xs x (b.Flow y) e tt refl o h
+heard_arrived s xs x (b.Transfer y z) e o h = heard_session s xs x (b.Transfer y z) e tt refl o h
+heard_arrived s xs x (b.Disposition y) e o h = heard_session s xs x (b.Disposition y) e tt refl o h
+heard_arrived s xs x (b.Detach y) e o h = heard_session s xs x (b.Detach y) e tt refl o h
+heard_arrived s xs x (b.End y) e o h = heard_session s xs x (b.End y) e tt refl o h
 
 -- an end that has closed for that reason
 record HasParted {L : Type 0} (s : State L) (xs : List Frame) : Type 0 where

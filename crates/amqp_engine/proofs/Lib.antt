@@ -6,7 +6,8 @@ pub mod Writes
 pub mod Runs
 pub mod Steps
 pub mod Says
-pub mod Seats
+pub mod Lowest
+pub mod Account
 pub mod Answered
 pub mod Handed
 pub mod Beats

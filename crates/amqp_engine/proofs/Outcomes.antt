@@ -420,7 +420,7 @@ acted p.Refused link at old result new e a =
     acted_puts link at old (close_frame None) _ result new (answers_follow old (λ sent s. in_phase old p.Refused sent e s) (λ before h. inr (inl (heard_in old p.Refused before e h))) (ap is_stopped e)) (owed_in old p.Refused (close_frame None) e refl) refl refl (λ h. absurd (cc h)) tt refl (λ c k. keeps_refusing old.reason c (in_closer old p.Refused c e k)) a
 acted (p.Rejected why) link at old result new e (inl a) =
     acted_puts link at old (close_frame (Some (error_for why))) (closing old (Some (error_for why))) result new
-    (closes_follow old (Some (error_for why)) (λ sent s. in_phase old (p.Rejected why) sent e s) (λ before h. rejected_greeted before (heard_in old (p.Rejected why) before e h).0) (ap is_stopped e)) (owed_in old (p.Rejected why) (close_frame (Some (error_for why))) e refl) refl refl (λ h. absurd (cc h)) tt refl (λ c k. closing_keeps old (Some (error_for why)) c (in_closer old (p.Rejected why) c e k)) a
+    (closes_follow old (Some (error_for why)) (λ sent s. in_phase old (p.Rejected why) sent e s) (λ before h. rejected_greeted before (heard_in old (p.Rejected why) before e h).0.it) (ap is_stopped e)) (owed_in old (p.Rejected why) (close_frame (Some (error_for why))) e refl) refl refl (λ h. absurd (cc h)) tt refl (λ c k. closing_keeps old (Some (error_for why)) c (in_closer old (p.Rejected why) c e k)) a
 acted (p.Rejected why) link at old result new e (inr m) = acted_wants link at old result new m.0 m.1
 acted p.CloseSent link at old result new e a = acted_reads link at old result new (listens_in old p.CloseSent e tt) (λ f. absurd (cc (e, f))) a
 acted p.Discarding link at old result new e a = acted_reads link at old result new (listens_in old p.Discarding e tt) (λ f. absurd (cc (e, f))) a

@@ -1,6 +1,5 @@
 -- The channels of sessions, and what came on them.
-use Rattle.std.specs.Prelude.{◌≡◌, ℕ, ◌+◌, ◌<◌, nat_eq, Bool, true, false, List, [], ◌∷◌, ◌++◌, map, slice_set, Option, Some, None, if◌then◌else◌}
-use Prim.Native.Nat.{zero, suc}
+use Rattle.std.specs.Prelude.{◌≡◌, ℕ, ◌<◌, nat_eq, Bool, false, List, [], ◌∷◌, ◌++◌, map, slice_set, Option, Some, None, if◌then◌else◌}
 use Rattle.std.specs.List.{list_any}
 use Rattle.std.specs.VecDeque.{deque_len, deque_capacity}
 use Rattle.indexmap.specs.IndexSet.{spare, swap_remove_by}
@@ -12,6 +11,7 @@ use Rattle.amqp_transport.specs.declared.frames.Frame.{Frame}
 use Rattle.amqp_engine.specs.declared.sessions.Plan.{Plan}
 use Rattle.amqp_engine.specs.declared.sessions.Plan.TheVariants as plan
 use Rattle.amqp_engine.specs.declared.sessions.Sessions.{Sessions}
+pub use Rattle.amqp_engine.specs.Seats.{first_free, seat_taken, taken_up_to}
 
 -- of each channel of this end whether a session has it; those whose Begin the peer has answered; the peer's channels on which it has
 -- begun a session; the frames that wait; the sessions that the peer asks for
@@ -30,7 +30,7 @@ abbrev pub frames_in : List SessionFrame → List Frame
 frames_in xs = map frame_in xs
 
 abbrev pub channels_of : Sessions → Channels
-channels_of s = record { seats = s.seats.items; answered = s.answered.keys; remotes = s.remotes.keys; incoming = frames_in s.incoming.items; begun = s.begun.items }
+channels_of s = record { seats = s.seats; answered = s.answered.keys; remotes = s.remotes.keys; incoming = frames_in s.incoming.items; begun = s.begun.items }
 
 -- no sessions
 abbrev pub no_channels : Channels
@@ -84,28 +84,9 @@ taken_in plan.End c x = record c { remotes = without_channel x.channel c.remotes
 taken_in plan.Ask c x = record c { remotes = with_channel x.channel c.remotes; begun = with_asked c.begun (asked x) }
 taken_in (plan.Reject why) c x = c
 
--- the first channel that no session has
-abbrev pub first_free : List Bool → ℕ
-first_free [] = 0
-first_free (true ∷ seats) = first_free seats + 1
-first_free (false ∷ seats) = 0
-
--- that channel is taken
-abbrev pub seat_taken : List Bool → ℕ → List Bool
-seat_taken [] channel = true ∷ []
-seat_taken (x ∷ seats) zero = true ∷ seats
-seat_taken (x ∷ seats) (suc channel) = x ∷ seat_taken seats channel
-
 -- that channel is free, and a session that has it next is not answered yet
 abbrev pub seat_freed : ℕ → Channels → Channels
 seat_freed channel c = record c { seats = slice_set c.seats channel false; answered = without_channel channel c.answered }
-
--- how many of the first channels are taken
-abbrev pub taken_up_to : ℕ → List Bool → ℕ
-taken_up_to zero seats = 0
-taken_up_to (suc n) [] = 0
-taken_up_to (suc n) (true ∷ seats) = taken_up_to n seats + 1
-taken_up_to (suc n) (false ∷ seats) = taken_up_to n seats
 
 abbrev pub first_of : {X : Type 0} → List X → Option X
 first_of [] = None

@@ -1,16 +1,20 @@
 -- What an end has heard on its connection, by how far it is (OASIS AMQP 1.0, part 2, section 2.4).
-use Rattle.std.specs.Prelude.{◌≡◌, ◌⊎◌, ℕ, List, [], ◌∷◌, ◌++◌, Option, Some, None}
+use Rattle.std.specs.Prelude.{◌≡◌, ◌⊎◌, true, ℕ, List, [], ◌∷◌, ◌++◌, Option, Some, None, IsSome}
 use Rattle.amqp_transport.specs.amqp_performatives.declared.close.Close.{Close}
 use Rattle.amqp_composites.specs.declared.error.Error.{Error as AmqpError}
 use Rattle.amqp_transport.specs.amqp_performatives.declared.open.Open.{Open}
+use Rattle.amqp_transport.specs.amqp_frames.declared.body.FrameBody.{FrameBody}
 use Rattle.amqp_transport.specs.amqp_frames.declared.body.FrameBody.TheVariants as b
 use Rattle.amqp_transport.specs.amqp_frames.declared.shared.ConnectionStopReason.{ConnectionStopReason}
 use Rattle.amqp_transport.specs.amqp_frames.declared.shared.ConnectionStopReason.TheVariants as why
+use Rattle.amqp_transport.specs.amqp_frames.Session.{of_session}
 use Rattle.amqp_transport.specs.declared.frames.Frame.{Frame}
 use Rattle.amqp_engine.specs.declared.phase.BodyKind.{BodyKind}
 use Rattle.amqp_engine.specs.declared.phase.BodyKind.TheVariants as kind
 use Rattle.amqp_engine.specs.declared.phase.Phase.{Phase}
 use Rattle.amqp_engine.specs.declared.phase.Phase.TheVariants as p
+use Rattle.amqp_engine.specs.declared.phase.Rejection.{Rejection}
+use Rattle.amqp_engine.specs.declared.phase.Rejection.TheVariants as rejection
 use Rattle.amqp_engine.specs.Phases.{kind_of, IsInner, IsClose}
 use Rattle.amqp_engine.specs.State.{remote_reason, own_reason, answered_reason}
 
@@ -34,6 +38,31 @@ IsStray kind.Session = Unit {0}
 IsStray kind.Empty = ⊥
 IsStray kind.Close = ⊥
 
+-- a second Open, or a Begin
+abbrev pub IsOpening : FrameBody → Type 0
+IsOpening (b.Open x) = Unit {0}
+IsOpening (b.Begin x) = Unit {0}
+IsOpening body = ⊥
+
+-- a Begin that asks for a session, as it names no channel (part 2, section 2.7.2)
+abbrev pub IsAsking : FrameBody → Type 0
+IsAsking (b.Begin x) = x.remote_channel ≡ None
+IsAsking body = ⊥
+
+-- any other frame of a session: a Begin that names a channel of this end, or one for a session that the peer has begun
+abbrev pub IsAddressed : FrameBody → Type 0
+IsAddressed (b.Begin x) = IsSome x.remote_channel
+IsAddressed body = of_session body ≡ true
+
+-- Which frames may be refused for which reason (part 2, sections 2.5.1, 2.7.1 and 2.7.2): `IllegalState` an Open or a Begin that comes
+-- out of order, `NotImplemented` a Begin that asks for a session, `NotFound` a frame for a session that is not there, `FramingError` a
+-- frame of a session beyond what was agreed.
+abbrev pub IsStrayFor : Rejection → FrameBody → Type 0
+IsStrayFor rejection.IllegalState body = IsOpening body
+IsStrayFor rejection.NotImplemented body = IsAsking body
+IsStrayFor rejection.NotFound body = IsAddressed body
+IsStrayFor rejection.FramingError body = of_session body ≡ true
+
 -- the peer's Open, and last a frame that is refused (part 2, section 2.4)
 pub record IsRejected (given : List Frame) : Type 0 where
   pub front : List Frame
@@ -41,6 +70,11 @@ pub record IsRejected (given : List Frame) : Type 0 where
   pub before : IsGreeted front
   pub stray : IsStray (kind_of last.body)
   pub is : given ≡ front ++ last ∷ []
+
+-- the same, and it may be refused for that reason
+pub record IsRejectedFor (why : Rejection) (given : List Frame) : Type 0 where
+  pub it : IsRejected given
+  pub fits : IsStrayFor why it.last.body
 
 -- the peer's Close, in place of Open or behind it, and nothing more; the reason is its own (part 2, section 2.4.3)
 pub record IsParted (reason : ConnectionStopReason) (given : List Frame) : Type 0 where
@@ -80,7 +114,7 @@ IsHeard p.OpenSent reason given = (given ≡ []) × (reason ≡ why.Closed)
 IsHeard p.Opened reason given = IsGreeted given × (reason ≡ why.Closed)
 IsHeard p.CloseReceived reason given = IsParted reason given
 IsHeard p.Refused reason given = IsMistaken reason given
-IsHeard (p.Rejected rejection) reason given = IsRejected given × (reason ≡ why.Closed)
+IsHeard (p.Rejected rejection) reason given = IsRejectedFor rejection given × (reason ≡ why.Closed)
 IsHeard p.CloseSent reason given = IsGreeted given × (reason ≡ own_reason None)
 IsHeard p.Discarding reason given = IsGreeted given × (own : AmqpError) × (reason ≡ own_reason (Some own))
 IsHeard p.Ended reason given = IsOver reason given

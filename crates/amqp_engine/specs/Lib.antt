@@ -3,6 +3,8 @@ pub mod Errors
 pub mod Stops
 pub mod Phases
 pub mod Plans
+pub mod Seats
+pub mod Kept
 pub mod Channels
 pub mod State
 pub mod Machine

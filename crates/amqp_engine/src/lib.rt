@@ -13,4 +13,5 @@ pub mod engine;
 pub mod error;
 pub mod laws;
 pub mod phase;
+mod seats;
 mod sessions;

@@ -1,5 +1,5 @@
 //! The channels of sessions, and what came on them (OASIS AMQP 1.0, part 2, section 2.5).
-ghost use Rattle.std.specs.Prelude.{◌≡◌, ◌<◌, ◌≤◌, [], false, length, slice_index_or, option_map, OnOk, OnErr};
+ghost use Rattle.std.specs.Prelude.{◌≡◌, ◌<◌, [], false, slice_index_or, option_map, OnOk, OnErr};
 ghost use Rattle.indexmap.specs.IndexSet.{spare};
 ghost use Rattle.amqp_engine.specs.Plans.{planned, known_plan, begin_plan, answer_plan, rejection_told};
 ghost use Rattle.amqp_engine.specs.Channels.{frame_in, asked, named_in, channels_of, is_among, with_channel, without_channel, taken_in, HasRoom, first_free, seat_taken, seat_freed, first_of, TakesFrame, TakesSession};
@@ -8,6 +8,7 @@ use crate::connection::Settings;
 use crate::drops::discard;
 use crate::error::Error;
 use crate::phase::Rejection;
+use crate::seats::Seats;
 use amqp_transport::amqp_frames::{FrameBody, IncomingSession, SessionFrame, let_go};
 use indexmap::IndexSet;
 use std::alloc::{AllocError, Global};
@@ -30,8 +31,8 @@ pub enum Plan {
 
 /// The sessions of a connection, by their channels, and what came for them.
 pub struct Sessions {
-    /// Of each channel of this end, from 0 on, whether a session has it.
-    seats: Vec<bool>,
+    /// Of each channel of this end whether a session has it.
+    seats: Seats,
     /// The channels of this end whose Begin the peer has answered.
     answered: IndexSet<u16>,
     /// The peer's channels on which it has begun a session, and not ended it.
@@ -57,15 +58,6 @@ impl Drop for Sessions {
         drop(remotes);
         drop(incoming);
         drop(begun);
-    }
-}
-
-fn is_taken(seats: &[bool], channel: u16) -> bool
-    ensures { result ≡ slice_index_or seats.now channel false }
-{
-    match seats.get(usize::from(channel)) {
-        Some(taken) => *taken,
-        None => false,
     }
 }
 
@@ -96,17 +88,6 @@ fn named(body: &FrameBody) -> Option<u16>
     }
 }
 
-fn first_free(seats: &[bool]) -> usize
-    ensures { result ≡ first_free seats.now }
-{
-    for (channel, taken) in seats.iter().enumerate() {
-        if !*taken {
-            return channel;
-        }
-    }
-    seats.len()
-}
-
 fn ask(frame: SessionFrame) -> Option<IncomingSession>
     ensures { result ≡ asked (frame_in frame) }
 {
@@ -126,7 +107,7 @@ impl Sessions {
         ensures { channels_of result ≡ record { seats = []; answered = []; remotes = []; incoming = []; begun = [] } }
     {
         Sessions {
-            seats: Vec::new(alloc),
+            seats: Seats::new(alloc),
             answered: IndexSet::new(alloc),
             remotes: IndexSet::new(alloc),
             incoming: VecDeque::new(alloc),
@@ -197,9 +178,9 @@ impl Sessions {
     }
 
     fn plan_answer(&self, channel: u16) -> Plan
-        ensures { result ≡ answer_plan (slice_index_or self.now.seats.items channel false) (is_among channel self.now.answered.keys) }
+        ensures { result ≡ answer_plan (slice_index_or self.now.seats channel false) (is_among channel self.now.answered.keys) }
     {
-        if !is_taken(self.seats.as_slice(), channel) {
+        if !self.seats.has(channel) {
             return Plan::Reject(Rejection::NotFound);
         }
         if self.answered.contains(&channel) {
@@ -238,24 +219,18 @@ impl Sessions {
 
     /// The lowest free channel.
     pub(crate) fn lowest_free(&self) -> usize
-        ensures within { result ≤ length self.now.seats.items }
-        ensures value { result ≡ first_free self.now.seats.items }
+        ensures { result ≡ first_free self.now.seats }
     {
-        first_free(self.seats.as_slice())
+        self.seats.lowest()
     }
 
-    /// Gives the channel to a session.
+    /// Gives the lowest free channel to a session.
     pub(crate) fn seat(&mut self, channel: usize) -> Result<(), AllocError>
-        requires { channel ≤ length self.old.seats.items }
-        ensures ok { OnOk result (channels_of self.new ≡ record (channels_of self.old) { seats = seat_taken self.old.seats.items channel }) }
+        requires { channel ≡ first_free self.old.seats }
+        ensures ok { OnOk result (channels_of self.new ≡ record (channels_of self.old) { seats = seat_taken self.old.seats channel }) }
         ensures err { OnErr result (channels_of self.new ≡ channels_of self.old) }
     {
-        if channel < self.seats.as_slice().len() {
-            self.seats[channel] = true;
-            return Ok(());
-        }
-        self.seats.push(true)?;
-        Ok(())
+        self.seats.take(channel)
     }
 
     /// Frees the channel.
@@ -263,10 +238,7 @@ impl Sessions {
         ensures { channels_of self.new ≡ seat_freed channel (channels_of self.old) }
     {
         remove(&mut self.answered, channel);
-        let channel = usize::from(channel);
-        if channel < self.seats.len() {
-            self.seats[channel] = false;
-        }
+        self.seats.free(channel);
     }
 
     /// Takes the first frame off.

@@ -36,9 +36,9 @@ fn only_piece(pieces: &[Bytes]) -> Option<&Bytes>
 /// The message that the whole payload spells, as `decode_message` reads it from the bytes of all pieces: `Decode` exactly where they
 /// spell none. One piece is read where it lies; several are copied together first.
 pub fn decode_message_pieces(alloc: Global, payload: &PayloadList) -> Result<Message, BaseError>
-    ensures { IsTheMessage result (SpellsMessage payload.now) }
+    ensures { IsTheMessage result (SpellsMessage (joined payload.now)) }
 {
-    let pieces = payload.pieces();
+    let pieces = payload.as_slice();
     match only_piece(pieces) {
         Some(piece) => decode_message(alloc, piece.as_slice()),
         None => {

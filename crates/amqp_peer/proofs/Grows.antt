@@ -8,7 +8,7 @@ use Rattle.amqp_engine.specs.declared.error.Error.TheVariants as connection
 use Rattle.amqp_engine.specs.declared.phase.Phase.{Phase}
 use Rattle.amqp_engine.specs.declared.phase.Phase.TheVariants as p
 use Rattle.amqp_engine.specs.declared.phase.Rejection.{Rejection}
-use Rattle.amqp_engine.specs.Heard.{IsRejected, IsHeard}
+use Rattle.amqp_engine.specs.Heard.{IsRejectedFor, IsHeard}
 use Rattle.amqp_engine.specs.Outcomes.{IsMoment, IsOnward, IsRefusal, Stepped}
 use Rattle.amqp_engine.specs.Phases.{state_of, has_failed}
 use Rattle.amqp_engine.specs.Sentence.{Ran}
@@ -19,7 +19,7 @@ use Rattle.amqp_peer.specs.declared.held.Held.{Held}
 use Rattle.amqp_peer.specs.declared.held.Held.TheVariants.{Late}
 use Rattle.amqp_peer.specs.declared.peer.Progress.{Progress}
 use Rattle.amqp_peer.specs.declared.peer.Progress.TheVariants as progress
-use Rattle.amqp_peer.specs.Causes.{BeginsWithOpen, IsOther, prepared_in}
+use Rattle.amqp_peer.specs.Causes.{BeginsWithOpen, IsOther, IsRefusedAs, prepared_in}
 use Rattle.amqp_peer.specs.Held.{IsLeaving, IsLeavingIn, is_made_state}
 use Rattle.amqp_peer.specs.History.{Local, made_in, given_in, moment_in}
 use Rattle.amqp_peer.specs.Replies.{IsOpenRefusal}
@@ -168,9 +168,9 @@ early_more (connection.RemoteClosedWithError x) s s' h r n u = u
 pub late_more : {L : Type 0} {link : Ghosts L} (e : ConnectionFault) (s s' : State L) (h : List Local) (r : Ran link s s') → (has_failed s.phase ≡ true → (r.given ≡ []) × (has_failed s'.phase ≡ true)) → LateFault e s h → LateFault e s' (moved r ++ h)
 late_more (connection.Memory a) s s' h r n u = u
 late_more (connection.TransportError t) s s' h r n u = ((n u.0).1, broken_more t (moved r) h ((passed r).heard ∙ (n u.0).0) ((passed r).said ∙ (r.stays (failed_stops s.phase u.0)).none) u.1)
-late_more connection.IllegalState s s' h r n u = once_more (λ g. IsRejected (given_in g)) (moved r) h u
-late_more connection.NotImplemented s s' h r n u = once_more (λ g. IsRejected (given_in g)) (moved r) h u
-late_more connection.NotFound s s' h r n u = once_more (λ g. IsRejected (given_in g)) (moved r) h u
+late_more connection.IllegalState s s' h r n u = once_more (λ g. IsRefusedAs connection.IllegalState (given_in g)) (moved r) h u
+late_more connection.NotImplemented s s' h r n u = once_more (λ g. IsRefusedAs connection.NotImplemented (given_in g)) (moved r) h u
+late_more connection.NotFound s s' h r n u = once_more (λ g. IsRefusedAs connection.NotFound (given_in g)) (moved r) h u
 late_more connection.RemoteClosed s s' h r n u = u
 late_more (connection.RemoteClosedWithError x) s s' h r n u = u
 
@@ -343,15 +343,15 @@ unmade_failed link at call None e s s' h st k prep m a u = (early_cause link at 
 unmade_failed link at call (Some f) e s s' h st k prep m a u = (early_more f s s' h st.run (failed_again link at e s s' st a) u.0, (refused_unheard link at call e s s' h st a k u.1.0, breaks link at call e s s' h st k prep m a))
 
 -- a frame that is refused behind Open
-rejected_stray : {L : Type 0} (link : Ghosts L) (call : Call) (why : Rejection) (s s' : State L) (h : List Local) (r : Ran link s s') → IsRunning call s h → s'.phase ≡ p.Rejected why → IsRejected (given_in (moved r ++ h))
+rejected_stray : {L : Type 0} (link : Ghosts L) (call : Call) (why : Rejection) (s s' : State L) (h : List Local) (r : Ran link s s') → IsRunning call s h → s'.phase ≡ p.Rejected why → IsRejectedFor why (given_in (moved r ++ h))
 rejected_stray link call why s s' h r k e = (subst (λ (q : Phase). IsHeard q s'.reason (given_in (moved r ++ h))) e (heard_after link call s s' h r k)).0
 
 unheard_yet : {L : Type 0} (call : Call) (s : State L) (h : List Local) → IsRunning call s h → s.phase ≡ p.OpenSent → BeginsWithOpen (given_in h) → ⊥
 unheard_yet call s h k e o = begins_not_nil (given_in h) (subst (λ (q : Phase). IsHeard q s.reason (given_in h)) e k.runs.heard).0 o
 
-refusal_stray : {L : Type 0} (link : Ghosts L) (call : Call) (q : Phase) (e : ConnectionFault) (s s' : State L) (h : List Local) (r : Ran link s s') → IsRunning call s h → BeginsWithOpen (given_in h) → s.phase ≡ q → IsRefusal q e s'.phase → IsRejected (given_in (moved r ++ h))
+refusal_stray : {L : Type 0} (link : Ghosts L) (call : Call) (q : Phase) (e : ConnectionFault) (s s' : State L) (h : List Local) (r : Ran link s s') → IsRunning call s h → BeginsWithOpen (given_in h) → s.phase ≡ q → IsRefusal q e s'.phase → IsRefusedAs e (given_in (moved r ++ h))
 refusal_stray link call p.OpenSent e s s' h r k o z c = absurd (unheard_yet call s h k z o)
-refusal_stray link call p.Opened e s s' h r k o z c = rejected_stray link call c.0 s s' h r k c.2
+refusal_stray link call p.Opened e s s' h r k o z c = (c.0, c.1, rejected_stray link call c.0 s s' h r k c.2)
 refusal_stray link call p.CloseReceived e s s' h r k o z c = absurd c
 refusal_stray link call p.Refused e s s' h r k o z c = absurd c
 refusal_stray link call (p.Rejected why) e s s' h r k o z c = absurd c
@@ -363,9 +363,9 @@ refusal_stray link call p.Failed e s s' h r k o z c = absurd c
 late_cause : {L : Type 0} (link : Ghosts L) (at : ℕ) (call : Call) (e : ConnectionFault) (s s' : State L) (h : List Local) (st : Stepped link at s (Err e) s') → IsRunning call s h → BeginsWithOpen (given_in h) → prepared_in (made_in h) ≡ prepared_of call → moment_in h ≡ at → (a : (x : _) → e ≡ connection.Memory x → ⊥) → LateFault e s' (moved st.run ++ h)
 late_cause link at call (connection.Memory x) s s' h st k o prep m a = absurd (a x refl)
 late_cause link at call (connection.TransportError t) s s' h st k o prep m a = (st.told.0, broken_after link at call s s' h st.run t k prep m st.told.2 (st.told.1 k.calm))
-late_cause link at call connection.IllegalState s s' h st k o prep m a = once_now (λ g. IsRejected (given_in g)) (moved st.run ++ h) (refusal_stray link call s.phase connection.IllegalState s s' h st.run k o refl st.told.1)
-late_cause link at call connection.NotImplemented s s' h st k o prep m a = once_now (λ g. IsRejected (given_in g)) (moved st.run ++ h) (refusal_stray link call s.phase connection.NotImplemented s s' h st.run k o refl st.told.1)
-late_cause link at call connection.NotFound s s' h st k o prep m a = once_now (λ g. IsRejected (given_in g)) (moved st.run ++ h) (refusal_stray link call s.phase connection.NotFound s s' h st.run k o refl st.told.1)
+late_cause link at call connection.IllegalState s s' h st k o prep m a = once_now (λ g. IsRefusedAs connection.IllegalState (given_in g)) (moved st.run ++ h) (refusal_stray link call s.phase connection.IllegalState s s' h st.run k o refl st.told.1)
+late_cause link at call connection.NotImplemented s s' h st k o prep m a = once_now (λ g. IsRefusedAs connection.NotImplemented (given_in g)) (moved st.run ++ h) (refusal_stray link call s.phase connection.NotImplemented s s' h st.run k o refl st.told.1)
+late_cause link at call connection.NotFound s s' h st k o prep m a = once_now (λ g. IsRefusedAs connection.NotFound (given_in g)) (moved st.run ++ h) (refusal_stray link call s.phase connection.NotFound s s' h st.run k o refl st.told.1)
 late_cause link at call connection.RemoteClosed s s' h st k o prep m a = absurd st.told
 late_cause link at call (connection.RemoteClosedWithError x) s s' h st k o prep m a = absurd st.told
 

@@ -6,7 +6,6 @@ use Rattle.amqp_transport.specs.declared.frames.Frame.{Frame}
 use Rattle.amqp_transport.specs.declared.transport.Error.{Error as TransportFault}
 use Rattle.amqp_engine.specs.declared.error.Error.{Error as ConnectionFault}
 use Rattle.amqp_engine.specs.declared.error.Error.TheVariants as connection
-use Rattle.amqp_engine.specs.Heard.{IsRejected}
 use Rattle.amqp_engine.specs.Sentence.{Has as EngineHas}
 use Rattle.amqp_engine.specs.State.{State}
 use Rattle.amqp_opening.specs.declared.authentication.Authentication.{Authentication}
@@ -24,7 +23,7 @@ use Rattle.amqp_peer.specs.declared.prepared.Prepared.{Prepared}
 use Rattle.amqp_engine.specs.Closers.{Closer, IsCloser}
 use Rattle.amqp_peer.specs.Closers.{closer_in}
 use Rattle.amqp_peer.specs.Beats.{beat_in, AllBeats}
-use Rattle.amqp_peer.specs.Causes.{has_layer, IsLayerWritten, IsTail, IsQueued, BeginsWithOpen, StartsWithin, IsOther, IsBrokenBy, AllCaused, EndsExchange}
+use Rattle.amqp_peer.specs.Causes.{has_layer, IsLayerWritten, IsTail, IsQueued, BeginsWithOpen, StartsWithin, IsOther, IsRefusedAs, IsBrokenBy, AllCaused, EndsExchange}
 use Rattle.amqp_peer.specs.Gated.{IsGatedIn}
 use Rattle.amqp_peer.specs.History.{Local, Made, Polled, Replied, made_in, link_in, given_in, sent_in, since_in, Once}
 use Rattle.amqp_peer.specs.Peering.{Peering, Has, HasIn, HasCalled, IsHeld, IsHeldAt, IsExchanging, IsRunning, IsUnmadeAt, IsUnmade, IsFaultIn, IsMadeIn, EarlyFault, LateFault, IsBrokenIn, IsBrokenHeld, HasNoFrames}
@@ -158,9 +157,9 @@ early_fault_quiet (connection.RemoteClosedWithError x) s h h' q u = u
 late_fault_quiet : {L : Type 0} (e : ConnectionFault) (s : State L) (h h' : List Local) → Quiet h h' → LateFault e s h → LateFault e s h'
 late_fault_quiet (connection.Memory a) s h h' q u = u
 late_fault_quiet (connection.TransportError t) s h h' q u = (u.0, broken_by_quiet t h h' q u.1)
-late_fault_quiet connection.IllegalState s h h' q u = once_quiet (λ g. IsRejected (given_in g)) h h' q u
-late_fault_quiet connection.NotImplemented s h h' q u = once_quiet (λ g. IsRejected (given_in g)) h h' q u
-late_fault_quiet connection.NotFound s h h' q u = once_quiet (λ g. IsRejected (given_in g)) h h' q u
+late_fault_quiet connection.IllegalState s h h' q u = once_quiet (λ g. IsRefusedAs connection.IllegalState (given_in g)) h h' q u
+late_fault_quiet connection.NotImplemented s h h' q u = once_quiet (λ g. IsRefusedAs connection.NotImplemented (given_in g)) h h' q u
+late_fault_quiet connection.NotFound s h h' q u = once_quiet (λ g. IsRefusedAs connection.NotFound (given_in g)) h h' q u
 late_fault_quiet connection.RemoteClosed s h h' q u = u
 late_fault_quiet (connection.RemoteClosedWithError x) s h h' q u = u
 

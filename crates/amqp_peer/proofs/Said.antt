@@ -13,18 +13,20 @@ use Rattle.amqp_engine.specs.declared.phase.BodyKind.TheVariants as kind
 use Rattle.amqp_engine.specs.declared.phase.Phase.{Phase}
 use Rattle.amqp_engine.specs.declared.phase.Phase.TheVariants as p
 use Rattle.amqp_engine.specs.Faults.{IsOwed, AllOwed}
-use Rattle.amqp_engine.specs.Heard.{IsHeard, IsParted, IsMistaken, IsRejected}
+use Rattle.amqp_engine.specs.declared.phase.Rejection.{Rejection}
+use Rattle.amqp_engine.specs.Heard.{IsHeard, IsParted, IsMistaken, IsRejectedFor}
 use Rattle.amqp_engine.specs.Phases.{kind_of}
 use Rattle.amqp_engine.specs.Sentence.{AllInner, IsBegun, IsClosed, IsSaid}
 use Rattle.amqp_engine.proofs.Said.{said_form}
 use Rattle.amqp_engine.specs.State.{close_frame}
+use Rattle.amqp_engine.specs.State.{error_for as error_of_rejection}
 use Rattle.amqp_words.specs.declared.call.Call.{Call}
 use Rattle.amqp_words.specs.declared.call.Call.TheVariants.{Close as CloseCall}
 use Rattle.amqp_peer.specs.declared.prepared.Prepared.{Prepared}
 use Rattle.amqp_peer.specs.Causes.{prepared_in}
 use Rattle.amqp_peer.specs.History.{Local, made_in, given_in, sent_in}
 use Rattle.amqp_peer.specs.Prepared.{prepared_of, error_for}
-use Rattle.amqp_peer.specs.Said.{AllMiddle, IsMiddle, IsPlain, HasClose, HasOtherFirst, HasStray, CloseCause, called, answers, mistaken, rejected, IsSaidFor, HasSaid}
+use Rattle.amqp_peer.specs.Said.{AllMiddle, IsMiddle, IsPlain, HasClose, HasOtherFirst, HasStray, HasStrayFor, CloseCause, called, answers, mistaken, rejected, IsSaidFor, HasSaid}
 
 -- ---- what was read stays so where more is read
 
@@ -41,7 +43,7 @@ close_stays xs ys c =
 other_stays : (xs ys : List Frame) → HasOtherFirst xs → HasOtherFirst (xs ++ ys)
 other_stays xs ys o = record { first = o.first; more = o.more ++ ys; other = o.other; is = ap (λ (u : List Frame). u ++ ys) o.is }
 
-stray_stays : (xs ys : List Frame) → HasStray xs → HasStray (xs ++ ys)
+abbrev stray_stays : (xs ys : List Frame) → HasStray xs → HasStray (xs ++ ys)
 stray_stays xs ys o =
     record { front = o.front; stray = o.stray; more = o.more ++ ys; before = o.before; has_no_place = o.has_no_place; is = ap (λ (u : List Frame). u ++ ys) o.is ∙ append_assoc o.front (o.stray ∷ o.more) ys }
 
@@ -49,7 +51,7 @@ cause_stays : (calls : List (ℕ × Call)) (xs ys : List Frame) (error : Option 
 cause_stays calls xs ys error (called name condition earlier c e) = called name condition earlier c e
 cause_stays calls xs ys error (answers c e) = answers (close_stays xs ys c) e
 cause_stays calls xs ys error (mistaken c e) = mistaken (other_stays xs ys c) e
-cause_stays calls xs ys error (rejected c) = rejected (stray_stays xs ys c)
+cause_stays calls xs ys error (rejected why c e) = rejected why (record { it = stray_stays xs ys c.it; fits = c.fits }) e
 
 pub said_stays : (own : Option Prepared) (calls : List (ℕ × Call)) (xs ys sent : List Frame) → IsSaidFor own calls xs sent → IsSaidFor own calls (xs ++ ys) sent
 said_stays own calls xs ys sent (inl e) = inl e
@@ -96,8 +98,9 @@ parted_close reason given h = record { front = h.front; channel = h.channel; las
 mistaken_first : (reason : ConnectionStopReason) (given : List Frame) → IsMistaken reason given → HasOtherFirst given
 mistaken_first reason given h = record { first = h.first; more = []; other = h.other; is = h.is }
 
-rejected_stray : (given : List Frame) → IsRejected given → HasStray given
-rejected_stray given h = record { front = h.front; stray = h.last; more = []; before = h.before; has_no_place = h.stray; is = h.is }
+rejected_stray : (why : Rejection) (given : List Frame) → IsRejectedFor why given → HasStrayFor why given
+rejected_stray why given h =
+    record { it = record { front = h.it.front; stray = h.it.last; more = []; before = h.it.before; has_no_place = h.it.stray; is = h.it.is }; fits = h.fits }
 
 -- ---- what is owed
 
@@ -106,7 +109,7 @@ said_one p.OpenSent reason own calls given sent x o s h k = absurd o
 said_one p.Opened reason own calls given sent x o s h k = inr (inl (plain_push own sent x (inl o) (plain_of own calls given sent k s)))
 said_one p.CloseReceived reason own calls given sent x o s h k = closed_with own calls given sent x None o (plain_of own calls given sent k s) (answers (parted_close reason given h) refl)
 said_one p.Refused reason own calls given sent x o s h k = closed_with own calls given sent x None o (plain_of own calls given sent k s) (mistaken (mistaken_first reason given h) refl)
-said_one (p.Rejected why) reason own calls given sent x o s h k = closed_with own calls given sent x _ o (plain_of own calls given sent k s) (rejected (rejected_stray given h.0))
+said_one (p.Rejected why) reason own calls given sent x o s h k = closed_with own calls given sent x (Some (error_of_rejection why)) o (plain_of own calls given sent k s) (rejected why (rejected_stray why given h.0) refl)
 said_one p.CloseSent reason own calls given sent x o s h k = absurd o
 said_one p.Discarding reason own calls given sent x o s h k = absurd o
 said_one p.Ended reason own calls given sent x o s h k = absurd o
@@ -180,7 +183,7 @@ cause_second first last own given error k (called name condition earlier c e) =
     absurd (cc (sym k ∙ ap (λ (x : ℕ × Call). prepared_of x.1) (same_Some first (name, CloseCall condition) (ap first_call c))))
 cause_second first last own given error k (answers c e) = answers c e
 cause_second first last own given error k (mistaken c e) = mistaken c e
-cause_second first last own given error k (rejected c) = rejected c
+cause_second first last own given error k (rejected why c e) = rejected why c e
 
 said_second : (first last : ℕ × Call) (given sent : List Frame) → IsSaidFor (prepared_of first.1) (first ∷ []) given sent → IsSaidFor (prepared_of first.1) (last ∷ first ∷ []) given sent
 said_second first last given sent (inl e) = inl e

@@ -22,7 +22,9 @@ use Rattle.amqp_engine.specs.Closers.{This, Peer}
 use Rattle.amqp_engine.specs.declared.error.Error.{Error as ConnectionFault}
 use Rattle.amqp_engine.specs.declared.error.Error.TheVariants as connection
 use Rattle.amqp_engine.specs.Calls.{IsTooLarge}
-use Rattle.amqp_engine.specs.Heard.{IsGreeted, IsRejected}
+use Rattle.amqp_engine.specs.declared.phase.Rejection.{Rejection}
+use Rattle.amqp_engine.specs.Heard.{IsGreeted, IsRejectedFor}
+use Rattle.amqp_engine.specs.Plans.{rejection_told}
 use Rattle.amqp_engine.specs.Phases.{kind_of, IsInner}
 use Rattle.amqp_engine.specs.Sentence.{bytes_of_all, size_of_frame, AllWithin, read_limit, write_limit}
 use Rattle.amqp_engine.specs.Settings.{open_of}
@@ -312,13 +314,17 @@ pub record IsBrokenBy (e : TransportFault) (h : List Local) : Type 0 where
   pub recent : IsRecent e earlier
   pub still : (given_in later ≡ []) × (sent_in later ≡ [])
 
+-- the peer's Open, and last a frame that is refused for a reason which is told so (part 2, sections 2.4, 2.5.1 and 2.7.1)
+abbrev pub IsRefusedAs : ConnectionFault → List Frame → Type 0
+IsRefusedAs e given = (why : Rejection) × (e ≡ rejection_told why) × IsRejectedFor why given
+
 -- why a call on the connection failed
 abbrev pub ConnectionCause : ConnectionFault → List Local → Type 0
 ConnectionCause (connection.Memory a) h = ⊥
 ConnectionCause (connection.TransportError e) h = IsBrokenBy e h
-ConnectionCause connection.IllegalState h = Once (λ g. IsRejected (given_in g)) h
-ConnectionCause connection.NotImplemented h = Once (λ g. IsRejected (given_in g)) h
-ConnectionCause connection.NotFound h = Once (λ g. IsRejected (given_in g)) h
+ConnectionCause connection.IllegalState h = Once (λ g. IsRefusedAs connection.IllegalState (given_in g)) h
+ConnectionCause connection.NotImplemented h = Once (λ g. IsRefusedAs connection.NotImplemented (given_in g)) h
+ConnectionCause connection.NotFound h = Once (λ g. IsRefusedAs connection.NotFound (given_in g)) h
 ConnectionCause connection.RemoteClosed h = IsLeft None (given_in h) × (closer_in h ≡ Peer)
 ConnectionCause (connection.RemoteClosedWithError e) h = IsLeft (Some e) (given_in h)
 

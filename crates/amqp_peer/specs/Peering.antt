@@ -4,7 +4,6 @@ use Rattle.amqp_wire.specs.Events.{LinkEvent}
 use Rattle.amqp_engine.specs.declared.error.Error.{Error as ConnectionFault}
 use Rattle.amqp_engine.specs.declared.error.Error.TheVariants as connection
 use Rattle.amqp_engine.specs.Closers.{IsCloser}
-use Rattle.amqp_engine.specs.Heard.{IsRejected}
 use Rattle.amqp_engine.specs.Phases.{has_failed}
 use Rattle.amqp_engine.specs.Sentence.{Has as EngineHas, IsCalm}
 use Rattle.amqp_engine.specs.State.{State}
@@ -29,7 +28,7 @@ use Rattle.amqp_peer.specs.declared.prepared.Prepared.{Prepared}
 use Rattle.amqp_peer.specs.Beats.{beat_in, AllBeats}
 use Rattle.amqp_peer.specs.Closers.{closer_in}
 use Rattle.amqp_peer.specs.Calls.{IsFirstCall, IsClose}
-use Rattle.amqp_peer.specs.Causes.{MadeIn, has_layer, BeginsWithOpen, IsOther, AllCaused, IsBrokenBy, IsBroken, EndsExchange, IsQueued, StartsWithin, largest_of}
+use Rattle.amqp_peer.specs.Causes.{MadeIn, has_layer, BeginsWithOpen, IsOther, AllCaused, IsRefusedAs, IsBrokenBy, IsBroken, EndsExchange, IsQueued, StartsWithin, largest_of}
 use Rattle.amqp_peer.specs.Gated.{IsGatedIn}
 use Rattle.amqp_peer.specs.Held.{IsMidway, IsBusy, IsLeavingIn, link_at, with_link, nothing_held}
 use Rattle.amqp_peer.specs.History.{Local, made_in, link_in, given_in, sent_in, replied_in, read_in, wrote_in, since_in, Once}
@@ -153,9 +152,9 @@ EarlyFault (connection.RemoteClosedWithError e) s h = ⊥
 abbrev pub LateFault : {L : Type 0} → ConnectionFault → State L → List Local → Type 0
 LateFault (connection.Memory a) s h = ⊥
 LateFault (connection.TransportError e) s h = (has_failed s.phase ≡ true) × IsBrokenBy e h
-LateFault connection.IllegalState s h = Once (λ g. IsRejected (given_in g)) h
-LateFault connection.NotImplemented s h = Once (λ g. IsRejected (given_in g)) h
-LateFault connection.NotFound s h = Once (λ g. IsRejected (given_in g)) h
+LateFault connection.IllegalState s h = Once (λ g. IsRefusedAs connection.IllegalState (given_in g)) h
+LateFault connection.NotImplemented s h = Once (λ g. IsRefusedAs connection.NotImplemented (given_in g)) h
+LateFault connection.NotFound s h = Once (λ g. IsRefusedAs connection.NotFound (given_in g)) h
 LateFault connection.RemoteClosed s h = ⊥
 LateFault (connection.RemoteClosedWithError e) s h = ⊥
 

@@ -6,9 +6,11 @@ use Rattle.amqp_frames.specs.declared.body.FrameBody.TheVariants as b
 use Rattle.amqp_frames.specs.Session.{of_session}
 use Rattle.amqp_transport.specs.declared.frames.Frame.{Frame}
 use Rattle.amqp_transport.specs.Kinds.{no_frame}
-use Rattle.amqp_engine.specs.Heard.{IsGreeted, IsStray}
+use Rattle.amqp_engine.specs.declared.phase.Rejection.{Rejection}
+use Rattle.amqp_engine.specs.Heard.{IsGreeted, IsStray, IsStrayFor}
 use Rattle.amqp_engine.specs.Phases.{kind_of, IsInner}
 use Rattle.amqp_engine.specs.State.{open_frame, close_frame}
+use Rattle.amqp_engine.specs.State.{error_for as error_of_rejection}
 use Rattle.amqp_words.specs.declared.call.Call.{Call}
 use Rattle.amqp_words.specs.declared.call.Call.TheVariants.{Close as CloseCall}
 use Rattle.amqp_peer.specs.declared.prepared.Prepared.{Prepared}
@@ -59,15 +61,20 @@ pub record HasStray (given : List Frame) : Type 0 where
   pub has_no_place : IsStray (kind_of stray.body)
   pub is : given ≡ front ++ stray ∷ more
 
+-- and that may be refused for this reason (sections 2.5.1, 2.7.1 and 2.7.2)
+pub record HasStrayFor (why : Rejection) (given : List Frame) : Type 0 where
+  pub it : HasStray given
+  pub fits : IsStrayFor why it.stray.body
+
 -- ---- what was said
 
 -- why a Close was queued: it was called, the peer's was read, another frame than Open or Close came in place of Open, or a frame that has
--- no place while the connection is open (sections 2.4.1 and 2.4.3)
+-- no place while the connection is open, and then the error is that for which it is refused (sections 2.4.1, 2.4.3, 2.7.1, 2.8.15 and 2.8.16)
 pub data CloseCause (calls : List (ℕ × Call)) (given : List Frame) (error : Option AmqpError) : Type 0 where
   called : (name : ℕ) (condition : Option (List ℕ)) (earlier : List (ℕ × Call)) → calls ≡ (name, CloseCall condition) ∷ earlier → error ≡ error_for condition → CloseCause calls given error
   answers : HasClose given → error ≡ None → CloseCause calls given error
   mistaken : HasOtherFirst given → error ≡ None → CloseCause calls given error
-  rejected : HasStray given → CloseCause calls given error
+  rejected : (why : Rejection) → HasStrayFor why given → error ≡ Some (error_of_rejection why) → CloseCause calls given error
 
 -- what an end says: nothing, its Open, empty frames and frames of sessions, or these and one Close that has its cause
 abbrev pub IsSaidFor : Option Prepared → List (ℕ × Call) → List Frame → List Frame → Type 0

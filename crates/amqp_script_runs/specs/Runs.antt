@@ -8,7 +8,8 @@ use Rattle.amqp_calls.specs.declared.step.Step.{Step}
 use Rattle.amqp_calls.specs.declared.trace.Entry.{Entry}
 use Rattle.amqp_calls.specs.Plain.{plain_steps}
 use Rattle.amqp_session_script.specs.TraceText.{text_of}
-use Rattle.amqp_session_world.specs.Turn.{AreMade as AreMadeWithSessions, IsFirstInvalid as IsFirstInvalidWithSessions}
+use Rattle.amqp_session_world.specs.Turn.{IsFirstInvalid as IsFirstInvalidWithSessions}
+use Rattle.trace_topics.specs.Explained.{Explained as ExplainedWithSessions}
 
 -- the text of a trace that explains these steps of connections, and that the two ends made
 pub record IsExplainedText (steps : List PlainStep) (text : List ℕ) : Type 0 where
@@ -18,11 +19,11 @@ pub record IsExplainedText (steps : List PlainStep) (text : List ℕ) : Type 0 w
   pub made : AreMade steps entries
   pub shown : text ≡ plain_text_of entries
 
--- the text of a trace with an entry for each of these steps, which two ends with sessions made
+-- the text of a trace with an entry for each of these steps, which two ends with sessions made, and what is known of it
 pub record IsMadeText (steps : List Step) (text : List ℕ) : Type 0 where
   pub entries : List Entry
   pub form : length entries ≡ length steps
-  pub made : AreMadeWithSessions steps entries
+  pub explained : ExplainedWithSessions steps entries
   pub shown : text ≡ text_of entries
 
 -- steps of connections alone are explained; others are made by two ends with sessions

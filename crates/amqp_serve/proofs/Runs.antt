@@ -7,7 +7,7 @@ use Rattle.amqp_calls.specs.declared.call.Call.{Call}
 use Rattle.amqp_calls.specs.declared.reply.NamedReply.{NamedReply}
 use Rattle.amqp_calls.specs.declared.reply.Reply.{Reply}
 use Rattle.amqp_end.specs.Asks.{MayAsk}
-use Rattle.amqp_end.specs.Goes.{Goes, on_connection}
+use Rattle.amqp_end.specs.Goes.{Goes, on_connection, on_links}
 use Rattle.amqp_end.specs.declared.end.End.{End}
 use Rattle.amqp_frames.specs.declared.shared.ConnectionStopReason.{ConnectionStopReason}
 use Rattle.amqp_peer.specs.Held.{reason_of}
@@ -164,7 +164,7 @@ pub silent_none : {L : Type 0} (link : Ghosts L) (a : End L) → RanSilently lin
 unfolding Ran told
 silent_none link a = record { turns = []; ran = refl; silent = refl }
 
-pub silent_on : {L : Type 0} (link : Ghosts L) (a b c : End L) (at : ℕ) → WaitedFor link a b → Goes link at None [] b c → RanSilently link a c
+pub silent_on : {L : Type 0} (link : Ghosts L) (a b c : End L) (at : ℕ) → WaitedFor link a b → Goes link at None [] [] b c → RanSilently link a c
 unfolding Ran told
 silent_on link a b c at w g = record { turns = polls ∷ waits ∷ []; ran = (b, (a, refl, w), (at, g)); silent = refl }
 
@@ -172,7 +172,7 @@ pub silent_forgot : {L : Type 0} (link : Ghosts L) (a b : End L) (name : ℕ) �
 unfolding Ran told
 silent_forgot link a b name f = record { turns = forgets name ∷ []; ran = (a, refl, f); silent = refl }
 
-pub asked_now : {L : Type 0} (link : Ghosts L) (a b c : End L) (name at : ℕ) (call : Call) (rs : List NamedReply) (answer : Option Reply) → MayAsk a name call → Goes link at (Some name) (on_connection name call) (record a { last = Some name }) b → Took b c → rs ≡ b.replies.items → answer ≡ last_answer name rs → AskedNow link a c name call answer
+pub asked_now : {L : Type 0} (link : Ghosts L) (a b c : End L) (name at : ℕ) (call : Call) (rs : List NamedReply) (answer : Option Reply) → MayAsk a name call → Goes link at (Some name) (on_connection name call) (on_links name call) (record a { last = Some name }) b → Took b c → rs ≡ b.replies.items → answer ≡ last_answer name rs → AskedNow link a c name call answer
 unfolding Ran told Makes
 asked_now link a b c name at call rs answer may g t e is = record {
   asked = record { turns = tells rs ∷ calls name call ∷ []; ran = (b, (a, refl, (may, at, g)), (e, t)); said = is };
@@ -413,7 +413,7 @@ heard_took link a b rs s t k e messages owed = record {
   owes = omega (arith, owed_all rs s.messages s.owed s.within);
 }
 
-pub called_by : {L : Type 0} (link : Ghosts L) (a b : End L) (name at : ℕ) (call : Call) → MayAsk a name call → Goes link at (Some name) (on_connection name call) (record a { last = Some name }) b → Called link a b name call
+pub called_by : {L : Type 0} (link : Ghosts L) (a b : End L) (name at : ℕ) (call : Call) → MayAsk a name call → Goes link at (Some name) (on_connection name call) (on_links name call) (record a { last = Some name }) b → Called link a b name call
 called_by link a b name at call may g = record { may = may; moment = at; goes = g }
 
 -- the call of an act pays what it owes

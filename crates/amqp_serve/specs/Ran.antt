@@ -11,7 +11,7 @@ use Rattle.amqp_link_words.specs.declared.link_call.Sendable.{Sendable}
 use Rattle.amqp_calls.specs.declared.reply.NamedReply.{NamedReply}
 use Rattle.amqp_calls.specs.declared.reply.Reply.{Reply}
 use Rattle.amqp_end.specs.Asks.{MayAsk}
-use Rattle.amqp_end.specs.Goes.{Goes, on_connection}
+use Rattle.amqp_end.specs.Goes.{Goes, on_connection, on_links}
 use Rattle.amqp_end.specs.declared.end.End.{End}
 use Rattle.amqp_end.specs.amqp_links.Forgetting.{forgotten}
 use Rattle.amqp_end.specs.amqp_links.State.{seen as linked}
@@ -65,8 +65,9 @@ pub data Turn : Type 0 where
 
 -- a call is one that the end may make then; behind it, and in a poll, the end goes on
 abbrev pub IsTurn : {L : Type 0} → Ghosts L → End L → Turn → End L → Type 0
-IsTurn link m (calls name call) n = MayAsk m name call × (at : ℕ) × Goes link at (Some name) (on_connection name call) (record m { last = Some name }) n
-IsTurn link m polls n = (at : ℕ) × Goes link at None [] m n
+IsTurn link m (calls name call) n =
+    MayAsk m name call × (at : ℕ) × Goes link at (Some name) (on_connection name call) (on_links name call) (record m { last = Some name }) n
+IsTurn link m polls n = (at : ℕ) × Goes link at None [] [] m n
 IsTurn link m waits n = WaitedFor link m n
 IsTurn link m (tells rs) n = (rs ≡ m.replies.items) × Took m n
 IsTurn link m (forgets name) n = Forgot name m n
@@ -230,4 +231,4 @@ pub record Heard {L : Type 0} (link : Ghosts L) (old new : End L) (before after 
 pub record Called {L : Type 0} (link : Ghosts L) (old new : End L) (name : ℕ) (call : Call) : Type 0 where
   pub may : MayAsk old name call
   pub moment : ℕ
-  pub goes : Goes link moment (Some name) (on_connection name call) (record old { last = Some name }) new
+  pub goes : Goes link moment (Some name) (on_connection name call) (on_links name call) (record old { last = Some name }) new

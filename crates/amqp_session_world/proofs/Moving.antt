@@ -7,6 +7,7 @@ use Rattle.amqp_words.specs.declared.call.Call.{Call as ConnectionCall}
 use Rattle.amqp_peer.specs.History.{wrote_in, link_in}
 use Rattle.amqp_peer.specs.Peering.{Peering}
 use Rattle.amqp_peer.proofs.Laws.{link_of-with_link}
+use Rattle.amqp_link_words.specs.declared.link_call.LinkCall.{LinkCall}
 use Rattle.amqp_words.specs.declared.step.End.{End as Side}
 use Rattle.amqp_words.specs.declared.step.End.TheVariants.{Client, Listener}
 use Rattle.amqp_end.specs.amqp_calls.declared.step.Act.{Act}
@@ -20,7 +21,7 @@ use Rattle.amqp_end.specs.Deeds.{behind}
 use Rattle.amqp_end.specs.Goes.{Goes}
 use Rattle.amqp_end.proofs.Passing.{goes_passes}
 use Rattle.amqp_session_world.specs.Paired.{paired_by}
-use Rattle.amqp_session_world.specs.Turn.{count_of, called, calls_of, CanAct, CanStep, IsValid, given, marked, named, Told, Turned, View, IsTurnAt, IsTurn, Turns, IsStart, IsFirstInvalid}
+use Rattle.amqp_session_world.specs.Turn.{count_of, called, calls_of, link_calls_of, CanAct, CanStep, IsValid, given, marked, named, Told, Turned, View, IsTurnAt, IsTurn, Turns, IsStart, IsFirstInvalid}
 
 pub named_connection : (name : ℕ) (act : Act) (e : End Piped) → (named name act e).connection ≡ e.connection
 named_connection name (Take n) e = refl
@@ -38,19 +39,19 @@ begun_output near far name count act =
     ∙ ap (λ (k : Piped). k.output) (link_of-with_link empty_pipe near.connection (fed (pipe_of near.connection) (pipe_of far.connection) count))
 
 -- what the end wrote stands behind its output
-ran_output : (near far ran : End Piped) (name count at : ℕ) (calls : List (ℕ × ConnectionCall)) (act : Act) (g : Goes piping at (called name act) calls (named name act (given near far count)) ran) → (pipe_of ran.connection).output ≡ (pipe_of near.connection).output ++ wrote_in (behind at g.deeds [])
+ran_output : (near far ran : End Piped) (name count at : ℕ) (calls : List (ℕ × ConnectionCall)) {asks : List (ℕ × LinkCall)} (act : Act) (g : Goes piping at (called name act) calls asks (named name act (given near far count)) ran) → (pipe_of ran.connection).output ≡ (pipe_of near.connection).output ++ wrote_in (behind at g.deeds [])
 ran_output near far ran name count at calls act g =
     pipe_output (pipe_of (named name act (given near far count)).connection) (pipe_of ran.connection) (link_in (behind at g.deeds [])) ((goes_passes piping at calls (named name act (given near far count)) ran g).went empty_pipe)
     ∙ ap (λ (u : List ℕ). u ++ wrote_in (behind at g.deeds [])) (begun_output near far name count act)
 
 -- an end only adds to its output
-pub output_grows : (near far ran : End Piped) (name count at : ℕ) (calls : List (ℕ × ConnectionCall)) (act : Act) → Goes piping at (called name act) calls (named name act (given near far count)) ran → length (pipe_of near.connection).output ≤ length (pipe_of ran.connection).output
+pub output_grows : (near far ran : End Piped) (name count at : ℕ) (calls : List (ℕ × ConnectionCall)) {asks : List (ℕ × LinkCall)} (act : Act) → Goes piping at (called name act) calls asks (named name act (given near far count)) ran → length (pipe_of near.connection).output ≤ length (pipe_of ran.connection).output
 output_grows near far ran name count at calls act g =
     let size : length (pipe_of ran.connection).output ≡ length (pipe_of near.connection).output + length (wrote_in (behind at g.deeds [])) =
     ap length (ran_output near far ran name count at calls act g) ∙ length-append (pipe_of near.connection).output (wrote_in (behind at g.deeds [])) in
     omega (arith, size)
 
-pub turned_by : (near far ran near' : End Piped) (name count at : ℕ) (act : Act) (entry : Entry) → CanAct near far name act → count ≡ count_of act far → Goes piping at (called name act) (calls_of name act) (named name act (given near far count)) ran → Told ran near' entry
+pub turned_by : (near far ran near' : End Piped) (name count at : ℕ) (act : Act) (entry : Entry) → CanAct near far name act → count ≡ count_of act far → Goes piping at (called name act) (calls_of name act) (link_calls_of name act) (named name act (given near far count)) ran → Told ran near' entry
     → entry.wrote.items ≡ drop (length (pipe_of near.connection).output) (pipe_of near'.connection).output → Turned near far name at act near' (marked far count) entry
 turned_by near far ran near' name count at act entry can counted g told wrote =
     let calls = calls_of name act in
@@ -61,7 +62,7 @@ turned_by near far ran near' name count at act entry can counted g told wrote =
       can = can;
       far_end = ap (λ (n : ℕ). marked far n) counted;
       ran = ran;
-      goes = subst (λ (n : ℕ). Goes piping at (called name act) calls (named name act (given near far n)) ran) counted g;
+      goes = subst (λ (n : ℕ). Goes piping at (called name act) calls (link_calls_of name act) (named name act (given near far n)) ran) counted g;
       told = told;
       output = same ∙ ap (λ (u : List ℕ). (pipe_of near.connection).output ++ u) (sym whole);
     }

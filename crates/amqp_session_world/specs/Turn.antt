@@ -3,6 +3,7 @@ use Rattle.std.specs.Prelude.{◌≡◌, ◌≤◌, ℕ, Bool, true, false, IsTr
 use Rattle.amqp_wire.specs.Piped.{Piped}
 use Rattle.amqp_peer.specs.Peering.{fresh, with_link_of}
 use Rattle.amqp_words.specs.declared.call.Call.{Call as ConnectionCall}
+use Rattle.amqp_link_words.specs.declared.link_call.LinkCall.{LinkCall}
 use Rattle.amqp_words.specs.declared.step.End.{End as Side}
 use Rattle.amqp_words.specs.declared.step.End.TheVariants.{Client, Listener}
 use Rattle.amqp_end.specs.amqp_calls.declared.step.Act.{Act}
@@ -15,7 +16,7 @@ use Rattle.amqp_end.specs.amqp_links.State.{seen as linked, no_links}
 use Rattle.amqp_end.specs.amqp_sessions.State.{seen, none_begun}
 use Rattle.amqp_end.specs.declared.end.End.{End}
 use Rattle.amqp_end.specs.Asks.{MayAsk}
-use Rattle.amqp_end.specs.Goes.{Goes, on_connection}
+use Rattle.amqp_end.specs.Goes.{Goes, on_connection, on_links}
 use Rattle.amqp_session_world.specs.Paired.{Paired, none_paired, paired_by, spares}
 
 -- the bytes that an end wrote and that were not moved yet
@@ -64,6 +65,12 @@ calls_of name (Take n) = []
 calls_of name TakeAll = []
 calls_of name (Call call) = on_connection name call
 
+-- the call that it makes on the links, if it makes one
+abbrev pub link_calls_of : ℕ → Act → List (ℕ × LinkCall)
+link_calls_of name (Take n) = []
+link_calls_of name TakeAll = []
+link_calls_of name (Call call) = on_links name call
+
 -- the name of the call that an act makes, if it makes one
 abbrev pub called : ℕ → Act → Option ℕ
 called name (Take n) = None
@@ -86,7 +93,8 @@ pub record Turned (near far : End Piped) (name at : ℕ) (act : Act) (near' far'
   pub can : CanAct near far name act
   pub far_end : far' ≡ marked far (count_of act far)
   pub ran : End Piped
-  pub goes : Goes piping at (called name act) (calls_of name act) (named name act (given near far (count_of act far))) ran
+  pub goes : Goes piping at (called name act) (calls_of name act) (link_calls_of name act)
+      (named name act (given near far (count_of act far))) ran
   pub told : Told ran near' entry
   pub output : (pipe_of near'.connection).output ≡ (pipe_of near.connection).output ++ entry.wrote.items
 

@@ -1,7 +1,7 @@
 //! One step of two ends with sessions and links.
 ghost use Rattle.std.specs.Prelude.{◌≡◌, ◌↔◌, ◌≤◌, length, OnOk, IfOk, IsTrue};
 ghost use Rattle.amqp_end.specs.Goes.{Goes};
-ghost use Rattle.amqp_session_world.specs.Turn.{untaken, count_of, IsWithin, MayAct, CanAct, called, calls_of, given, marked, named, Turned};
+ghost use Rattle.amqp_session_world.specs.Turn.{untaken, count_of, IsWithin, MayAct, CanAct, called, calls_of, link_calls_of, given, marked, named, Turned};
 ghost use Rattle.amqp_world.specs.Turn.{piping};
 
 use amqp_end::amqp_calls::{Act, Entry};
@@ -53,7 +53,7 @@ fn act_at(
     act: &Act,
 ) -> Result<(), AllocError>
     requires { MayAct near.old name act.now }
-    ensures { OnOk result (Goes piping at (called name act.now) (calls_of name act.now) (named name act.now near.old) near.new) }
+    ensures { OnOk result (Goes piping at (called name act.now) (calls_of name act.now) (link_calls_of name act.now) (named name act.now near.old) near.new) }
 {
     let done = match act {
         Act::Call(call) => {

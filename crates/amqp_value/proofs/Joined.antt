@@ -1,4 +1,4 @@
-use Rattle.std.proofs.Common.{◌≡◌, ℕ, List, [], ◌∷◌, ◌++◌, length, Bool, true, if◌then◌else◌, sym, ap, ◌∙◌, append_assoc}
+use Rattle.std.proofs.Common.{◌≡◌, ℕ, List, [], ◌∷◌, ◌++◌, length, Bool, true, if◌then◌else◌, refl, sym, ap, ◌∙◌, append_assoc}
 use Rattle.std.proofs.lemmas.List.{append-nil, nil_from_length}
 use Rattle.amqp_value.specs.Pieces.{joined}
 
@@ -11,5 +11,5 @@ pub joined-empty : (ps : List (List ℕ)) (p : List ℕ) → length p ≡ 0 → 
 joined-empty ps p e = joined-push ps p ∙ ap (λ (z : List ℕ). joined ps ++ z) (nil_from_length p e) ∙ append-nil (joined ps)
 
 -- the pieces after a push that went well
-pub joined-pushed : (ps new : List (List ℕ)) (p : List ℕ) (ok : Bool) → ok ≡ true → new ≡ (if ok then ps ++ p ∷ [] else ps) → joined new ≡ joined ps ++ p
-joined-pushed ps new p ok t e = rw (e, t) (joined-push ps p)
+pub pushed : (ps new : List (List ℕ)) (p : List ℕ) (ok : Bool) → ok ≡ true → new ≡ (if ok then ps ++ p ∷ [] else ps) → new ≡ ps ++ p ∷ []
+pushed ps new p ok t e = e ∙ rw t refl

@@ -1,5 +1,6 @@
 pub mod Filling
 pub mod Joined
+pub mod Fronts
 pub mod Ascii
 pub mod Numbers
 pub mod Loops

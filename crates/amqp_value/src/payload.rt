@@ -1,9 +1,9 @@
 //! Payloads: the body of a message, in the pieces that it came in.
-ghost use Rattle.std.specs.Prelude.{◌≡◌, ◌↔◌, ◌+◌, ◌<◌, ◌≤◌, ◌^◌, [], ◌++◌, length, take, IsTrue, OnOk, OnErr, IfErr, IsErrOf};
+ghost use Rattle.std.specs.Prelude.{◌≡◌, ◌↔◌, ◌+◌, ◌<◌, ◌≤◌, ◌^◌, [], ◌++◌, length, take, All, IsTrue, OnOk, OnErr, IfErr, IsErrOf};
 ghost use Rattle.amqp_value.specs.declared.error.ValueError.{ValueError};
 ghost use Rattle.amqp_value.specs.declared.payload.PayloadError.{PayloadError};
 ghost use Rattle.amqp_value.specs.declared.payload.PayloadError.TheVariants.{Memory, Length};
-ghost use Rattle.amqp_value.specs.Pieces.{joined};
+ghost use Rattle.amqp_value.specs.Pieces.{joined, with_piece, front_pieces};
 
 use crate::error::ValueError;
 use bytes::Bytes;
@@ -30,7 +30,8 @@ impl From<AllocError> for PayloadError {
     }
 }
 
-/// A payload, seen as the list of its bytes. Its pieces may share their memory with others.
+/// A payload, seen as the list of its pieces, each of them the list of its bytes. No piece is empty. Pieces may share their memory with
+/// others.
 #[derive(Debug, Drop)]
 pub struct PayloadList {
     pieces: Vec<Bytes>,
@@ -38,14 +39,14 @@ pub struct PayloadList {
 }
 
 impl Model for PayloadList {
-    ghost use Rattle.std.specs.Prelude.{◌≡◌, ℕ, List, length};
+    ghost use Rattle.std.specs.Prelude.{◌≡◌, ◌<◌, ℕ, List, length, All};
     ghost use Rattle.amqp_value.specs.Pieces.{joined};
 
-    ghost Value = { List ℕ };
+    ghost Value = { List (List ℕ) };
 
-    ghost view = { λ a. joined a.pieces.items };
+    ghost view = { λ a. a.pieces.items };
 
-    ghost invariant = { λ a. a.total ≡ length (joined a.pieces.items) };
+    ghost invariant = { λ a. (a.total ≡ length (joined a.pieces.items)) × All (λ piece. 0 < length piece) a.pieces.items };
 }
 
 impl PayloadList {
@@ -59,43 +60,74 @@ impl PayloadList {
         }
     }
 
-    /// Adds a piece at the end, and copies none of its bytes. An error lets the piece go.
+    /// Adds a piece at the end, and copies none of its bytes. A piece of no bytes is not kept. An error lets the piece go.
     pub fn push(&mut self, piece: Bytes) -> Result<(), PayloadError>
-        ensures ok { OnOk result (self.new ≡ self.old ++ piece) }
-        ensures length { IsErrOf result PayloadError.Length ↔ (2 ^ 64 ≤ length self.old + length piece) }
+        ensures bytes { OnOk result (joined self.new ≡ joined self.old ++ piece) }
+        ensures pieces { OnOk result (self.new ≡ with_piece self.old piece) }
+        ensures length { IsErrOf result PayloadError.Length ↔ (2 ^ 64 ≤ length (joined self.old) + length piece) }
         ensures err { OnErr result (self.new ≡ self.old) }
     {
         let Some(total) = self.total.checked_add(piece.len() as u64) else {
             return Err(PayloadError::Length);
         };
+        if piece.is_empty() {
+            return Ok(());
+        }
         self.pieces.push(piece).map_err(AllocError::from)?;
         self.total = total;
         Ok(())
     }
 
+    /// Keeps the first bytes, at most `size` of them, and lets the others go. The piece that goes further is cut where it lies: no byte
+    /// is copied, no memory is taken, and it cannot fail.
+    pub fn truncate(&mut self, size: u64)
+        ensures bytes { joined self.new ≡ take size (joined self.old) }
+        ensures pieces { self.new ≡ front_pieces size self.old }
+    {
+        while let Some(last) = self.pieces.last_mut() {
+            let before = self.total - last.len() as u64;
+            if before < size {
+                let kept = size.min(self.total);
+                last.truncate((kept - before) as usize);
+                self.total = kept;
+                return;
+            }
+            self.pieces.pop();
+            self.total = before;
+        }
+    }
+
     /// The number of bytes.
     pub fn len(&self) -> u64
-        ensures { result ≡ length self.now }
+        ensures { result ≡ length (joined self.now) }
     {
         self.total
     }
 
     pub fn is_empty(&self) -> bool
-        ensures { IsTrue result ↔ (self.now ≡ []) }
+        ensures { IsTrue result ↔ (joined self.now ≡ []) }
     {
         self.total == 0
     }
 
+    /// The number of pieces.
+    pub fn pieces(&self) -> usize
+        ensures { result ≡ length self.now }
+    {
+        self.pieces.len()
+    }
+
     /// The pieces, lent, in their order.
-    pub fn pieces(&self) -> &[Bytes]
-        ensures { joined result.now ≡ self.now }
+    pub fn as_slice(&self) -> &[Bytes]
+        ensures same { result.now ≡ self.now }
+        ensures filled { All (λ piece. 0 < length piece) result.now }
     {
         self.pieces.as_slice()
     }
 
     /// The bytes from the first to the last; takes no memory.
     pub fn iter(&self) -> PayloadBytes<'_>
-        ensures { result ≡ self.now }
+        ensures { result ≡ joined self.now }
     {
         PayloadBytes {
             span: Span {
@@ -273,7 +305,7 @@ impl<'a> Model for PayloadReader<'a> {
 impl<'a> PayloadReader<'a> {
     /// A reader of all the bytes; takes no memory.
     pub fn new(list: &'a PayloadList) -> Self
-        ensures { result ≡ list.now }
+        ensures { result ≡ joined list.now }
     {
         PayloadReader { bytes: list.iter() }
     }

@@ -3,7 +3,7 @@ use bytes::Bytes;
 use std::alloc::Global;
 use std::test::Fail;
 
-/// The bytes 1 to 9 in three pieces, with an empty one among them.
+/// The bytes 1 to 9 in three pieces; an empty one among them is not kept.
 fn nine_bytes(alloc: Global) -> Result<PayloadList, PayloadError> {
     let mut list = PayloadList::new(alloc);
     list.push(Bytes::from_static(&[1, 2, 3]))?;
@@ -39,5 +39,35 @@ fn bytes_from_both_ends(rt: HostRuntime) -> Result<(), Fail> {
     assert_eq!(rt; bytes.next_back(), Some(9));
     assert_eq!(rt; bytes.next(), Some(1));
     assert_eq!(rt; bytes.len(), 7);
+    Ok(())
+}
+
+#[test]
+fn keeps_the_first_bytes(rt: HostRuntime) -> Result<(), Fail> {
+    let mut list = nine_bytes(rt.alloc())?;
+    assert_eq!(rt; list.pieces(), 3);
+    list.truncate(10);
+    assert_eq!(rt; list.len(), 9);
+    list.truncate(5);
+    assert_eq!(rt; list.pieces(), 2);
+    let first: Vec<u8> = list.iter().collect(rt.alloc())?;
+    assert_eq!(rt; first.as_slice(), [1u8, 2, 3, 4, 5].as_slice());
+    list.truncate(3);
+    assert_eq!(rt; list.pieces(), 1);
+    list.truncate(0);
+    assert_eq!(rt; list.pieces(), 0);
+    assert!(rt; list.is_empty());
+    Ok(())
+}
+
+#[test]
+fn a_piece_that_is_cut_is_not_copied(rt: HostRuntime) -> Result<(), Fail> {
+    let whole = Bytes::copy_from_slice(rt.alloc(), &[1, 2, 3, 4])?;
+    let mut list = PayloadList::new(rt.alloc());
+    list.push(whole.clone()?)?;
+    list.truncate(2);
+    assert!(rt; !whole.is_unique());
+    list.truncate(0);
+    assert!(rt; whole.is_unique());
     Ok(())
 }

@@ -23,6 +23,7 @@ use Rattle.amqp_sessions.specs.State.{State, seen, none_begun}
 use Rattle.amqp_sessions.specs.declared.sessions.Sessions.{Sessions}
 use Rattle.amqp_end.specs.declared.end.End.{End}
 use Rattle.amqp_end.specs.Deeds.{Deed, told_of, told_by}
+use Rattle.amqp_end.specs.Goes.{on_links}
 use Rattle.amqp_session_world.specs.Answers.{IsOfSession, AreOfSessions}
 use Rattle.amqp_session_world.proofs.Sessions.{sessions_answer}
 use Rattle.amqp_serve.specs.Deeds.{deeds_of, deeds_in}
@@ -30,9 +31,9 @@ use Rattle.amqp_serve.specs.Ran.{Turn, calls, polls, waits, tells, forgets, IsTu
 use Rattle.session_laws.specs.Settling.{IsAmong}
 use Rattle.connect_laws.specs.Ruling.{Forgets, Rules, IsRuled, Asked, heard_by, heard_in, told_in, answers_of}
 use Rattle.connect_laws.proofs.Told.{links_tell_outcomes}
-use Rattle.connect_laws.specs.Asking.{inputs_of, inputs_by, on_links, IsOfSender, IsTurnOfSender, AreOfSender, AsksOutcome, deeds_by, IsRuledIn, RunsTellOutcomes}
+use Rattle.connect_laws.specs.Asking.{inputs_of, inputs_by, IsOfSender, IsTurnOfSender, AreOfSender, AsksOutcome, deeds_by, IsRuledIn, RunsTellOutcomes}
 use Rattle.connect_laws.proofs.Names.{HasName, IsUpTo, up_to_last, stays_up, above, is_above, up_to_itself}
-use Rattle.connect_laws.proofs.Parts.{AreAllowed, Part, Around, among_either, among_left, among_right, part_none, part_then, part_as, none_asked, part_deeds, around_call}
+use Rattle.connect_laws.proofs.Parts.{AreAllowed, Part, Around, among_either, among_left, among_right, part_none, part_then, part_as, part_deeds, around_call}
 
 -- ---- lists
 
@@ -142,20 +143,20 @@ module _ {L : Type 0} (link : Ghosts L) where
 
   -- ---- turns
 
-  part_turn : (names : List ℕ) (m : End L) (t : Turn) (n : End L) (k : IsTurn link m t n) → IsTurnOfSender link m t n k → AreOfSessions (seen m.sessions).replies → ((i : ℕ) → HasName i (t ∷ []) → IsAmong i names → ⊥)
+  part_turn : (names : List ℕ) (m : End L) (t : Turn) (n : End L) (k : IsTurn link m t n) → IsTurnOfSender t → AreOfSessions (seen m.sessions).replies → ((i : ℕ) → HasName i (t ∷ []) → IsAmong i names → ⊥)
       → Part names (linked m.links) (linked n.links) (inputs_by (deeds_of link m t n k)) (told_by (deeds_of link m t n k))
   unfolding HasName
   part_turn names m (calls name call) n k s o f =
       part_deeds link k.1 names m.connection (seen m.sessions) (linked m.links) k.2.deeds n.connection (seen n.sessions) (linked n.links) k.2.did o
-      (subst (AreAllowed names) (sym s.1) (allowed_call names name call s.0 (f name (inl refl))))
+      (subst (AreAllowed names) (sym k.2.asked) (allowed_call names name call s (f name (inl refl))))
   part_turn names m polls n k s o f =
       part_deeds link k.0 names m.connection (seen m.sessions) (linked m.links) k.1.deeds n.connection (seen n.sessions) (linked n.links) k.1.did o
-      (subst (AreAllowed names) (sym (none_asked link k.0 m.connection (seen m.sessions) (linked m.links) k.1.deeds n.connection (seen n.sessions) (linked n.links) k.1.did k.1.named)) tt)
+      (subst (AreAllowed names) (sym k.1.asked) tt)
   part_turn names m waits n k s o f = part_none names (linked m.links) (linked n.links) (ap (λ (e : End L). linked e.links) k.rest)
   part_turn names m (tells rs) n k s o f = part_none names (linked m.links) (linked n.links) (ap linked k.1.links)
   part_turn names m (forgets name) n k s o f = record { steps = Forgets name ∷ []; did = (linked n.links, (k.links, refl)); others = (tt, tt); hears = λ x h. h; tells = λ i r h. absurd h }
 
-  part_run : (names : List ℕ) (old : End L) (ts : List Turn) (new : End L) (k : Ran link old ts new) → AreOfSender link old ts new k → AreOfSessions (seen old.sessions).replies → ((i : ℕ) → HasName i ts → IsAmong i names → ⊥)
+  part_run : (names : List ℕ) (old : End L) (ts : List Turn) (new : End L) (k : Ran link old ts new) → AreOfSender ts → AreOfSessions (seen old.sessions).replies → ((i : ℕ) → HasName i ts → IsAmong i names → ⊥)
       → Part names (linked old.links) (linked new.links) (inputs_by (deeds_in link old ts new k)) (told_by (deeds_in link old ts new k))
   unfolding Ran deeds_in
   part_run names old [] new k s o f = part_none names (linked old.links) (linked new.links) (ap (λ (e : End L). linked e.links) k)
@@ -194,12 +195,12 @@ module _ {L : Type 0} (link : Ghosts L) where
     sending : Around name (ask.Send sender message) (linked k.ready.links) (linked k.sent.links) (inputs_by k.sends.2.deeds) (told_by k.sends.2.deeds)
     sending =
         around_call link k.sends.1 name (ask.Send sender message) k.ready.connection (seen k.ready.sessions) (linked k.ready.links) k.sends.2.deeds k.sent.connection (seen k.sent.sessions) (linked k.sent.links) k.sends.2.did
-        answers_ready k.of_sends.1
+        answers_ready k.sends.2.asked
 
     asking_for : Around asking (ask.Outcome name) (linked k.awaits.links) (linked k.asked.links) (inputs_by k.asks.2.deeds) (told_by k.asks.2.deeds)
     asking_for =
         around_call link k.asks.1 asking (ask.Outcome name) k.awaits.connection (seen k.awaits.sessions) (linked k.awaits.links) k.asks.2.deeds k.asked.connection (seen k.asked.sessions) (linked k.asked.links) k.asks.2.did
-        answers_awaits k.of_asks.1
+        answers_awaits k.asks.2.asked
 
     abbrev early : List Deed
     early = deeds_in link old k.before k.ready k.begins

@@ -20,16 +20,15 @@ use Rattle.amqp_session.specs.declared.session.LinkInput.{LinkInput}
 use Rattle.amqp_sessions.specs.State.{State as Sessions}
 use Rattle.amqp_end.specs.Answers.{of_link, of_connection, together, AreOrdered, answers_to, answers_to_others, with_first}
 use Rattle.amqp_end.specs.Asks.{limit_for}
-use Rattle.amqp_end.specs.Deeds.{Deed, Did, IsDeed, told_of, told_by}
+use Rattle.amqp_end.specs.Deeds.{Deed, Did, IsDeed, links_called_of, links_called_by, told_of, told_by}
 use Rattle.amqp_end.specs.Deeds as end
-use Rattle.amqp_end.specs.Named.{IsNamed, AreNamed}
 use Rattle.amqp_session_world.specs.Answers.{IsOfSession, AreOfSessions}
 use Rattle.amqp_session_world.proofs.Sessions.{sessions_answer}
 use Rattle.link_lives.specs.Deeds as links
 use Rattle.session_laws.specs.Settling.{IsAmong}
 use Rattle.connect_laws.specs.Ruling.{IsSending, Step, Does, Did as DidSteps, heard_of, heard_in, told_in, AreBetween}
 use Rattle.connect_laws.specs.Ruling as steps
-use Rattle.connect_laws.specs.Asking.{inputs_of, inputs_by, asked_of, asked_by}
+use Rattle.connect_laws.specs.Asking.{inputs_of, inputs_by}
 
 -- ---- lists
 
@@ -176,7 +175,7 @@ told_part names old new answers e all = record {
 abbrev IsAsked : Deed → Type 0
 IsAsked d = (name : ℕ) × (call : LinkCall) × (d ≡ end.Asks name call)
 
-is_asking : (d : Deed) → (asked_of d ≡ []) ⊎ IsAsked d
+is_asking : (d : Deed) → (links_called_of d ≡ []) ⊎ IsAsked d
 is_asking (end.Makes name call events) = inl refl
 is_asking (end.Polls events) = inl refl
 is_asking (end.Goes events) = inl refl
@@ -251,7 +250,7 @@ around_more name call l m l' heard more told rest x y = record {
 -- ---- deeds
 
 module _ {L : Type 0} (link : Ghosts L) (at : ℕ) where
-  part_deed : (names : List ℕ) (d : Deed) (p : Peering L) (s : Sessions) (l : Links) (p' : Peering L) (s' : Sessions) (l' : Links) → IsDeed link at p s l d p' s' l' → AreOfSessions s.replies → AreAllowed names (asked_of d)
+  part_deed : (names : List ℕ) (d : Deed) (p : Peering L) (s : Sessions) (l : Links) (p' : Peering L) (s' : Sessions) (l' : Links) → IsDeed link at p s l d p' s' l' → AreOfSessions s.replies → AreAllowed names (links_called_of d)
       → Part names l l' (inputs_of d) (told_of d)
   part_deed names (end.Makes name call events) p s l p' s' l' h o a = part_none names l l' h.2
   part_deed names (end.Polls events) p s l p' s' l' h o a = part_none names l l' h.2
@@ -275,33 +274,16 @@ module _ {L : Type 0} (link : Ghosts L) (at : ℕ) where
 
   -- ---- deeds, one after another
 
-  -- where no call is made the links are asked for none
-  asks_none : (s : Sessions) (d : Deed) → IsNamed None s d → (asked_of d ≡ []) ⊎ IsAsked d → asked_of d ≡ []
-  asks_none s d h (inl e) = e
-  asks_none s d h (inr is) = (let f : None ≡ Some is.0 = subst (λ (x : Deed). IsNamed None s x) is.2 h in absurd cc)
-
-  quiet_both : (p : Peering L) (s : Sessions) (l : Links) (d : Deed) (ds : List Deed) (p' : Peering L) (s' : Sessions) (l' : Links) (h : Did link at p s l (d ∷ ds) p' s' l') → AreNamed link at None p s l (d ∷ ds) p' s' l' h
-      → IsNamed None h.1 d × AreNamed link at None p s l ds h.0 h.1 h.2 h.3
-  quiet_both p s l d ds p' s' l' h (inl n) = n
-  quiet_both p s l d ds p' s' l' h (inr n) = n
-
-  pub none_asked : (p : Peering L) (s : Sessions) (l : Links) (ds : List Deed) (p' : Peering L) (s' : Sessions) (l' : Links) (h : Did link at p s l ds p' s' l') → AreNamed link at None p s l ds p' s' l' h → asked_by ds ≡ []
-  none_asked p s l [] p' s' l' h n = refl
-  none_asked p s l (d ∷ ds) p' s' l' h n =
-      let both = quiet_both p s l d ds p' s' l' h n in
-      let rest = none_asked p s l ds h.0 h.1 h.2 h.3 both.1 in
-      ap (λ (xs : List (ℕ × LinkCall)). xs ++ asked_by ds) (asks_none h.1 d both.0 (is_asking d)) ∙ rest
-
-  pub part_deeds : (names : List ℕ) (p : Peering L) (s : Sessions) (l : Links) (ds : List Deed) (p' : Peering L) (s' : Sessions) (l' : Links) → Did link at p s l ds p' s' l' → AreOfSessions s.replies → AreAllowed names (asked_by ds)
+  pub part_deeds : (names : List ℕ) (p : Peering L) (s : Sessions) (l : Links) (ds : List Deed) (p' : Peering L) (s' : Sessions) (l' : Links) → Did link at p s l ds p' s' l' → AreOfSessions s.replies → AreAllowed names (links_called_by ds)
       → Part names l l' (inputs_by ds) (told_by ds)
   part_deeds names p s l [] p' s' l' h o a = part_none names l l' h.2
   part_deeds names p s l (d ∷ ds) p' s' l' h o a =
       part_then names l h.2 l' (inputs_by ds) (inputs_of d) (told_by ds) (told_of d)
-      (part_deeds names p s l ds h.0 h.1 h.2 h.3 o (allowed_rest names (asked_of d) (asked_by ds) a))
-      (part_deed names d h.0 h.1 h.2 p' s' l' h.4 (sessions_answer link at p s l ds h.0 h.1 h.2 h.3 o) (allowed_first names (asked_of d) (asked_by ds) a))
+      (part_deeds names p s l ds h.0 h.1 h.2 h.3 o (allowed_rest names (links_called_of d) (links_called_by ds) a))
+      (part_deed names d h.0 h.1 h.2 p' s' l' h.4 (sessions_answer link at p s l ds h.0 h.1 h.2 h.3 o) (allowed_first names (links_called_of d) (links_called_by ds) a))
 
   around_here : (name : ℕ) (call : LinkCall) (p : Peering L) (s : Sessions) (l : Links) (ds : List Deed) (n : ℕ) (c : LinkCall) (p' : Peering L) (s' : Sessions) (l' : Links) → Did link at p s l (end.Asks n c ∷ ds) p' s' l' → AreOfSessions s.replies
-      → n ≡ name → c ≡ call → asked_by ds ≡ [] → Around name call l l' (inputs_by ds ++ []) (told_by ds ++ [])
+      → n ≡ name → c ≡ call → links_called_by ds ≡ [] → Around name call l l' (inputs_by ds ++ []) (told_by ds ++ [])
   around_here name call p s l ds n c p' s' l' h o is_name is_call none = record {
     max = limit_for c h.1;
     ready = h.2;
@@ -318,22 +300,22 @@ module _ {L : Type 0} (link : Ghosts L) (at : ℕ) where
   }
 
   around_asked : (name : ℕ) (call : LinkCall) (p : Peering L) (s : Sessions) (l : Links) (d : Deed) (ds : List Deed) (p' : Peering L) (s' : Sessions) (l' : Links) → Did link at p s l (d ∷ ds) p' s' l' → AreOfSessions s.replies
-      → IsAsked d → asked_of d ++ asked_by ds ≡ (name, call) ∷ [] → Around name call l l' (inputs_by ds ++ inputs_of d) (told_by ds ++ told_of d)
+      → IsAsked d → links_called_of d ++ links_called_by ds ≡ (name, call) ∷ [] → Around name call l l' (inputs_by ds ++ inputs_of d) (told_by ds ++ told_of d)
   around_asked name call p s l d ds p' s' l' h o is e =
       let h' = subst (λ (x : Deed). Did link at p s l (x ∷ ds) p' s' l') is.2 h in
-      let e' = subst (λ (x : Deed). asked_of x ++ asked_by ds ≡ (name, call) ∷ []) is.2 e in
-      let g = no_more is.0 name is.1 call (asked_by ds) e' in
+      let e' = subst (λ (x : Deed). links_called_of x ++ links_called_by ds ≡ (name, call) ∷ []) is.2 e in
+      let g = no_more is.0 name is.1 call (links_called_by ds) e' in
       subst (λ (x : Deed). Around name call l l' (inputs_by ds ++ inputs_of x) (told_by ds ++ told_of x)) (sym is.2) (around_here name call p s l ds is.0 is.1 p' s' l' h' o g.0 g.1 g.2)
 
   around_by : (name : ℕ) (call : LinkCall) (p : Peering L) (s : Sessions) (l : Links) (d : Deed) (ds : List Deed) (p' : Peering L) (s' : Sessions) (l' : Links) (h : Did link at p s l (d ∷ ds) p' s' l') → AreOfSessions s.replies
-      → (asked_by ds ≡ (name, call) ∷ [] → Around name call l h.2 (inputs_by ds) (told_by ds)) → asked_of d ++ asked_by ds ≡ (name, call) ∷ []
-      → (asked_of d ≡ []) ⊎ IsAsked d → Around name call l l' (inputs_by ds ++ inputs_of d) (told_by ds ++ told_of d)
+      → (links_called_by ds ≡ (name, call) ∷ [] → Around name call l h.2 (inputs_by ds) (told_by ds)) → links_called_of d ++ links_called_by ds ≡ (name, call) ∷ []
+      → (links_called_of d ≡ []) ⊎ IsAsked d → Around name call l l' (inputs_by ds ++ inputs_of d) (told_by ds ++ told_of d)
   around_by name call p s l d ds p' s' l' h o before e (inl none) =
-      around_more name call l h.2 l' (inputs_by ds) (inputs_of d) (told_by ds) (told_of d) (before (ap (λ (xs : List (ℕ × LinkCall)). xs ++ asked_by ds) (sym none) ∙ e))
+      around_more name call l h.2 l' (inputs_by ds) (inputs_of d) (told_by ds) (told_of d) (before (ap (λ (xs : List (ℕ × LinkCall)). xs ++ links_called_by ds) (sym none) ∙ e))
       (λ names. part_deed names d h.0 h.1 h.2 p' s' l' h.4 (sessions_answer link at p s l ds h.0 h.1 h.2 h.3 o) (subst (AreAllowed names) (sym none) tt))
   around_by name call p s l d ds p' s' l' h o before e (inr is) = around_asked name call p s l d ds p' s' l' h o is e
 
-  pub around_call : (name : ℕ) (call : LinkCall) (p : Peering L) (s : Sessions) (l : Links) (ds : List Deed) (p' : Peering L) (s' : Sessions) (l' : Links) → Did link at p s l ds p' s' l' → AreOfSessions s.replies → asked_by ds ≡ (name, call) ∷ []
+  pub around_call : (name : ℕ) (call : LinkCall) (p : Peering L) (s : Sessions) (l : Links) (ds : List Deed) (p' : Peering L) (s' : Sessions) (l' : Links) → Did link at p s l ds p' s' l' → AreOfSessions s.replies → links_called_by ds ≡ (name, call) ∷ []
       → Around name call l l' (inputs_by ds) (told_by ds)
   around_call name call p s l [] p' s' l' h o e = absurd cc
   around_call name call p s l (d ∷ ds) p' s' l' h o e = around_by name call p s l d ds p' s' l' h o (λ f. around_call name call p s l ds h.0 h.1 h.2 h.3 o f) e (is_asking d)

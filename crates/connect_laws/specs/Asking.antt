@@ -4,7 +4,6 @@ use Rattle.amqp_calls.specs.declared.call.Call.{Call}
 use Rattle.amqp_calls.specs.declared.call.Call.TheVariants as on
 use Rattle.amqp_calls.specs.declared.reply.Reply.TheVariants as answer
 use Rattle.amqp_termini.specs.declared.outcome.Outcome.{Outcome}
-use Rattle.amqp_link_words.specs.declared.link_call.LinkCall.{LinkCall}
 use Rattle.amqp_link_words.specs.declared.link_call.LinkCall.TheVariants as ask
 use Rattle.amqp_link_words.specs.declared.link_call.Sendable.{Sendable}
 use Rattle.amqp_link_words.specs.declared.link_reply.LinkReply.TheVariants as reply
@@ -13,7 +12,7 @@ use Rattle.amqp_links.specs.State.{State as Links, seen as linked, no_links, lin
 use Rattle.amqp_session.specs.declared.session.LinkInput.{LinkInput}
 use Rattle.amqp_sessions.specs.State.{seen, none_begun}
 use Rattle.amqp_wire.specs.declared.link.Link.{Ghosts}
-use Rattle.amqp_end.specs.Deeds.{Deed, Asks, LinksHear, told_by}
+use Rattle.amqp_end.specs.Deeds.{Deed, LinksHear, told_by}
 use Rattle.amqp_end.specs.declared.end.End.{End}
 use Rattle.amqp_serve.specs.Deeds.{deeds_in}
 use Rattle.amqp_serve.specs.Ran.{Turn, calls, polls, waits, tells, forgets, IsTurn, Ran}
@@ -30,41 +29,23 @@ abbrev pub inputs_by : List Deed → List (ℕ × LinkInput)
 inputs_by [] = []
 inputs_by (d ∷ ds) = inputs_by ds ++ inputs_of d
 
--- the calls for which the links were asked in deeds, the newest first
-abbrev pub asked_of : Deed → List (ℕ × LinkCall)
-asked_of (Asks name call) = (name, call) ∷ []
-asked_of deed = []
-
-abbrev pub asked_by : List Deed → List (ℕ × LinkCall)
-asked_by [] = []
-asked_by (d ∷ ds) = asked_of d ++ asked_by ds
-
--- the call that is made on the links, if it is one
-abbrev pub on_links : ℕ → Call → List (ℕ × LinkCall)
-on_links name (on.Connection call) = []
-on_links name (on.Session call) = []
-on_links name (on.Link call) = (name, call) ∷ []
-
 -- a call that is none on a link, or attaches a sender, sends, or asks for an outcome
 abbrev pub IsOfSender : Call → Type 0
 IsOfSender (on.Connection call) = Unit {0}
 IsOfSender (on.Session call) = Unit {0}
 IsOfSender (on.Link call) = IsSending call
 
--- a turn with such a call, if with one, for which alone the links are asked in it
-abbrev pub IsTurnOfSender : {L : Type 0} (link : Ghosts L) (old : End L) (t : Turn) (new : End L)
-    → IsTurn link old t new → Type 0
-IsTurnOfSender link old (calls name call) new k = IsOfSender call × (asked_by k.2.deeds ≡ on_links name call)
-IsTurnOfSender link old polls new k = Unit {0}
-IsTurnOfSender link old waits new k = Unit {0}
-IsTurnOfSender link old (tells rs) new k = Unit {0}
-IsTurnOfSender link old (forgets name) new k = Unit {0}
+-- a turn with such a call, if with one
+abbrev pub IsTurnOfSender : Turn → Type 0
+IsTurnOfSender (calls name call) = IsOfSender call
+IsTurnOfSender polls = Unit {0}
+IsTurnOfSender waits = Unit {0}
+IsTurnOfSender (tells rs) = Unit {0}
+IsTurnOfSender (forgets name) = Unit {0}
 
-abbrev pub AreOfSender : {L : Type 0} (link : Ghosts L) (old : End L) (ts : List Turn) (new : End L)
-    → Ran link old ts new → Type 0
-unfolding Ran
-AreOfSender link old [] new k = Unit {0}
-AreOfSender link old (t ∷ ts) new k = AreOfSender link old ts k.0 k.1 × IsTurnOfSender link k.0 t new k.2
+abbrev pub AreOfSender : List Turn → Type 0
+AreOfSender [] = Unit {0}
+AreOfSender (t ∷ ts) = AreOfSender ts × IsTurnOfSender t
 
 -- A run of such turns. A call sends the message over the link, whose name is lower, and later another asks for the
 -- outcome of that call.
@@ -82,11 +63,9 @@ pub record AsksOutcome {L : Type 0} (link : Ghosts L) (old new : End L) (sender 
   pub asks : IsTurn link awaits (calls asking (on.Link (ask.Outcome name))) asked
   pub later : List Turn
   pub ends : Ran link asked later new
-  pub of_before : AreOfSender link old before ready begins
-  pub of_sends : IsTurnOfSender link ready (calls name (on.Link (ask.Send sender message))) sent sends
-  pub of_between : AreOfSender link sent between awaits goes
-  pub of_asks : IsTurnOfSender link awaits (calls asking (on.Link (ask.Outcome name))) asked asks
-  pub of_later : AreOfSender link asked later new ends
+  pub of_before : AreOfSender before
+  pub of_between : AreOfSender between
+  pub of_later : AreOfSender later
   pub link_first : sender < name
 
 -- what the end did in it, the newest first

@@ -6,8 +6,7 @@ use amqp_wire::link::Link;
 /// A run of an end with no session and no link, in which a call sends a message over a link and a later one asks for its outcome. An outcome
 /// that it tells for the later call is that of the message: this was sent settled, and so it was accepted; or its delivery has left on a session, under
 /// a number, and the links have heard a Disposition of a receiver on that session that covers the number and says that outcome. The premises
-/// (`AsksOutcome`): the calls attach senders, send and ask for outcomes, or are none on a link; the links are asked for the calls that are made, and for
-/// no others; and the link has a lower name than the call that sends.
+/// (`AsksOutcome`): the calls attach senders, send and ask for outcomes, or are none on a link; and the link has a lower name than the call that sends.
 pub fn runs_tell_outcomes<L: Link>()
     ensures { RunsTellOutcomes L.Link }
 {}

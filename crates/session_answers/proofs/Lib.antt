@@ -6,3 +6,4 @@ pub mod Answering
 pub mod Deeds
 pub mod Traces
 pub mod Given
+pub mod Refusals

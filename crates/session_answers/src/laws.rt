@@ -3,6 +3,7 @@ ghost use Rattle.amqp_sessions.specs.State.{none_begun};
 ghost use Rattle.session_answers.specs.Past.{nothing};
 ghost use Rattle.session_answers.specs.Standing.{AreStanding};
 ghost use Rattle.session_answers.specs.Laws.{AnswersStand, TraceAnswersStand, TracesArePutOut};
+ghost use Rattle.session_answers.specs.Refusals.{EndsRefuse};
 
 use amqp_wire::link::Link;
 
@@ -24,4 +25,10 @@ pub fn trace_answers_stand()
 /// Two ends made these steps: each frame that the sessions of one were given a session of the other has put out.
 pub fn traces_are_put_out()
     ensures { TracesArePutOut }
+{}
+
+/// Whatever an end does: the calls for sessions that it refuses by itself are refused since its connection is not open, or since no
+/// channel up to the agreed channel-max is free.
+pub fn ends_refuse<L: Link>()
+    ensures { EndsRefuse L.Link }
 {}

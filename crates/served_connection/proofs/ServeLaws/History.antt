@@ -10,6 +10,7 @@ use Rattle.amqp_wire.proofs.Events.{went_reads, went_writes, went_mark, went_fau
 use Rattle.amqp_transport.specs.declared.frames.Frame.{Frame}
 use Rattle.amqp_words.specs.declared.call.Call.{Call as ConnectionCall}
 use Rattle.amqp_calls.specs.declared.reply.NamedReply.{NamedReply}
+use Rattle.amqp_link_words.specs.declared.link_call.LinkCall.{LinkCall}
 use Rattle.amqp_links.specs.State.{seen as linked}
 use Rattle.amqp_sessions.specs.State.{State, seen}
 use Rattle.amqp_sessions.specs.declared.sessions.Sessions.{Sessions}
@@ -72,13 +73,13 @@ passed_waited link a b c h p w = record {
 keeps : {L : Type 0} (p : Peering L) (h : List Local) → Has p h → KeepsPromises h
 keeps p h k = record { replies = replies_law p h k; causes = causes_law p h k; writes = gated_law p h k; frames = tied_law p h k; says = said_law p h k; beats = beats_law p h k }
 
-serves_now : {L : Type 0} {call : Option ℕ} (link : Ghosts L) (at : ℕ) (ds : List (ℕ × ConnectionCall)) (m n : End L) (l : Life) (g : Goes link at call ds m n) → Serves m.connection (asked_by l.deeds) (heard_by l.deeds) (given_by l.deeds) l.h
+serves_now : {L : Type 0} {call : Option ℕ} (link : Ghosts L) (at : ℕ) (ds : List (ℕ × ConnectionCall)) {asks : List (ℕ × LinkCall)} (m n : End L) (l : Life) (g : Goes link at call ds asks m n) → Serves m.connection (asked_by l.deeds) (heard_by l.deeds) (given_by l.deeds) l.h
     → ServesAt at (called_by g.deeds ++ made_in l.h) n.connection (asked_by l.deeds ++ asked_by g.deeds) (heard_by l.deeds ++ heard_by g.deeds) (given_by l.deeds ++ given_by g.deeds) (behind at g.deeds (Polled at ∷ l.h))
 serves_now link at ds m n l g s =
     did_serves link at g.deeds m.connection n.connection (seen m.sessions) (seen n.sessions) (linked m.links) (linked n.links) (asked_by l.deeds) (heard_by l.deeds) (given_by l.deeds) (Polled at ∷ l.h) g.did refl
     (serves_looks at m.connection (asked_by l.deeds) (heard_by l.deeds) (given_by l.deeds) l.h s)
 
-serves_then : {L : Type 0} {call : Option ℕ} (link : Ghosts L) (at : ℕ) (ds : List (ℕ × ConnectionCall)) (m n : End L) (l : Life) (g : Goes link at call ds m n) → Serves m.connection (asked_by l.deeds) (heard_by l.deeds) (given_by l.deeds) l.h
+serves_then : {L : Type 0} {call : Option ℕ} (link : Ghosts L) (at : ℕ) (ds : List (ℕ × ConnectionCall)) {asks : List (ℕ × LinkCall)} (m n : End L) (l : Life) (g : Goes link at call ds asks m n) → Serves m.connection (asked_by l.deeds) (heard_by l.deeds) (given_by l.deeds) l.h
     → Serves n.connection (asked_by (g.deeds ++ l.deeds)) (heard_by (g.deeds ++ l.deeds)) (given_by (g.deeds ++ l.deeds)) (behind at g.deeds (Polled at ∷ l.h))
 serves_then link at ds m n l g s =
     let es = g.deeds in
@@ -89,7 +90,7 @@ serves_then link at ds m n l g s =
     (subst (λ (u : List Frame). Serves n.connection (asked_by l.deeds ++ asked_by es) u c h') (sym (heard_then es l.deeds))
     (subst (λ (u : List Frame). Serves n.connection (asked_by l.deeds ++ asked_by es) (heard_by l.deeds ++ heard_by es) u h') (sym (given_then es l.deeds)) (serves_now link at ds m n l g s).serves))
 
-lives_on : {L : Type 0} {call : Option ℕ} (link : Ghosts L) (first : L) (cs ds : List (ℕ × ConnectionCall)) (answers : List NamedReply) (at : ℕ) (m n : End L) (l : Life) (g : Goes link at call ds m n) → Lived link first cs answers m l → Lived link first (ds ++ cs) answers n (lived at g.deeds l)
+lives_on : {L : Type 0} {call : Option ℕ} (link : Ghosts L) (first : L) (cs ds : List (ℕ × ConnectionCall)) (answers : List NamedReply) (at : ℕ) {asks : List (ℕ × LinkCall)} (m n : End L) (l : Life) (g : Goes link at call ds asks m n) → Lived link first cs answers m l → Lived link first (ds ++ cs) answers n (lived at g.deeds l)
 lives_on {L} link first cs ds answers at m n l g k =
     let es = g.deeds in
     let h' = behind at es (Polled at ∷ l.h) in

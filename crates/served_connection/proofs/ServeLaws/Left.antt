@@ -85,7 +85,7 @@ cause_plain h name p error r k c (called m condition earlier e f) =
     inl (f ∙ ap (λ (x : Option (List ℕ)). error_for x) none)
 cause_plain h name p error r k c (answers x e) = inl e
 cause_plain h name p error r k c (mistaken x e) = inl e
-cause_plain h name p error r k c (rejected s) = inr s
+cause_plain h name p error r k c (rejected why s e) = inr s.it
 
 -- ---- what was written
 

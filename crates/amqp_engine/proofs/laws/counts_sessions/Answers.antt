@@ -1,6 +1,6 @@
 use Rattle.std.proofs.Common.{◌+◌, ◌≤◌, arith}
 use Rattle.amqp_engine.specs.Channels.{first_free}
-use Rattle.amqp_engine.proofs.Seats.{full_counts, counts_full}
+use Rattle.amqp_engine.proofs.Lowest.{full_counts, counts_full}
 use Rattle.amqp_engine.proofs.laws.counts_sessions.Goals as goal
 
 pub returns : goal.returns

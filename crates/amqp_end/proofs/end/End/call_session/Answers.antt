@@ -1,5 +1,6 @@
 use Rattle.std.proofs.Common.{[]}
-use Rattle.amqp_end.proofs.Goes.{on_ok, goes_then}
+use Rattle.amqp_end.proofs.Goes.{on_ok, on_both, goes_then}
+use Rattle.amqp_end.proofs.Handed.{all_before, all_then}
 use Rattle.amqp_end.proofs.end.End.call_session.Goals as goal
 
 pub returns-clause-goes : goal.returns-clause-goes
@@ -7,8 +8,18 @@ returns-clause-goes g c =
     let at = c.args.at in
     let collected = goes_then g.L.Link at [] [] c.args.self.now c.ask.new.self c.collect.new.self (c.in_ok-session.ensures at).goes (c.in_ok-collect.ensures.goes at).goes in
     let ran = goes_then g.L.Link at [] [] c.args.self.now c.collect.new.self c.run.new.self collected c.in_ok-run.ensures.goes in
-    let out = goes_then g.L.Link at [] [] c.args.self.now c.run.new.self c.let_out.new.self ran (c.in_ok-let_out.ensures at).goes in
+    let out = goes_then g.L.Link at [] [] c.args.self.now c.run.new.self c.let_out.new.self ran (c.in_ok-let_out.ensures.goes at).goes in
     on_ok c.steps.result (λ h. goes_then g.L.Link at [] [] c.args.self.now c.let_out.new.self c.steps.new.self out h) c.steps.ensures.goes
 
 pub returns-clause-rests : goal.returns-clause-rests
 returns-clause-rests g c = c.steps.ensures.rests
+
+pub returns-clause-handed : goal.returns-clause-handed
+returns-clause-handed g c =
+    let at = c.args.at in
+    let old = c.args.self.now in
+    let collected = goes_then g.L.Link at [] [] old c.ask.new.self c.collect.new.self (c.in_ok-session.ensures at).goes (c.in_ok-collect.ensures.goes at).goes in
+    let ran = goes_then g.L.Link at [] [] old c.collect.new.self c.run.new.self collected c.in_ok-run.ensures.goes in
+    let out = goes_then g.L.Link at [] [] old c.run.new.self c.let_out.new.self ran (c.in_ok-let_out.ensures.goes at).goes in
+    let handed = all_before g.L.Link at old c.run.new.self c.let_out.new.self ran (c.in_ok-let_out.ensures.handed at) in
+    on_both c.steps.result (λ h k. all_then g.L.Link at old c.let_out.new.self c.steps.new.self out handed h k) c.steps.ensures.goes c.steps.ensures.kept

@@ -1,12 +1,14 @@
 use Rattle.std.proofs.Common.{refl, ap, ◌∙◌}
 use Rattle.amqp_sessions.specs.State.{State}
 use Rattle.amqp_end.proofs.Goes.{on_then, on_still, on_freed, none_freed}
+use Rattle.amqp_end.proofs.Handed.{between_then, between_sessions}
 use Rattle.amqp_end.proofs.end.End.give_back.Goals as goal
 
 pub channels-preserved : goal.channels-preserved
 channels-preserved g c = record {
   goes = λ at. on_then g.L.Link at _ c.channels.self _ (c.channels.invariant.goes at) (on_freed g.L.Link at c.in-Some.channel c.channels.self _ c.in-Some.ensures c.deallocate_session.ensures.freed refl refl refl refl);
   output = ap (λ (z : State). z.output) c.in-Some.ensures.1 ∙ c.channels.invariant.output;
+  between = between_then _ c.channels.self _ c.channels.invariant.between (between_sessions c.channels.self _ (ap (λ (z : State). z.incoming) c.in-Some.ensures.1) refl);
 }
 
 pub returns-clause-goes : goal.returns-clause-goes
@@ -17,3 +19,6 @@ returns-clause-output g c = ap (λ (z : State). z.output) c.in_default.ensures.1
 
 pub returns-clause-freed : goal.returns-clause-freed
 returns-clause-freed g c = ap (λ (z : State). z.freed) c.in_default.ensures.1 ∙ c.in_default.ensures.0
+
+pub returns-clause-between : goal.returns-clause-between
+returns-clause-between g c = between_then _ c.channels.self _ c.channels.invariant.between (between_sessions c.channels.self _ (ap (λ (z : State). z.incoming) c.in_default.ensures.1) refl)

@@ -2,7 +2,7 @@
 use Prim.Native.Nat.{zero, suc}
 use Rattle.std.proofs.Common.{◌≡◌, ◌<◌, ◌≤◌, ℕ, Bool, true, false, List, [], ◌∷◌, ◌++◌, length, refl, ap, arith}
 use Rattle.std.specs.Prelude.{slice_set}
-use Rattle.amqp_engine.specs.Channels.{first_free, seat_taken, taken_up_to}
+use Rattle.amqp_engine.specs.Seats.{first_free, seat_taken, taken_up_to}
 
 pub seat_set : (seats : List Bool) (channel : ℕ) → channel < length seats → seat_taken seats channel ≡ slice_set seats channel true
 seat_set [] channel l = absurd (omega (arith, l))
