@@ -7,11 +7,11 @@ ghost use Rattle.amqp_composites.specs.Error.{error_of, error_fields, error_in, 
 use crate::described::{list_value, read_list};
 use crate::kind::CompositeKind;
 use amqp_fields::amqp_data::{Symbol, Text, Value, ValueList};
-use amqp_fields::{BaseError, Field, FieldMap, FieldWriter, Fields};
-use std::alloc::Global;
+use amqp_fields::{BaseError, Field, FieldMap, FieldWriter, Fields, TryClone};
+use std::alloc::{AllocError, Global};
 
 /// Details of an error (part 2, section 2.8.14).
-#[derive(Debug, Drop)]
+#[derive(Debug, Drop, PartialEq, Eq)]
 pub struct Error {
     /// A symbolic value that names the error.
     pub condition: Symbol,
@@ -19,6 +19,19 @@ pub struct Error {
     pub description: Option<Text>,
     /// More about the error.
     pub info: Option<FieldMap>,
+}
+
+impl TryClone for Error {
+    fn try_clone(&self, alloc: Global) -> Result<Self, AllocError> {
+        let condition = self.condition.try_clone(alloc)?;
+        let description = self.description.try_clone(alloc)?;
+        let info = self.info.try_clone(alloc)?;
+        Ok(Error {
+            condition,
+            description,
+            info,
+        })
+    }
 }
 
 #[tactic(auto, unfolding(crate::specs::Error::error_of))]

@@ -10,4 +10,5 @@ pub use modes::{ReceiverSettleMode, Role, SenderSettleMode};
 pub mod described;
 pub mod error;
 pub mod kind;
+pub mod laws;
 pub mod modes;

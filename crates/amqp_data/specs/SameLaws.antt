@@ -14,6 +14,7 @@ use Rattle.amqp_data.specs.Data.{Amqp, Items, Pairs, Scalar, null, boolean, ubyt
 use Rattle.amqp_data.specs.View.{view}
 use Rattle.amqp_data.specs.Same.{same, same_items, same_pairs, same_bool, same_scalar, same_kind, kind_number, distinct_after, distinct_keys, hashed}
 use Rattle.amqp_data.specs.declared.value.Value.{Value}
+use Rattle.amqp_data.specs.declared.value.Value.TheVariants as v
 
 both : (a b : Bool) → (a && b) ≡ true → (a ≡ true) × (b ≡ true)
 both true b e = (refl, e)
@@ -195,6 +196,24 @@ HasDistinctKeys-from ps e = (from_test [] ps e).0
 pub distinct_keys-from : (ps : Pairs) → HasDistinctKeys ps → distinct_keys ps ≡ true
 distinct_keys-from ps h = to_test [] ps h (none_seen ps)
 
+pub same_items_decides : (vs ws : Items) → Decides (same_items vs ws) (vs ≡ ws)
+same_items_decides vs ws = (same_items_is vs ws, λ e. ap (same_items vs) (sym e) ∙ same_items_self vs)
+
+pub same_pairs_decides : (ps qs : Pairs) → Decides (same_pairs ps qs) (ps ≡ qs)
+same_pairs_decides ps qs = (same_pairs_is ps qs, λ e. ap (same_pairs ps) (sym e) ∙ same_pairs_self ps)
+
+pub items_laws : IsEquivalence same_items
+items_laws = decided same_items same_items_decides
+
+pub items_partial_laws : IsPartialEquivalence same_items
+items_partial_laws = partial_equiv_from_equiv items_laws
+
+pub pairs_laws : IsEquivalence same_pairs
+pairs_laws = decided same_pairs same_pairs_decides
+
+pub pairs_partial_laws : IsPartialEquivalence same_pairs
+pairs_partial_laws = partial_equiv_from_equiv pairs_laws
+
 pub equal_laws : IsEquivalence (λ (x y : Value). same (view x) (view y))
 equal_laws =
     let h = decided same same_decides in
@@ -205,3 +224,56 @@ partial_laws = partial_equiv_from_equiv equal_laws
 
 pub hashed_alike : (x y : Value) → IsTrue (same (view x) (view y)) → hashed (view x) ≡ hashed (view y)
 hashed_alike x y h = ap hashed (same_is (view x) (view y) h)
+
+-- ---- a value is known by the data that it stands for
+
+value_of : Amqp → Value
+value_of (scalar null) = v.Null
+value_of (scalar (boolean b)) = v.Bool b
+value_of (scalar (ubyte n)) = v.Ubyte n
+value_of (scalar (ushort n)) = v.Ushort n
+value_of (scalar (uint n)) = v.Uint n
+value_of (scalar (ulong n)) = v.Ulong n
+value_of (scalar (byte n)) = v.Byte n
+value_of (scalar (short n)) = v.Short n
+value_of (scalar (int n)) = v.Int n
+value_of (scalar (long n)) = v.Long n
+value_of (scalar (char c)) = v.Char c
+value_of (scalar (timestamp t)) = v.Timestamp (record { milliseconds = t })
+value_of (scalar (uuid u)) = v.Uuid (record { bytes = u })
+value_of (scalar (binary s)) = v.Binary s
+value_of (scalar (string s)) = v.String s
+value_of (scalar (symbol s)) = v.Symbol s
+value_of (list vs) = v.List vs
+value_of (dict ps) = v.Map ps
+value_of (array k vs) = v.Array (k, vs)
+value_of (described d w) = v.Described (d, w)
+
+value_of_view : (x : Value) → value_of (view x) ≡ x
+unfolding value_of
+value_of_view v.Null = refl
+value_of_view (v.Bool b) = refl
+value_of_view (v.Ubyte n) = refl
+value_of_view (v.Ushort n) = refl
+value_of_view (v.Uint n) = refl
+value_of_view (v.Ulong n) = refl
+value_of_view (v.Byte n) = refl
+value_of_view (v.Short n) = refl
+value_of_view (v.Int n) = refl
+value_of_view (v.Long n) = refl
+value_of_view (v.Char c) = refl
+value_of_view (v.Timestamp t) = refl
+value_of_view (v.Uuid u) = refl
+value_of_view (v.Binary s) = refl
+value_of_view (v.String s) = refl
+value_of_view (v.Symbol s) = refl
+value_of_view (v.List vs) = refl
+value_of_view (v.Map ps) = refl
+value_of_view (v.Array a) = refl
+value_of_view (v.Described d) = refl
+
+value_is : (x y : Value) → same (view x) (view y) ≡ true → x ≡ y
+value_is x y e = sym (value_of_view x) ∙ ap value_of (same_is (view x) (view y) e) ∙ value_of_view y
+
+pub value_decides : (x y : Value) → Decides (same (view x) (view y)) (x ≡ y)
+value_decides x y = (value_is x y, λ e. ap (λ (z : Value). same (view x) (view z)) (sym e) ∙ same_self (view x))

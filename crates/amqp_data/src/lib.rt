@@ -17,6 +17,7 @@ mod described;
 mod from;
 mod hash;
 pub mod kind;
+pub mod laws;
 mod list;
 pub mod map;
 pub mod nesting;

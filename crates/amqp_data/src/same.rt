@@ -1,9 +1,9 @@
-//! When two values are the same: they are of one kind and hold the same.
+//! When two values are the same: they are of one kind and hold the same. When two lists are, and two maps.
 ghost use Rattle.std.specs.Prelude.{◌≡◌, ◌&&◌, IsTrue, false};
 ghost use Rattle.std.specs.Str.{bytes_eq};
 ghost use Rattle.amqp_data.specs.View.{view, items_view, pairs_view};
 ghost use Rattle.amqp_data.specs.Same.{same, same_items, same_pairs, same_kind};
-ghost use Rattle.amqp_data.specs.SameLaws.{partial_laws, equal_laws};
+ghost use Rattle.amqp_data.specs.SameLaws.{partial_laws, equal_laws, items_partial_laws, items_laws, pairs_partial_laws, pairs_laws};
 
 use crate::kind::same_kind;
 use crate::value::{Described, Entry, OrderedMap, Value, ValueArray, ValueList};
@@ -23,6 +23,36 @@ impl PartialEq for Value {
 
 impl Eq for Value {
     ghost laws = { equal_laws };
+}
+
+/// Two lists are equal where they have the same values in the same order.
+impl PartialEq for ValueList {
+    ghost eq = { same_items };
+
+    ghost laws = { items_partial_laws };
+
+    fn eq(&self, other: &ValueList) -> bool {
+        same_lists(self, other)
+    }
+}
+
+impl Eq for ValueList {
+    ghost laws = { items_laws };
+}
+
+/// Two maps are equal where they have the same entries in the same order.
+impl PartialEq for OrderedMap {
+    ghost eq = { same_pairs };
+
+    ghost laws = { pairs_partial_laws };
+
+    fn eq(&self, other: &OrderedMap) -> bool {
+        same_maps(self, other)
+    }
+}
+
+impl Eq for OrderedMap {
+    ghost laws = { pairs_laws };
 }
 
 /// Whether two texts are seen to differ by their lengths or their last bytes: the keys of one map seldom have the same of both.

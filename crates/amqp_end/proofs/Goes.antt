@@ -21,14 +21,15 @@ use Rattle.amqp_engine.specs.declared.error.AllocSessionError.TheVariants.{Chann
 use Rattle.amqp_engine.specs.Calls.{with_channels, Allocates}
 use Rattle.amqp_engine.specs.Channels.{Channels, first_free}
 use Rattle.amqp_engine.specs.State.{State as Engine}
+use Rattle.amqp_engine.proofs.Announced.{said_keeps}
 use Rattle.amqp_words.specs.declared.call.Call.{Call as ConnectionCall}
 use Rattle.amqp_peer.specs.declared.held.Held.{Held}
 use Rattle.amqp_peer.specs.declared.held.Held.TheVariants.{Early, Late, Unopened, Moving}
 use Rattle.amqp_peer.specs.declared.peer.PeerError.{PeerError}
 use Rattle.amqp_peer.specs.Handed.{HandsOn, HandsLast, Sent}
-use Rattle.amqp_peer.specs.Hearing.{hears_in, IsOpenIn, waiting_in}
+use Rattle.amqp_peer.specs.Hearing.{hears_in, IsOpenIn, channels_in, waiting_in}
 use Rattle.amqp_peer.specs.Held.{IsLate}
-use Rattle.amqp_peer.specs.History.{Made, Polled}
+use Rattle.amqp_peer.specs.History.{Made, Polled, sent_in}
 use Rattle.amqp_peer.specs.Peering.{Peering}
 use Rattle.amqp_peer.specs.Passing.{IsHeldAlone, TakesIncoming, TakesSession, AllocatesLate, freed_in, Passes}
 use Rattle.amqp_peer.specs.Runs.{Stepped}
@@ -359,7 +360,7 @@ on_freed {L} link at channel a b t h k last failed same_replies =
 -- a frame is given to the connection
 pub on_wrote : {L : Type 0} (link : Ghosts L) (at : ℕ) (x : Frame) (a b : End L) → TakesFrame (seen a.sessions) (Some (framed_of x)) (seen b.sessions) → Passes x a.connection b.connection → Sent link x a.connection b.connection → (hears_in a.connection.held ≡ true → IsOpenIn a.connection.held) → IsLate b.connection.held → linked b.links ≡ linked a.links → b.last ≡ a.last → b.failed ≡ a.failed → b.replies.items ≡ a.replies.items → GoesOn link at a b
 on_wrote link at x a b t p sent opened late k last failed same_replies =
-    record { goes = goes_deed link at (Writes x sent.events) a b (record { takes = t; passes = p; sent = sent; adds = refl; opened = opened }, k) tt tt last failed (untold a.replies.items b.replies.items same_replies); late = λ l. late; heard = λ e. ap (λ (z : Channels). z.incoming) sent.channels ∙ e }
+    record { goes = goes_deed link at (Writes x sent.events) a b (record { takes = t; passes = p; sent = sent; adds = refl; opened = opened }, k) tt tt last failed (untold a.replies.items b.replies.items same_replies); late = λ l. late; heard = λ e. ap (λ (z : Channels). z.incoming) sent.channels ∙ (said_keeps (channels_in a.connection.held) (sent_in sent.events)).1 ∙ e }
 
 -- the answers of all three are taken, and told
 taken_late : {L : Type 0} (p q : Peering L) → q ≡ record p { replies = [] } → IsLate p.held → IsLate q.held

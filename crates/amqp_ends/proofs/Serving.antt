@@ -1,6 +1,6 @@
 -- An end serves the sessions above it.
 use Rattle.std.proofs.Common.{◌≡◌, inl, inr, ℕ, List, [], ◌∷◌, ◌++◌, Bool, true, false, cond, not, Some, Result, Ok, Err, refl, sym, ap, ◌∙◌, subst, append_assoc}
-use Rattle.std.specs.Prelude.{map, filter}
+use Rattle.std.specs.Prelude.{nat_eq, map, filter}
 use Rattle.std.proofs.lemmas.List.{append-nil}
 use Rattle.std.proofs.lemmas.List.Elements.{filter-append}
 use Rattle.amqp_wire.specs.declared.link.Link.{Ghosts}
@@ -12,6 +12,7 @@ use Rattle.amqp_engine.specs.Calls.{Allocates}
 use Rattle.amqp_engine.specs.Channels.{Channels}
 use Rattle.amqp_engine.specs.Phases.{hears}
 use Rattle.amqp_engine.specs.State.{State}
+use Rattle.amqp_engine.proofs.Announced.{said_keeps}
 use Rattle.amqp_peer.specs.amqp_words.declared.call.Call.{Call}
 use Rattle.amqp_peer.specs.declared.held.Held.{Held}
 use Rattle.amqp_peer.specs.declared.held.Held.TheVariants.{Early, Late, Unopened, Moving}
@@ -30,7 +31,7 @@ use Rattle.amqp_peer.proofs.Laws.{has_fresh, has_taken, has_with_link}
 use Rattle.amqp_peer.proofs.Quiet.{has_polled}
 use Rattle.amqp_peer.proofs.Sessions.{allocates_has, freed_has}
 use Rattle.amqp_peer.proofs.Unsaid.{sessions_of-append}
-use Rattle.amqp_ends.specs.Streams.{IsFront, IsUpTo, Carries, Serves}
+use Rattle.amqp_ends.specs.Streams.{IsFront, IsUpTo, on_channel, Carries, Serves}
 
 -- ---- the first of them, and all while the connection hears
 
@@ -51,6 +52,14 @@ up_more b c taken old one two before all none l u = (
   u.0 ++ two,
   ap (λ (v : List Frame). v ++ (u.0 ++ two)) (sym (append_assoc taken old one)) ∙ sym (seam (taken ++ old) u.0 one two (either_way b u.2 none)) ∙ ap (λ (v : List Frame). v ++ (one ++ two)) u.1,
   λ z. ap (λ (v : List Frame). v ++ two) (u.2 (l z)) ∙ all z,
+)
+
+-- of those alone that pass a test
+up_filtered : (p : Frame → Bool) (b : Bool) (xs more all : List Frame) → IsUpTo b (xs ++ more) all → IsUpTo b (filter p xs ++ filter p more) (filter p all)
+up_filtered p b xs more all u = (
+  filter p u.0,
+  ap (λ (v : List Frame). v ++ filter p u.0) (sym (filter-append p xs more)) ∙ sym (filter-append p (xs ++ more) u.0) ∙ ap (filter p) u.1,
+  λ z. ap (filter p) (u.2 z),
 )
 
 front : (b : Bool) (xs more all : List Frame) → IsUpTo b (xs ++ more) all → IsFront xs all
@@ -189,10 +198,10 @@ serves_sends link x old new asked heard gave h k o s =
     record {
       has = k.grows h s.has;
       asked_all = subst (λ (u : List Frame). IsUpTo (hears_in new.held) (asked ++ map asking (channels_in new.held).begun) (asking_of (sessions_of u))) (sym (deaf_same h k.events k.deaf))
-          (subst (λ (c : Channels). IsUpTo (hears_in new.held) (asked ++ map asking c.begun) (asking_of (sessions_of (given_in h)))) (sym k.channels)
+          (subst (λ (ys : List IncomingSession). IsUpTo (hears_in new.held) (asked ++ map asking ys) (asking_of (sessions_of (given_in h)))) (sym (ap (λ (c : Channels). c.begun) k.channels ∙ (said_keeps (channels_in old.held) (sent_in k.events)).0))
           (up_same (hears_in old.held) (hears_in new.held) (asked ++ map asking (channels_in old.held).begun) (asking_of (sessions_of (given_in h))) k.listens s.asked_all));
       heard_all = subst (λ (u : List Frame). IsUpTo (hears_in new.held) (heard ++ (channels_in new.held).incoming) (others_of (sessions_of u))) (sym (deaf_same h k.events k.deaf))
-          (subst (λ (c : Channels). IsUpTo (hears_in new.held) (heard ++ c.incoming) (others_of (sessions_of (given_in h)))) (sym k.channels)
+          (subst (λ (ys : List Frame). IsUpTo (hears_in new.held) (heard ++ ys) (others_of (sessions_of (given_in h)))) (sym (ap (λ (c : Channels). c.incoming) k.channels ∙ (said_keeps (channels_in old.held) (sent_in k.events)).1))
           (up_same (hears_in old.held) (hears_in new.held) (heard ++ (channels_in old.held).incoming) (others_of (sessions_of (given_in h))) k.listens s.heard_all));
       sent_all = sent_goes link x old new gave h k o s.sent_all;
     }
@@ -277,3 +286,9 @@ carries p asked heard gave h s = record {
   heard_first = front (hears_in p.held) heard (channels_in p.held).incoming (others_of (sessions_of (given_in h))) s.heard_all;
   sent_first = (s.sent_all.0, s.sent_all.1);
 }
+
+-- ---- one channel
+
+pub by_channel : {L : Type 0} (channel : ℕ) (p : Peering L) (asked heard gave : List Frame) (h : List Local) → Serves p asked heard gave h
+    → IsUpTo (hears_in p.held) (on_channel channel heard ++ on_channel channel (waiting_in p.held)) (on_channel channel (others_of (sessions_of (given_in h))))
+by_channel channel p asked heard gave h s = up_filtered (λ (x : Frame). nat_eq channel x.channel) (hears_in p.held) heard (waiting_in p.held) (others_of (sessions_of (given_in h))) s.heard_all

@@ -1,6 +1,6 @@
 -- Ends that carry sessions, in words of what happened at each, and of what their sessions were handed and gave (OASIS AMQP 1.0, part 2, section
 -- 2.5).
-use Rattle.std.specs.Prelude.{◌≡◌, List, ◌++◌, [], Bool, true}
+use Rattle.std.specs.Prelude.{◌≡◌, ℕ, nat_eq, List, ◌++◌, [], filter, Bool, true}
 use Rattle.amqp_transport.specs.declared.frames.Frame.{Frame}
 use Rattle.amqp_peer.specs.Frames.{sessions_of, asking_of, others_of}
 use Rattle.amqp_peer.specs.Hearing.{hears_in, waiting_in, asked_in}
@@ -21,6 +21,10 @@ pub record Carries (asked heard gave : List Frame) (h : List Local) : Type 0 whe
 -- these are the first of those, and all of them while the connection hears
 abbrev pub IsUpTo : Bool → List Frame → List Frame → Type 0
 IsUpTo hears xs all = (later : List Frame) × (xs ++ later ≡ all) × (hears ≡ true → later ≡ [])
+
+-- the frames on that channel of the peer (part 2, section 2.3.1)
+abbrev pub on_channel : ℕ → List Frame → List Frame
+on_channel channel xs = filter (λ x. nat_eq channel x.channel) xs
 
 -- The same of an end, with what waits at its connection: while it hears, nothing was lost.
 pub record Serves {L : Type 0} (p : Peering L) (asked heard gave : List Frame) (h : List Local) : Type 0 where

@@ -16,8 +16,9 @@ use Rattle.amqp_engine.specs.declared.phase.Rejection.TheVariants as rejection
 use Rattle.amqp_engine.specs.declared.sessions.Plan.{Plan}
 use Rattle.amqp_engine.specs.declared.sessions.Plan.TheVariants as plan
 use Rattle.amqp_engine.specs.Channels.{Channels, is_among}
+use Rattle.amqp_engine.specs.Limits.{is_beyond}
 use Rattle.amqp_engine.specs.Phases.{kind_of, IsInner, IsClose}
-use Rattle.amqp_engine.specs.Plans.{answer_plan, begin_plan, known_plan, within_plan}
+use Rattle.amqp_engine.specs.Plans.{answer_plan, begin_plan, known_plan, beyond_plan, within_plan}
 use Rattle.amqp_engine.specs.State.{State, own_reason, answered_reason, failed_reason, close_phase}
 use Rattle.amqp_engine.specs.Machine.{received, awaited, arrived, outlasted, phase_after, plan_of}
 use Rattle.amqp_engine.specs.Heard.{IsHeard, IsGreeted, IsRejected, IsRejectedFor, IsStray, IsStrayFor, AllUnclosed}
@@ -118,6 +119,14 @@ fits_known k l c (b.Open y) t = absurd (cc t)
 fits_known k l c (b.Close y) t = absurd (cc t)
 fits_known k l c b.Empty t = absurd (cc t)
 
+fits_beyond : (u : Bool) (q : Plan) (body : FrameBody) → of_session body ≡ true → Fits q body → Fits (beyond_plan u q) body
+fits_beyond true plan.Deliver body t f = t
+fits_beyond true plan.Answer body t f = f
+fits_beyond true plan.End body t f = f
+fits_beyond true plan.Ask body t f = f
+fits_beyond true (plan.Reject why) body t f = f
+fits_beyond false q body t f = f
+
 fits_within : (u : Bool) (q : Plan) (body : FrameBody) → of_session body ≡ true → Fits q body → Fits (within_plan u q) body
 fits_within true q body t f = t
 fits_within false q body t f = f
@@ -125,8 +134,9 @@ fits_within false q body t f = f
 fits_plan : {L : Type 0} (s : State L) (x : Frame) → of_session x.body ≡ true → Fits (plan_of s x) x.body
 fits_plan s x t =
     let k : Bool = is_among x.channel s.channels.remotes in
-    fits_within (nat_lt s.settings.channel_max x.channel) (known_plan k s.settings.is_listener s.channels x.body) x.body t
-    (fits_known k s.settings.is_listener s.channels x.body t)
+    let u : Bool = is_beyond s.channels.limits x.channel x.body in
+    fits_within (nat_lt s.settings.channel_max x.channel) (beyond_plan u (known_plan k s.settings.is_listener s.channels x.body)) x.body t
+    (fits_beyond u (known_plan k s.settings.is_listener s.channels x.body) x.body t (fits_known k s.settings.is_listener s.channels x.body t))
 
 heard_planned : (q : Plan) (phase : Phase) (reason : ConnectionStopReason) (xs : List Frame) (r : IsRejected xs) → phase ≡ p.Opened → Fits q r.last.body → IsHeard p.Opened reason xs → IsHeard (phase_after q phase) reason xs
 heard_planned (plan.Reject w) phase reason xs r e f h = (record { it = r; fits = f }, h.1)

@@ -9,6 +9,7 @@ pub mod Says
 pub mod Lowest
 pub mod Account
 pub mod Answered
+pub mod Announced
 pub mod Handed
 pub mod Beats
 pub mod Closers

@@ -25,7 +25,7 @@ use Rattle.amqp_engine.specs.declared.error.Error.TheVariants as error
 use Rattle.amqp_engine.specs.declared.phase.Phase.{Phase}
 use Rattle.amqp_engine.specs.declared.phase.Phase.TheVariants as p
 use Rattle.amqp_engine.specs.Phases.{has_failed, is_open, is_stopped, kind_of, IsInner}
-use Rattle.amqp_engine.specs.State.{State, queueing, failing, failed_reason, closing, close_frame, close_phase, entered, beating, remote_reason, answered_reason}
+use Rattle.amqp_engine.specs.State.{State, queueing, sending, failing, failed_reason, closing, close_frame, close_phase, entered, beating, remote_reason, answered_reason}
 use Rattle.amqp_engine.specs.declared.sessions.Plan.{Plan}
 use Rattle.amqp_engine.specs.declared.sessions.Plan.TheVariants as plan
 use Rattle.amqp_engine.specs.declared.error.AllocSessionError.{AllocSessionError}
@@ -327,8 +327,8 @@ pub open_follows : {L : Type 0} (old : State L) (y : Option AmqpError) → old.p
 open_follows old y e =
     closes_follow old y (λ sent s. in_phase old p.Opened sent e s) (λ before h. (heard_in old p.Opened before e h).0) (ap is_stopped e)
 
-ran_session : {L : Type 0} (q : Phase) (link : Ghosts L) (old : State L) (x : Frame) (result : Result Unit Error) (new : State L) → old.phase ≡ q → of_session x.body ≡ true → SendsIf (is_open q) old x (queueing old x) result new → Ran link old new
-ran_session p.Opened link old x result new e o a = (puts_by link old x (queueing old x) tt result new (inner_follows old x (queueing old x) e refl refl refl refl (session_is_inner x.body o)) a).run
+ran_session : {L : Type 0} (q : Phase) (link : Ghosts L) (old : State L) (x : Frame) (result : Result Unit Error) (new : State L) → old.phase ≡ q → of_session x.body ≡ true → SendsIf (is_open q) old x (sending old x) result new → Ran link old new
+ran_session p.Opened link old x result new e o a = (puts_by link old x (sending old x) tt result new (inner_follows old x (sending old x) e refl refl refl refl (session_is_inner x.body o)) a).run
 ran_session p.OpenSent link old x result new e o a = ran_same link old new a.1
 ran_session p.CloseReceived link old x result new e o a = ran_same link old new a.1
 ran_session p.Refused link old x result new e o a = ran_same link old new a.1
@@ -338,7 +338,7 @@ ran_session p.Discarding link old x result new e o a = ran_same link old new a.1
 ran_session p.Ended link old x result new e o a = ran_same link old new a.1
 ran_session p.Failed link old x result new e o a = ran_same link old new a.1
 
-pub ran_sends : {L : Type 0} (link : Ghosts L) (old : State L) (x : Frame) (result : Result Unit Error) (new : State L) → of_session x.body ≡ true → Sends old x (queueing old x) result new → Ran link old new
+pub ran_sends : {L : Type 0} (link : Ghosts L) (old : State L) (x : Frame) (result : Result Unit Error) (new : State L) → of_session x.body ≡ true → Sends old x (sending old x) result new → Ran link old new
 ran_sends link old x result new o a = ran_session old.phase link old x result new refl o a
 
 -- only the channels changed

@@ -2,6 +2,7 @@
 use Rattle.std.specs.Prelude.{◌≡◌, ℕ, ◌<◌, nat_eq, Bool, false, List, [], ◌∷◌, ◌++◌, map, slice_set, Option, Some, None, if◌then◌else◌}
 use Rattle.std.specs.List.{list_any}
 use Rattle.std.specs.VecDeque.{deque_len, deque_capacity}
+use Rattle.indexmap.specs.IndexMap.{spare as spare_entries}
 use Rattle.indexmap.specs.IndexSet.{spare, swap_remove_by}
 use Rattle.amqp_transport.specs.amqp_frames.declared.body.FrameBody.{FrameBody}
 use Rattle.amqp_transport.specs.amqp_frames.declared.body.FrameBody.TheVariants as b
@@ -11,16 +12,18 @@ use Rattle.amqp_transport.specs.declared.frames.Frame.{Frame}
 use Rattle.amqp_engine.specs.declared.sessions.Plan.{Plan}
 use Rattle.amqp_engine.specs.declared.sessions.Plan.TheVariants as plan
 use Rattle.amqp_engine.specs.declared.sessions.Sessions.{Sessions}
+use Rattle.amqp_engine.specs.Limits.{Limits, limits_of, no_limits, announcing, begun_on, ended_on, freed_on}
 pub use Rattle.amqp_engine.specs.Seats.{first_free, seat_taken, taken_up_to}
 
 -- of each channel of this end whether a session has it; those whose Begin the peer has answered; the peer's channels on which it has
--- begun a session; the frames that wait; the sessions that the peer asks for
+-- begun a session; the frames that wait; the sessions that the peer asks for; the highest handles of the peer's links
 pub record Channels : Type 0 where
   pub seats : List Bool
   pub answered : List ℕ
   pub remotes : List ℕ
   pub incoming : List Frame
   pub begun : List IncomingSession
+  pub limits : Limits
 
 -- a session's frame, with its channel
 abbrev pub frame_in : SessionFrame → Frame
@@ -30,11 +33,11 @@ abbrev pub frames_in : List SessionFrame → List Frame
 frames_in xs = map frame_in xs
 
 abbrev pub channels_of : Sessions → Channels
-channels_of s = record { seats = s.seats; answered = s.answered.keys; remotes = s.remotes.keys; incoming = frames_in s.incoming.items; begun = s.begun.items }
+channels_of s = record { seats = s.seats; answered = s.answered.keys; remotes = s.remotes.keys; incoming = frames_in s.incoming.items; begun = s.begun.items; limits = limits_of s.limits }
 
 -- no sessions
 abbrev pub no_channels : Channels
-no_channels = record { seats = []; answered = []; remotes = []; incoming = []; begun = [] }
+no_channels = record { seats = []; answered = []; remotes = []; incoming = []; begun = []; limits = no_limits }
 
 -- there is room for what one frame may add
 pub record HasRoom (s : Sessions) : Type 0 where
@@ -42,6 +45,12 @@ pub record HasRoom (s : Sessions) : Type 0 where
   pub remotes : 0 < spare s.remotes
   pub incoming : deque_len s.incoming < deque_capacity s.incoming
   pub begun : deque_len s.begun < deque_capacity s.begun
+  pub limits : 0 < spare_entries s.limits.highest
+
+-- there is room for what one Begin of this end may add
+pub record CanAnnounce (s : Sessions) : Type 0 where
+  pub announced : 0 < spare_entries s.limits.announced
+  pub highest : 0 < spare_entries s.limits.highest
 
 -- the channel is one of these
 abbrev pub is_among : ℕ → List ℕ → Bool
@@ -79,14 +88,22 @@ with_asked xs (Some x) = xs ++ x ∷ []
 -- a frame is taken in as is planned
 abbrev pub taken_in : Plan → Channels → Frame → Channels
 taken_in plan.Deliver c x = record c { incoming = c.incoming ++ x ∷ [] }
-taken_in plan.Answer c x = record c { answered = with_named (named_in x.body) c.answered; remotes = with_channel x.channel c.remotes; incoming = c.incoming ++ x ∷ [] }
-taken_in plan.End c x = record c { remotes = without_channel x.channel c.remotes; incoming = c.incoming ++ x ∷ [] }
-taken_in plan.Ask c x = record c { remotes = with_channel x.channel c.remotes; begun = with_asked c.begun (asked x) }
+taken_in plan.Answer c x = record c { answered = with_named (named_in x.body) c.answered; remotes = with_channel x.channel c.remotes; incoming = c.incoming ++ x ∷ []; limits = begun_on x.channel (named_in x.body) c.limits }
+taken_in plan.End c x = record c { remotes = without_channel x.channel c.remotes; incoming = c.incoming ++ x ∷ []; limits = ended_on x.channel c.limits }
+taken_in plan.Ask c x = record c { remotes = with_channel x.channel c.remotes; begun = with_asked c.begun (asked x); limits = begun_on x.channel None c.limits }
 taken_in (plan.Reject why) c x = c
+
+-- This end has queued a frame of a session, and then others: a Begin says the highest handle of the peer's links (part 2, section 2.7.2).
+abbrev pub said_in : Channels → Frame → Channels
+said_in c x = record c { limits = announcing c.limits x.channel x.body }
+
+abbrev pub said_all : Channels → List Frame → Channels
+said_all c [] = c
+said_all c (x ∷ xs) = said_all (said_in c x) xs
 
 -- that channel is free, and a session that has it next is not answered yet
 abbrev pub seat_freed : ℕ → Channels → Channels
-seat_freed channel c = record c { seats = slice_set c.seats channel false; answered = without_channel channel c.answered }
+seat_freed channel c = record c { seats = slice_set c.seats channel false; answered = without_channel channel c.answered; limits = freed_on channel c.limits }
 
 abbrev pub first_of : {X : Type 0} → List X → Option X
 first_of [] = None

@@ -5,6 +5,7 @@ pub mod Phases
 pub mod Plans
 pub mod Seats
 pub mod Kept
+pub mod Limits
 pub mod Channels
 pub mod State
 pub mod Machine

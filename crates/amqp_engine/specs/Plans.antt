@@ -11,6 +11,7 @@ use Rattle.amqp_engine.specs.declared.phase.Rejection.TheVariants as rejection
 use Rattle.amqp_engine.specs.declared.sessions.Plan.{Plan}
 use Rattle.amqp_engine.specs.declared.sessions.Plan.TheVariants as plan
 use Rattle.amqp_engine.specs.Channels.{Channels, is_among}
+use Rattle.amqp_engine.specs.Limits.{is_beyond}
 
 -- A Begin that answers names a channel on which this end has a session, whose Begin is not answered yet; a second answer is out of
 -- order (part 2, section 2.5.1).
@@ -37,8 +38,16 @@ abbrev pub within_plan : Bool → Plan → Plan
 within_plan true q = plan.Reject rejection.FramingError
 within_plan false q = q
 
+-- no frame that a session would take names a handle above the highest that this end has announced for it (part 2, section 2.7.2)
+abbrev pub beyond_plan : Bool → Plan → Plan
+beyond_plan true plan.Deliver = plan.Reject rejection.FramingError
+beyond_plan true q = q
+beyond_plan false q = q
+
 abbrev pub planned : Settings → Channels → Frame → Plan
-planned s c x = within_plan (nat_lt s.channel_max x.channel) (known_plan (is_among x.channel c.remotes) s.is_listener c x.body)
+planned s c x =
+    within_plan (nat_lt s.channel_max x.channel)
+    (beyond_plan (is_beyond c.limits x.channel x.body) (known_plan (is_among x.channel c.remotes) s.is_listener c x.body))
 
 -- what the end's own caller is told of a rejection
 abbrev pub rejection_told : Rejection → Error

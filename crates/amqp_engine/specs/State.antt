@@ -19,7 +19,7 @@ use Rattle.amqp_engine.specs.declared.phase.Phase.{Phase}
 use Rattle.amqp_engine.specs.declared.phase.Phase.TheVariants as p
 use Rattle.amqp_engine.specs.declared.phase.Rejection.{Rejection}
 use Rattle.amqp_engine.specs.declared.phase.Rejection.TheVariants as rejection
-use Rattle.amqp_engine.specs.Channels.{Channels, no_channels}
+use Rattle.amqp_engine.specs.Channels.{Channels, no_channels, said_in}
 use Rattle.amqp_engine.specs.Phases.{is_stopped}
 use Rattle.amqp_engine.specs.Settings.{settings_of_end, open_of, agreed}
 
@@ -47,6 +47,10 @@ limited w read written = record w { codec = record w.codec { decoder = max 512 r
 -- a frame is queued
 abbrev pub queueing : {L : Type 0} → State L → Frame → State L
 queueing s x = record s { wire = record s.wire { codec = record s.wire.codec { output = s.wire.codec.output ++ bytes_of x } } }
+
+-- a frame of a session is queued
+abbrev pub sending : {L : Type 0} → State L → Frame → State L
+sending s x = record (queueing s x) { channels = said_in s.channels x }
 
 -- the frames of the connection itself
 abbrev pub open_frame : EndKind → Frame

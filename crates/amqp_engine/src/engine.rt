@@ -6,7 +6,7 @@ ghost use Rattle.amqp_transport.specs.Clocks.{IsDue};
 ghost use Rattle.amqp_transport.specs.Kinds.{no_frame};
 ghost use Rattle.amqp_engine.specs.Phases.{awaits, is_open, is_stopped, has_failed, state_of};
 ghost use Rattle.amqp_engine.specs.Channels.{frame_in, first_of};
-ghost use Rattle.amqp_engine.specs.State.{State, queueing, failing, closing, close_frame, beating, own_reason, remote_reason, answered_reason, error_for, limited, idle_time, entered, close_phase, closed_for, stop_reason_of};
+ghost use Rattle.amqp_engine.specs.State.{State, queueing, sending, failing, closing, close_frame, beating, own_reason, remote_reason, answered_reason, error_for, limited, idle_time, entered, close_phase, closed_for, stop_reason_of};
 ghost use Rattle.amqp_engine.specs.Machine.{awaited, awaited_answer, arrived, arrived_answer, outlasted, received, answer_to, admitted_answer, phase_after};
 ghost use Rattle.amqp_engine.specs.Sentence.{Ran};
 ghost use Rattle.amqp_engine.specs.Outcomes.{Stepped, HasClosed};
@@ -516,8 +516,9 @@ impl<L: Link> ConnectionEngine<L> {
     /// Writes what is queued, and then does one thing: it queues a Close that is owed, or the empty frame that is due, or reads
     /// at most one frame. `Stopped` exactly where the stop reason is told.
     ///
-    /// `IllegalState`, `NotImplemented` and `NotFound` say that the frame that was read may not come now or on that channel, begins
-    /// a session that this end does not take, or names no session. The engine goes on: the next step queues the Close that is owed.
+    /// `IllegalState`, `NotImplemented` and `NotFound` say that the frame that was read may not come now, on that channel or with that
+    /// handle, begins a session that this end does not take, or names no session. The engine goes on: the next step queues the Close
+    /// that is owed.
     ///
     /// `TransportError` ends the engine, and the connection has stopped then. `Io` says that the link failed or its input ended,
     /// `IdleTimeoutElapsed` that no frame came for the idle time, `DecodeError`, `NotImplemented` and `FramingError` that what was
@@ -548,7 +549,7 @@ impl<L: Link> ConnectionEngine<L> {
     /// nothing changes, and the engine goes on. No other error comes.
     pub fn send(&mut self, frame: SessionFrame) -> Result<(), Error>
         ensures ran { Ran L.Link self.old self.new }
-        ensures does { Sends self.old (frame_in frame) (queueing self.old (frame_in frame)) result self.new }
+        ensures does { Sends self.old (frame_in frame) (sending self.old (frame_in frame)) result self.new }
     {
         let (channel, body) = frame.into_parts();
         let frame = Frame { channel, body };
@@ -558,12 +559,32 @@ impl<L: Link> ConnectionEngine<L> {
     }
 
     fn put_if_open(&mut self, frame: &Frame) -> Result<(), Error>
-        ensures { Sends self.old frame.now (queueing self.old frame.now) result self.new }
+        ensures { Sends self.old frame.now (sending self.old frame.now) result self.new }
     {
         if !self.phase.is_open() {
             return Err(Error::IllegalState);
         }
-        self.put(frame)
+        self.put_session_frame(frame)
+    }
+
+    /// Queues the frame of a session, and keeps the handle-max that a Begin announces.
+    fn put_session_frame(&mut self, frame: &Frame) -> Result<(), Error>
+        ensures { Puts self.old frame.now (sending self.old frame.now) tt result self.new }
+    {
+        if let Err(error) = self.sessions.make_room_to_begin() {
+            return Err(Error::Memory(error));
+        }
+        match self.transport.start_send(self.alloc, frame) {
+            Ok(()) => {
+                self.sessions.announce(frame);
+                Ok(())
+            }
+            Err(transport::Error::Memory(error)) => Err(Error::Memory(error)),
+            Err(error) => {
+                self.fail();
+                Err(Error::TransportError(error))
+            }
+        }
     }
 
     /// Queues a Close, behind all that was queued; it goes out with the next steps.

@@ -18,7 +18,7 @@ pub enum Error {
     /// The transport failed, or a frame is too large for the peer.
     #[error("TransportError")]
     TransportError(transport::Error),
-    /// A frame came out of order or on a channel that is too high, or the connection is not open.
+    /// A frame came out of order, on a channel that is too high or with a handle that is too high, or the connection is not open.
     #[error("IllegalState")]
     IllegalState,
     /// The peer began a session at an end that takes none.

@@ -1,5 +1,6 @@
 //! What follows of the contracts, over the whole life of a connection.
-ghost use Rattle.std.specs.Prelude.{◌≡◌, ℕ, Bool, List, [], ◌∷◌, Option, None, Some, Result, Ok, ◌<◌, ◌≤◌, ◌+◌, ◌↔◌, true, false};
+ghost use Rattle.std.specs.Prelude.{◌≡◌, ℕ, nat_eq, Bool, List, [], ◌∷◌, Option, None, Some, Result, Ok, ◌<◌, ◌≤◌, ◌+◌, ◌↔◌, true, false};
+ghost use Rattle.std.specs.Map.{lookup};
 ghost use Rattle.amqp_wire.specs.Events.{wrote_of};
 ghost use Rattle.amqp_transport.specs.Wire.{Wire};
 ghost use Rattle.amqp_engine.specs.declared.connection.EndKind.{EndKind};
@@ -8,10 +9,13 @@ ghost use Rattle.amqp_transport.specs.amqp_frames.Session.{of_session};
 ghost use Rattle.amqp_transport.specs.declared.frames.Frame.{Frame};
 ghost use Rattle.amqp_engine.specs.Channels.{first_free, taken_up_to, is_among, named_in};
 ghost use Rattle.amqp_engine.specs.Faults.{OwesTooMuch};
+ghost use Rattle.amqp_engine.specs.Limits.{handle_of};
 ghost use Rattle.amqp_engine.specs.Outcomes.{Stepped, HasClosed, IsHanded};
 ghost use Rattle.amqp_engine.specs.Phases.{is_open, is_stopped};
 ghost use Rattle.amqp_engine.specs.declared.engine.EngineStep.{EngineStep};
 ghost use Rattle.amqp_engine.specs.declared.engine.EngineStep.TheVariants as step;
+ghost use Rattle.amqp_engine.specs.declared.phase.Phase.TheVariants as p;
+ghost use Rattle.amqp_engine.specs.declared.phase.Rejection.TheVariants as rejection;
 ghost use Rattle.amqp_engine.specs.declared.error.Error.{Error};
 ghost use Rattle.amqp_composites.specs.declared.error.Error.{Error as AmqpError};
 ghost use Rattle.amqp_engine.specs.State.{State, closing, close_frame};
@@ -59,4 +63,11 @@ pub fn answers_once<L: Link>()
     ensures first { (old new : State L) (x : Frame) (channel : ℕ) → is_open old.phase ≡ true → named_in x.body ≡ Some channel → IsHanded old (x ∷ []) new → is_open new.phase ≡ true → (is_among channel old.channels.answered ≡ false) × (is_among channel new.channels.answered ≡ true) }
     ensures stays { (old new : State L) (given : List Frame) (channel : ℕ) → IsHanded old given new → is_among channel old.channels.answered ≡ true → is_among channel new.channels.answered ≡ true }
     ensures within { (old new : State L) (x : Frame) → is_open old.phase ≡ true → of_session x.body ≡ true → IsHanded old (x ∷ []) new → is_open new.phase ≡ true → x.channel ≤ old.settings.channel_max }
+{}
+
+/// A handle of the peer is not above the handle-max that this end has announced for it (part 2, section 2.7.2): no Attach, Flow, Transfer or
+/// Detach with a higher one leaves the connection open, and where its channel has a session it is closed for a framing error.
+pub fn keeps_to_handles<L: Link>()
+    ensures within { (old new : State L) (x : Frame) (highest handle : ℕ) → is_open old.phase ≡ true → lookup (nat_eq x.channel) old.channels.limits.highest ≡ Some highest → handle_of x.body ≡ Some handle → IsHanded old (x ∷ []) new → is_open new.phase ≡ true → handle ≤ highest }
+    ensures closes { (old new : State L) (x : Frame) (highest handle : ℕ) → is_open old.phase ≡ true → x.channel ≤ old.settings.channel_max → is_among x.channel old.channels.remotes ≡ true → lookup (nat_eq x.channel) old.channels.limits.highest ≡ Some highest → handle_of x.body ≡ Some handle → highest < handle → IsHanded old (x ∷ []) new → new.phase ≡ p.Rejected rejection.FramingError }
 {}

@@ -12,6 +12,7 @@ mod drops;
 pub mod engine;
 pub mod error;
 pub mod laws;
+mod limits;
 pub mod phase;
 mod seats;
 mod sessions;

@@ -38,7 +38,7 @@ pub enum Rejection {
     NotImplemented,
     /// A channel that names no session.
     NotFound,
-    /// A channel above the highest that both ends take (part 2, section 2.7.1).
+    /// A channel above the highest that both ends take, or a handle above the highest that this end does (part 2, sections 2.7.1 and 2.7.2).
     FramingError,
 }
 

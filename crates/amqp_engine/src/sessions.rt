@@ -1,14 +1,17 @@
 //! The channels of sessions, and what came on them (OASIS AMQP 1.0, part 2, section 2.5).
 ghost use Rattle.std.specs.Prelude.{◌≡◌, ◌<◌, [], false, slice_index_or, option_map, OnOk, OnErr};
 ghost use Rattle.indexmap.specs.IndexSet.{spare};
-ghost use Rattle.amqp_engine.specs.Plans.{planned, known_plan, begin_plan, answer_plan, rejection_told};
-ghost use Rattle.amqp_engine.specs.Channels.{frame_in, asked, named_in, channels_of, is_among, with_channel, without_channel, taken_in, HasRoom, first_free, seat_taken, seat_freed, first_of, TakesFrame, TakesSession};
+ghost use Rattle.amqp_engine.specs.Limits.{is_beyond};
+ghost use Rattle.amqp_engine.specs.Plans.{planned, known_plan, begin_plan, answer_plan, beyond_plan, rejection_told};
+ghost use Rattle.amqp_engine.specs.Channels.{frame_in, asked, named_in, channels_of, no_channels, is_among, with_channel, without_channel, taken_in, said_in, HasRoom, CanAnnounce, first_free, seat_taken, seat_freed, first_of, TakesFrame, TakesSession};
 
 use crate::connection::Settings;
 use crate::drops::discard;
 use crate::error::Error;
+use crate::limits::HandleLimits;
 use crate::phase::Rejection;
 use crate::seats::Seats;
+use amqp_transport::Frame;
 use amqp_transport::amqp_frames::{FrameBody, IncomingSession, SessionFrame, let_go};
 use indexmap::IndexSet;
 use std::alloc::{AllocError, Global};
@@ -41,6 +44,8 @@ pub struct Sessions {
     incoming: VecDeque<SessionFrame>,
     /// The sessions that the peer asks for, in order.
     begun: VecDeque<IncomingSession>,
+    /// The highest handles of the peer's links.
+    limits: HandleLimits,
 }
 
 // The sessions are let go by a call, so that no caller sees the frames that wait.
@@ -52,12 +57,14 @@ impl Drop for Sessions {
             remotes,
             incoming,
             begun,
+            limits,
         } = self;
         drop(seats);
         drop(answered);
         drop(remotes);
         drop(incoming);
         drop(begun);
+        drop(limits);
     }
 }
 
@@ -104,7 +111,7 @@ fn ask(frame: SessionFrame) -> Option<IncomingSession>
 impl Sessions {
     /// No sessions; takes no memory.
     pub(crate) fn new(alloc: Global) -> Self
-        ensures { channels_of result ≡ record { seats = []; answered = []; remotes = []; incoming = []; begun = [] } }
+        ensures { channels_of result ≡ no_channels }
     {
         Sessions {
             seats: Seats::new(alloc),
@@ -112,6 +119,7 @@ impl Sessions {
             remotes: IndexSet::new(alloc),
             incoming: VecDeque::new(alloc),
             begun: VecDeque::new(alloc),
+            limits: HandleLimits::new(alloc),
         }
     }
 
@@ -123,7 +131,8 @@ impl Sessions {
         self.answered.reserve(1)?;
         self.remotes.reserve(1)?;
         self.incoming.reserve(1)?;
-        self.begun.reserve(1)
+        self.begun.reserve(1)?;
+        self.limits.make_room()
     }
 
     /// What becomes of the frame.
@@ -134,7 +143,19 @@ impl Sessions {
             return Plan::Reject(Rejection::FramingError);
         }
         let is_known = self.remotes.contains(&frame.channel());
-        self.plan_for(is_known, settings.is_listener, frame.body())
+        match self.plan_for(is_known, settings.is_listener, frame.body()) {
+            Plan::Deliver => self.plan_delivery(frame.channel(), frame.body()),
+            plan => plan,
+        }
+    }
+
+    fn plan_delivery(&self, channel: u16, body: &FrameBody) -> Plan
+        ensures { result ≡ beyond_plan (is_beyond (channels_of self.now).limits channel body.now) Plan.Deliver }
+    {
+        if self.limits.is_beyond(channel, body) {
+            return Plan::Reject(Rejection::FramingError);
+        }
+        Plan::Deliver
     }
 
     fn plan_for(&self, is_known: bool, is_listener: bool, body: &FrameBody) -> Plan
@@ -197,24 +218,44 @@ impl Sessions {
         match plan {
             Plan::Deliver => self.incoming.push_back_reserved(frame),
             Plan::Answer => {
-                if let Some(channel) = named(frame.body()) {
+                let answered = named(frame.body());
+                if let Some(channel) = answered {
                     add(&mut self.answered, channel);
                 }
                 add(&mut self.remotes, frame.channel());
+                self.limits.begin(frame.channel(), answered);
                 self.incoming.push_back_reserved(frame);
             }
             Plan::End => {
                 remove(&mut self.remotes, frame.channel());
+                self.limits.end(frame.channel());
                 self.incoming.push_back_reserved(frame);
             }
             Plan::Ask => {
                 add(&mut self.remotes, frame.channel());
+                self.limits.begin(frame.channel(), None);
                 if let Some(session) = ask(frame) {
                     self.begun.push_back_reserved(session);
                 }
             }
             Plan::Reject(_) => discard(frame),
         }
+    }
+
+    /// Makes room for what one Begin of this end may add.
+    pub(crate) fn make_room_to_begin(&mut self) -> Result<(), AllocError>
+        ensures same { channels_of self.new ≡ channels_of self.old }
+        ensures room { OnOk result (CanAnnounce self.new) }
+    {
+        self.limits.make_room()
+    }
+
+    /// This end has queued that frame.
+    pub(crate) fn announce(&mut self, frame: &Frame)
+        requires { CanAnnounce self.old }
+        ensures { channels_of self.new ≡ said_in (channels_of self.old) frame.now }
+    {
+        self.limits.announce(frame.channel, &frame.body);
     }
 
     /// The lowest free channel.
@@ -239,6 +280,7 @@ impl Sessions {
     {
         remove(&mut self.answered, channel);
         self.seats.free(channel);
+        self.limits.free(channel);
     }
 
     /// Takes the first frame off.

@@ -2,6 +2,7 @@
 #![tactic(auto)]
 
 pub use amqp_data;
+pub use copy::{TryClone, copied_all};
 pub use defaulted::Defaulted;
 pub use error::BaseError;
 pub use field::Field;
@@ -9,9 +10,11 @@ pub use fields::Fields;
 pub use map::{AnnotationMap, FieldMap, KeyKind, TextMap};
 pub use writer::FieldWriter;
 
+pub mod copy;
 pub mod defaulted;
 pub mod error;
 pub mod field;
 pub mod fields;
+pub mod laws;
 pub mod map;
 pub mod writer;

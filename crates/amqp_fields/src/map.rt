@@ -2,13 +2,16 @@
 ghost use Rattle.std.specs.Prelude.{◌≡◌, IsTrue, Some, if◌then◌else◌, None};
 ghost use Rattle.std.specs.List.{list_all};
 ghost use Rattle.amqp_data.specs.View.{view, pairs_view};
+ghost use Rattle.amqp_data.specs.Same.{same_pairs};
+ghost use Rattle.amqp_data.specs.SameLaws.{pairs_partial_laws, pairs_laws};
 ghost use Rattle.amqp_fields.specs.Fields.{Gives, all_keys, key_test, map_with, of_map, is_symbol, is_string, is_annotation};
 ghost use Rattle.amqp_fields.specs.Maps.{map_again};
 
+use crate::copy::TryClone;
 use crate::error::BaseError;
 use crate::field::Field;
 use amqp_data::{Entry, OrderedMap, Value};
-use std::alloc::Global;
+use std::alloc::{AllocError, Global};
 use std::marker::Model;
 
 /// Which keys a map may have.
@@ -112,6 +115,28 @@ impl FieldMap {
     }
 }
 
+impl TryClone for FieldMap {
+    fn try_clone(&self, alloc: Global) -> Result<Self, AllocError> {
+        let map = self.map.try_clone(alloc)?;
+        Ok(FieldMap { map })
+    }
+}
+
+/// Two maps are equal where they have the same entries in the same order.
+impl PartialEq for FieldMap {
+    ghost eq = { same_pairs };
+
+    ghost laws = { pairs_partial_laws };
+
+    fn eq(&self, other: &Self) -> bool {
+        self.map == other.map
+    }
+}
+
+impl Eq for FieldMap {
+    ghost laws = { pairs_laws };
+}
+
 impl Field for FieldMap {
     ghost reads = { map_with is_symbol };
 
@@ -187,6 +212,28 @@ impl AnnotationMap {
     }
 }
 
+impl TryClone for AnnotationMap {
+    fn try_clone(&self, alloc: Global) -> Result<Self, AllocError> {
+        let map = self.map.try_clone(alloc)?;
+        Ok(AnnotationMap { map })
+    }
+}
+
+/// Two maps are equal where they have the same entries in the same order.
+impl PartialEq for AnnotationMap {
+    ghost eq = { same_pairs };
+
+    ghost laws = { pairs_partial_laws };
+
+    fn eq(&self, other: &Self) -> bool {
+        self.map == other.map
+    }
+}
+
+impl Eq for AnnotationMap {
+    ghost laws = { pairs_laws };
+}
+
 impl Field for AnnotationMap {
     ghost reads = { map_with is_annotation };
 
@@ -260,6 +307,28 @@ impl TextMap {
     {
         self.map
     }
+}
+
+impl TryClone for TextMap {
+    fn try_clone(&self, alloc: Global) -> Result<Self, AllocError> {
+        let map = self.map.try_clone(alloc)?;
+        Ok(TextMap { map })
+    }
+}
+
+/// Two maps are equal where they have the same entries in the same order.
+impl PartialEq for TextMap {
+    ghost eq = { same_pairs };
+
+    ghost laws = { pairs_partial_laws };
+
+    fn eq(&self, other: &Self) -> bool {
+        self.map == other.map
+    }
+}
+
+impl Eq for TextMap {
+    ghost laws = { pairs_laws };
 }
 
 impl Field for TextMap {

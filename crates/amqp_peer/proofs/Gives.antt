@@ -12,10 +12,11 @@ use Rattle.amqp_engine.specs.declared.sessions.Plan.{Plan}
 use Rattle.amqp_engine.specs.declared.sessions.Plan.TheVariants as plan
 use Rattle.amqp_engine.specs.Channels.{Channels, is_among, taken_in, with_asked, asked}
 use Rattle.amqp_engine.specs.Faults.{AllOwed}
+use Rattle.amqp_engine.specs.Limits.{is_beyond}
 use Rattle.amqp_engine.specs.Machine.{plan_of, phase_after}
 use Rattle.amqp_engine.specs.Outcomes.{IsHanded, IsAdmitted, channels_by}
 use Rattle.amqp_engine.specs.Phases.{is_open, hears}
-use Rattle.amqp_engine.specs.Plans.{within_plan, known_plan, begin_plan, answer_plan}
+use Rattle.amqp_engine.specs.Plans.{within_plan, beyond_plan, known_plan, begin_plan, answer_plan}
 use Rattle.amqp_engine.specs.State.{State}
 use Rattle.amqp_engine.proofs.Steps.{is_open_only}
 use Rattle.amqp_peer.specs.declared.held.Held.{Held}
@@ -101,6 +102,23 @@ within_asks : (u : Bool) (q : Plan) (a : Bool) → (IsTaken q → a ≡ is_ask q
 within_asks true q a f t = absurd t
 within_asks false q a f t = f t
 
+-- nor does a handle above the highest
+beyond_asks : (u : Bool) (q : Plan) (a : Bool) → (IsTaken q → a ≡ is_ask q) → IsTaken (beyond_plan u q) → a ≡ is_ask (beyond_plan u q)
+beyond_asks true plan.Deliver a f t = absurd t
+beyond_asks true plan.Answer a f t = f t
+beyond_asks true plan.End a f t = f t
+beyond_asks true plan.Ask a f t = f t
+beyond_asks true (plan.Reject why) a f t = absurd t
+beyond_asks false q a f t = f t
+
+beyond_asked : (u : Bool) (q : Plan) → beyond_plan u q ≡ plan.Ask → q ≡ plan.Ask
+beyond_asked true plan.Deliver e = absurd (cc e)
+beyond_asked true plan.Answer e = e
+beyond_asked true plan.End e = e
+beyond_asked true plan.Ask e = e
+beyond_asked true (plan.Reject why) e = e
+beyond_asked false q e = e
+
 within_asked : (u : Bool) (q : Plan) → within_plan u q ≡ plan.Ask → q ≡ plan.Ask
 within_asked true q e = absurd (cc e)
 within_asked false q e = e
@@ -109,7 +127,10 @@ plan_asks : {L : Type 0} (q : Plan) (s : State L) (x : Frame) → plan_of s x �
 plan_asks q s x e t =
     let k : Bool = is_among x.channel s.channels.remotes in
     let l : Bool = s.settings.is_listener in
-    within_asks (nat_lt s.settings.channel_max x.channel) (known_plan k l s.channels x.body) (asks x.body) (λ v. known_asks k l s.channels x.body v) (subst IsTaken (sym e) t) ∙ ap is_ask e
+    let u : Bool = is_beyond s.channels.limits x.channel x.body in
+    within_asks (nat_lt s.settings.channel_max x.channel) (beyond_plan u (known_plan k l s.channels x.body)) (asks x.body)
+    (λ v. beyond_asks u (known_plan k l s.channels x.body) (asks x.body) (λ w. known_asks k l s.channels x.body w) v) (subst IsTaken (sym e) t)
+    ∙ ap is_ask e
 
 -- a session is asked for by a Begin alone
 asked_by : (k l : Bool) (c : Channels) (channel : ℕ) (body : FrameBody) → known_plan k l c body ≡ plan.Ask → (w : IncomingSession) × (record { channel = channel; body = body } ≡ asking w) × (asked (record { channel = channel; body = body }) ≡ Some w)
@@ -141,7 +162,8 @@ gives_planned plan.End s s' x e o a k z = gives_incoming s s' x o (z ∙ a) (pla
 gives_planned plan.Ask s s' x e o a k z =
     let k' : Bool = is_among x.channel s.channels.remotes in
     let l : Bool = s.settings.is_listener in
-    let w = asked_by k' l s.channels x.channel x.body (within_asked (nat_lt s.settings.channel_max x.channel) (known_plan k' l s.channels x.body) e) in
+    let u : Bool = is_beyond s.channels.limits x.channel x.body in
+    let w = asked_by k' l s.channels x.channel x.body (beyond_asked u (known_plan k' l s.channels x.body) (within_asked (nat_lt s.settings.channel_max x.channel) (beyond_plan u (known_plan k' l s.channels x.body)) e)) in
     gives_asked s s' x w.0 o (z ∙ a) (plan_asks plan.Ask s x e tt) w.1 (ap (λ (c : Channels). c.incoming) k) (ap (λ (c : Channels). c.begun) k ∙ ap (with_asked s.channels.begun) w.2) (ap (λ (c : Channels). c.seats) k)
 gives_planned (plan.Reject why) s s' x e o a k z = gives_none s s' (x ∷ []) k (λ h. absurd (cc (h, ap hears z)))
 

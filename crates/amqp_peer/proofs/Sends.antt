@@ -14,10 +14,11 @@ use Rattle.amqp_engine.specs.declared.phase.Phase.{Phase}
 use Rattle.amqp_engine.specs.declared.phase.Phase.TheVariants as p
 use Rattle.amqp_engine.specs.Beats.{IsBeat, IsDueFor, beat_said}
 use Rattle.amqp_engine.specs.Calls.{IsTooLarge, Puts}
+use Rattle.amqp_engine.specs.Channels.{Channels, said_in, said_all}
 use Rattle.amqp_engine.specs.Closers.{Closer, This, closer_by, IsCloser, KeepsCloser}
 use Rattle.amqp_engine.specs.Faults.{AllOwed}
 use Rattle.amqp_engine.specs.Phases.{has_failed, is_open, hears}
-use Rattle.amqp_engine.specs.State.{State, queueing, failing}
+use Rattle.amqp_engine.specs.State.{State, sending, failing}
 use Rattle.amqp_engine.proofs.Closers.{keeps_failing}
 use Rattle.amqp_engine.proofs.Runs.{RanBy}
 use Rattle.amqp_engine.proofs.Said.{session_is_inner}
@@ -67,10 +68,10 @@ session_closes (b.End x) c t = refl
 
 -- ---- runs of the connection
 
-sends_by : {L : Type 0} (link : Ghosts L) (s s' : State L) (x : Frame) (result : Result Unit ConnectionFault) → s.phase ≡ p.Opened → of_session x.body ≡ true → Puts s x (queueing s x) tt result s' → RanBy link s [] [] (queued_of x result) s'
-sends_by link s s' x result o t q = puts_by link s x (queueing s x) tt result s' (inner_follows s x (queueing s x) o refl refl refl refl (session_is_inner x.body t)) q
+sends_by : {L : Type 0} (link : Ghosts L) (s s' : State L) (x : Frame) (result : Result Unit ConnectionFault) → s.phase ≡ p.Opened → of_session x.body ≡ true → Puts s x (sending s x) tt result s' → RanBy link s [] [] (queued_of x result) s'
+sends_by link s s' x result o t q = puts_by link s x (sending s x) tt result s' (inner_follows s x (sending s x) o refl refl refl refl (session_is_inner x.body t)) q
 
-queued_timed : {L : Type 0} (link : Ghosts L) (at : ℕ) (s s' : State L) (x : Frame) (by : RanBy link s [] [] (x ∷ []) s') → of_session x.body ≡ true → s' ≡ queueing s x → IsTimed at s by.run.given by.run.queued s'
+queued_timed : {L : Type 0} (link : Ghosts L) (at : ℕ) (s s' : State L) (x : Frame) (by : RanBy link s [] [] (x ∷ []) s') → of_session x.body ≡ true → s' ≡ sending s x → IsTimed at s by.run.given by.run.queued s'
 queued_timed {L} link at s s' x by t n =
     let k = session_undue x.body at s.beat t in
     let keeps : KeepsCloser s [] (x ∷ []) s' = λ c i.
@@ -104,7 +105,7 @@ sent_large call s h x k t l = inr (record { began = k.began; limit = s.wire.code
 not_unmade : {L : Type 0} (call : Call) (fault : Option ConnectionFault) (s : State L) (h : List Local) → IsRunning call s h → s.phase ≡ p.Opened → IsUnmadeAt fault s h → ⊥
 not_unmade call fault s h k o u = unheard_of fault s h u (ap has_failed o) (opened_heard call s h k o)
 
-sent_has : {L : Type 0} (link : Ghosts L) (old : Peering L) (s s' : State L) (x : Frame) (h : List Local) (by : RanBy link s [] [] (x ∷ []) s') → old.held ≡ Late s → s.phase ≡ p.Opened → of_session x.body ≡ true → s' ≡ queueing s x → Has old h → Has (record old { held = Late s' }) (moved by.run ++ h)
+sent_has : {L : Type 0} (link : Ghosts L) (old : Peering L) (s s' : State L) (x : Frame) (h : List Local) (by : RanBy link s [] [] (x ∷ []) s') → old.held ≡ Late s → s.phase ≡ p.Opened → of_session x.body ≡ true → s' ≡ sending s x → Has old h → Has (record old { held = Late s' }) (moved by.run ++ h)
 sent_has {L} link old s s' x h by e o t n k =
     let same : s'.phase ≡ s.phase = ap (λ (z : State L). z.phase) n in
     moves_in link (moment_in h) old.progress old s s' old.fault h by.run (queued_timed link (moment_in h) s s' x by t n) (queued_due (made_in h) x by.run.queued s.phase o t by.queued_is) refl e
@@ -126,7 +127,7 @@ events_silent es gs qs by = (passed by.run).link ∙ by.events_is
 -- ---- what becomes of it
 
 -- it was queued
-sent_queued : {L : Type 0} (link : Ghosts L) (old : Peering L) (s s' : State L) (x : Frame) (by : RanBy link s [] [] (x ∷ []) s') → old.held ≡ Late s → s.phase ≡ p.Opened → of_session x.body ≡ true → s' ≡ queueing s x → Sent link x old (record old { held = Late s' })
+sent_queued : {L : Type 0} (link : Ghosts L) (old : Peering L) (s s' : State L) (x : Frame) (by : RanBy link s [] [] (x ∷ []) s') → old.held ≡ Late s → s.phase ≡ p.Opened → of_session x.body ≡ true → s' ≡ sending s x → Sent link x old (record old { held = Late s' })
 sent_queued {L} link old s s' x by e o t n =
     let r = by.run in
     let same : s'.phase ≡ s.phase = ap (λ (z : State L). z.phase) n in
@@ -140,7 +141,7 @@ sent_queued {L} link old s s' x by e o t n =
       opens = λ f z. same ∙ o;
       session = t;
       listens = λ z. ap hears_in e ∙ ap hears o;
-      channels = ap (λ (z : State L). z.channels) n ∙ sym (ap channels_in e);
+      channels = ap (λ (z : State L). z.channels) n ∙ ap (λ (c : Channels). said_in c x) (sym (ap channels_in e)) ∙ ap (said_all (channels_in old.held)) (sym ((passed r).said ∙ by.queued_is));
       replies = refl;
       kind = refl;
       stays = λ z. subst (λ (y : Held L). IsSound y) (sym e) (ap has_failed o);
@@ -164,7 +165,7 @@ sent_fails {L} link old s s' x by e o t l n =
       opens = λ f z. absurd (cc (z, ap hears failed));
       session = t;
       listens = λ z. ap hears_in e ∙ ap hears o;
-      channels = ap (λ (z : State L). z.channels) n ∙ sym (ap channels_in e);
+      channels = ap (λ (z : State L). z.channels) n ∙ sym (ap channels_in e) ∙ ap (said_all (channels_in old.held)) (sym ((passed r).said ∙ by.queued_is));
       replies = refl;
       kind = refl;
       stays = λ z. subst (λ (y : Held L). IsSound y) (sym e) (ap has_failed o);
@@ -195,7 +196,7 @@ sent_kept {L} link old s x e o t =
 
 passed_queued : {L : Type 0} (link : Ghosts L) (old new : Peering L) (s : State L) (x : Frame) (u : Unit {0}) → old.held ≡ Late s → s.phase ≡ p.Opened → of_session x.body ≡ true → IsPassed s x old new → Sent link x old new
 passed_queued {L} link old new s x u e o t k =
-    subst (λ (z : Peering L). Sent link x old z) (sym k.is) (sent_queued link old s (queueing s x) x (sends_by link s (queueing s x) x (Ok u) o t (refl, k.fits, refl, k.framed)) e o t refl)
+    subst (λ (z : Peering L). Sent link x old z) (sym k.is) (sent_queued link old s (sending s x) x (sends_by link s (sending s x) x (Ok u) o t (refl, k.fits, refl, k.framed)) e o t refl)
 
 passed_fails : {L : Type 0} (link : Ghosts L) (old new : Peering L) (s : State L) (x : Frame) → old.held ≡ Late s → s.phase ≡ p.Opened → of_session x.body ≡ true → IsUnpassable s x old new → Sent link x old new
 passed_fails {L} link old new s x e o t k =

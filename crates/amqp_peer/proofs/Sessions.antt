@@ -12,7 +12,7 @@ use Rattle.amqp_engine.specs.Channels.{Channels, seat_taken, seat_freed}
 use Rattle.amqp_engine.specs.Closers.{KeepsCloser}
 use Rattle.amqp_engine.specs.Faults.{AllOwed}
 use Rattle.amqp_engine.specs.Phases.{is_open}
-use Rattle.amqp_engine.specs.State.{State, queueing}
+use Rattle.amqp_engine.specs.State.{State, sending}
 use Rattle.amqp_engine.proofs.Runs.{RanBy, none_by}
 use Rattle.amqp_engine.proofs.Steps.{alike_channels}
 use Rattle.amqp_peer.specs.declared.held.Held.{Held}
@@ -113,7 +113,7 @@ freed_has {L} link old channel held e =
 
 -- ---- a frame of a session is queued
 
-passes_if : {L : Type 0} (b : Bool) (s s' : State L) (x : Frame) (old new : Peering L) (u : Unit {0}) → SendsIf b s x (queueing s x) (Ok u) s' → new ≡ record old { held = Late s' } → PassesIf b s x old new
+passes_if : {L : Type 0} (b : Bool) (s s' : State L) (x : Frame) (old new : Peering L) (u : Unit {0}) → SendsIf b s x (sending s x) (Ok u) s' → new ≡ record old { held = Late s' } → PassesIf b s x old new
 passes_if {L} true s s' x old new u t e = inl (record { fits = t.1; framed = t.3; is = e ∙ ap (λ (z : State L). record old { held = Late z }) t.2 })
 passes_if false s s' x old new u t e = absurd (cc t.0)
 

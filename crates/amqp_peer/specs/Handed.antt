@@ -3,6 +3,7 @@ use Rattle.std.specs.Prelude.{◌≡◌, ◌⊎◌, ℕ, List, [], ◌∷◌, �
 use Rattle.amqp_wire.specs.declared.link.Link.{Ghosts}
 use Rattle.amqp_frames.specs.Session.{of_session}
 use Rattle.amqp_transport.specs.declared.frames.Frame.{Frame}
+use Rattle.amqp_engine.specs.Channels.{said_all}
 use Rattle.amqp_peer.specs.Hearing.{hears_in, IsOpenIn, channels_in, Handed}
 use Rattle.amqp_peer.specs.Held.{IsSound}
 use Rattle.amqp_peer.specs.History.{Local, given_in, sent_in, replied_in, link_in, IsInside}
@@ -23,7 +24,7 @@ HandsLast link at old new = (r : Rested link at 1 old new) × Handed old.held ne
 
 -- A frame of a session was given to the connection: nothing passed at the link, nothing was read, and nothing was answered. It is queued,
 -- behind all that was, where the connection is open, unless it was too large for the peer, and then the connection has failed; where it is
--- not open the frame is let go. Each history goes on by it.
+-- not open the frame is let go. Of the channels changes what a Begin that was queued says of the handles. Each history goes on by it.
 pub record Sent {L : Type 0} (link : Ghosts L) (x : Frame) (old new : Peering L) : Type 0 where
   pub events : List Local
   pub inside : IsInside events
@@ -34,7 +35,7 @@ pub record Sent {L : Type 0} (link : Ghosts L) (x : Frame) (old new : Peering L)
   pub opens : (hears_in old.held ≡ true → IsOpenIn old.held) → hears_in new.held ≡ true → IsOpenIn new.held
   pub session : of_session x.body ≡ true
   pub listens : hears_in new.held ≡ true → hears_in old.held ≡ true
-  pub channels : channels_in new.held ≡ channels_in old.held
+  pub channels : channels_in new.held ≡ said_all (channels_in old.held) (sent_in events)
   pub replies : new.replies ≡ old.replies
   pub kind : new.kind ≡ old.kind
   pub stays : IsSound new.held → IsSound old.held

@@ -11,7 +11,7 @@ use Rattle.amqp_engine.specs.declared.error.Error.TheVariants.{TransportError}
 use Rattle.amqp_engine.specs.Calls.{Takes, TakesAsked, Allocates, Sends, IsTooLarge, freed}
 use Rattle.amqp_engine.specs.Channels.{first_of}
 use Rattle.amqp_engine.specs.Phases.{is_open, state_of}
-use Rattle.amqp_engine.specs.State.{State, IsFramed, queueing, failing}
+use Rattle.amqp_engine.specs.State.{State, IsFramed, sending, failing}
 use Rattle.amqp_peer.specs.declared.held.Held.{Held}
 use Rattle.amqp_peer.specs.declared.held.Held.TheVariants.{Early, Late, Unopened, Moving}
 use Rattle.amqp_peer.specs.Peering.{Peering}
@@ -75,7 +75,7 @@ freed_in Moving channel = Moving
 -- a frame of a session was queued, or not
 abbrev pub SendsLate : {L : Type 0} → Frame → Held L → Result Unit ConnectionFault → Held L → Type 0
 SendsLate x (Early o p) result new = ⊥
-SendsLate {L} x (Late s) result new = (s' : State L) × (new ≡ Late s') × Sends s x (queueing s x) result s'
+SendsLate {L} x (Late s) result new = (s' : State L) × (new ≡ Late s') × Sends s x (sending s x) result s'
 SendsLate x (Unopened c) result new = ⊥
 SendsLate x Moving result new = ⊥
 
@@ -89,7 +89,7 @@ IsHeldAlone old new = new ≡ record old { held = new.held }
 pub record IsPassed {L : Type 0} (s : State L) (x : Frame) (old new : Peering L) : Type 0 where
   pub fits : IsTooLarge s.wire.codec.encoder x → ⊥
   pub framed : IsFramed x
-  pub is : new ≡ record old { held = Late (queueing s x) }
+  pub is : new ≡ record old { held = Late (sending s x) }
 
 -- it is too large for the peer: nothing is queued, the connection has stopped, and that is kept as the fault where none was before
 pub record IsUnpassable {L : Type 0} (s : State L) (x : Frame) (old new : Peering L) : Type 0 where

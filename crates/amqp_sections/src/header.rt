@@ -5,11 +5,11 @@ ghost use Rattle.amqp_fields.specs.Fields.{Gives, MakesItems, trimmed};
 ghost use Rattle.amqp_sections.specs.Header.{header_of, header_fields};
 
 use amqp_data::ValueList;
-use amqp_fields::{BaseError, FieldWriter, Fields};
-use std::alloc::Global;
+use amqp_fields::{BaseError, FieldWriter, Fields, TryClone};
+use std::alloc::{AllocError, Global};
 
 /// How a message is to be carried (part 3, section 3.2.1).
-#[derive(Debug, Drop)]
+#[derive(Debug, Drop, PartialEq, Eq)]
 pub struct Header {
     /// Whether the message must not be lost. The default is `false`.
     pub durable: bool,
@@ -21,6 +21,18 @@ pub struct Header {
     pub first_acquirer: bool,
     /// The failed deliveries so far. The default is `0`.
     pub delivery_count: u32,
+}
+
+impl TryClone for Header {
+    fn try_clone(&self, _alloc: Global) -> Result<Self, AllocError> {
+        Ok(Header {
+            durable: self.durable,
+            priority: self.priority,
+            ttl: self.ttl,
+            first_acquirer: self.first_acquirer,
+            delivery_count: self.delivery_count,
+        })
+    }
 }
 
 impl Header {

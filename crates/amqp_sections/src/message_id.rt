@@ -4,11 +4,11 @@ ghost use Rattle.amqp_sections.specs.declared.message_id.MessageId.TheVariants.{
 ghost use Rattle.amqp_sections.specs.MessageId.{message_id_in, of_message_id, message_id_again};
 
 use amqp_data::{Binary, Text, Uuid, Value};
-use amqp_fields::{BaseError, Field};
-use std::alloc::Global;
+use amqp_fields::{BaseError, Field, TryClone};
+use std::alloc::{AllocError, Global};
 
 /// The number of a message, in one of four forms.
-#[derive(Debug, Drop)]
+#[derive(Debug, Drop, PartialEq, Eq)]
 pub enum MessageId {
     /// A number.
     Ulong(u64),
@@ -18,6 +18,17 @@ pub enum MessageId {
     Binary(Binary),
     /// A text.
     String(Text),
+}
+
+impl TryClone for MessageId {
+    fn try_clone(&self, alloc: Global) -> Result<Self, AllocError> {
+        match self {
+            MessageId::Ulong(number) => Ok(MessageId::Ulong(*number)),
+            MessageId::Uuid(uuid) => Ok(MessageId::Uuid(*uuid)),
+            MessageId::Binary(bytes) => Ok(MessageId::Binary(bytes.try_clone(alloc)?)),
+            MessageId::String(text) => Ok(MessageId::String(text.try_clone(alloc)?)),
+        }
+    }
 }
 
 impl Field for MessageId {

@@ -6,11 +6,11 @@ ghost use Rattle.amqp_sections.specs.Properties.{address_of, content_of, propert
 
 use crate::message_id::MessageId;
 use amqp_data::{Binary, Symbol, Text, Timestamp, ValueList};
-use amqp_fields::{BaseError, FieldWriter, Fields};
-use std::alloc::Global;
+use amqp_fields::{BaseError, FieldWriter, Fields, TryClone};
+use std::alloc::{AllocError, Global};
 
 /// The properties of a message that nobody changes on its way (part 3, section 3.2.4).
-#[derive(Debug, Drop)]
+#[derive(Debug, Drop, PartialEq, Eq)]
 pub struct Properties {
     /// The number of the message.
     pub message_id: Option<MessageId>,
@@ -38,6 +38,36 @@ pub struct Properties {
     pub group_sequence: Option<u32>,
     /// The group of an answer.
     pub reply_to_group_id: Option<Text>,
+}
+
+impl TryClone for Properties {
+    fn try_clone(&self, alloc: Global) -> Result<Self, AllocError> {
+        let message_id = self.message_id.try_clone(alloc)?;
+        let user_id = self.user_id.try_clone(alloc)?;
+        let to = self.to.try_clone(alloc)?;
+        let subject = self.subject.try_clone(alloc)?;
+        let reply_to = self.reply_to.try_clone(alloc)?;
+        let correlation_id = self.correlation_id.try_clone(alloc)?;
+        let content_type = self.content_type.try_clone(alloc)?;
+        let content_encoding = self.content_encoding.try_clone(alloc)?;
+        let group_id = self.group_id.try_clone(alloc)?;
+        let reply_to_group_id = self.reply_to_group_id.try_clone(alloc)?;
+        Ok(Properties {
+            message_id,
+            user_id,
+            to,
+            subject,
+            reply_to,
+            correlation_id,
+            content_type,
+            content_encoding,
+            absolute_expiry_time: self.absolute_expiry_time,
+            creation_time: self.creation_time,
+            group_id,
+            group_sequence: self.group_sequence,
+            reply_to_group_id,
+        })
+    }
 }
 
 /// What the first six fields say of who sends it and to whom.

@@ -3,6 +3,7 @@ pub mod Outcome
 pub mod Transactional
 pub mod State
 pub mod TerminalState
+pub mod OutcomeState
 pub mod Source
 pub mod Target
 pub mod TargetArchetype

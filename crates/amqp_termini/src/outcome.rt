@@ -3,21 +3,23 @@ ghost use Rattle.std.specs.Prelude.{◌≡◌, IsErrAnd};
 ghost use Rattle.amqp_composites.specs.amqp_data.View.{view};
 ghost use Rattle.amqp_composites.specs.amqp_fields.Fields.{Gives, Makes};
 ghost use Rattle.amqp_termini.specs.declared.outcome.Outcome.TheVariants as v;
+ghost use Rattle.amqp_termini.specs.OutcomeState.{state_of_outcome, outcome_of_state};
 ghost use Rattle.amqp_termini.specs.Outcome.{outcome_in, of_outcome, IsOutcomeValid, outcome_again, IsNotAccepted, MatchAccepted};
 
+use crate::state::DeliveryState;
 use crate::states::{
     Accepted, Declared, Modified, Rejected, Released, accepted_list, declared_list, modified_list,
     read_accepted, read_declared, read_modified, read_rejected, read_released, rejected_list,
     released_list,
 };
 use amqp_composites::amqp_data::Value;
-use amqp_composites::amqp_fields::{BaseError, Field};
+use amqp_composites::amqp_fields::{BaseError, Field, TryClone};
 use amqp_composites::described::{list_value, read_list};
 use amqp_composites::kind::CompositeKind;
-use std::alloc::Global;
+use std::alloc::{AllocError, Global};
 
 /// What becomes of a delivery.
-#[derive(Debug, Drop)]
+#[derive(Debug, Drop, PartialEq, Eq)]
 pub enum Outcome {
     /// The delivery is taken.
     Accepted(Accepted),
@@ -40,6 +42,50 @@ impl Outcome {
         match self {
             Outcome::Accepted(body) => Ok(body),
             other => Err(op(other)),
+        }
+    }
+}
+
+impl TryClone for Outcome {
+    fn try_clone(&self, alloc: Global) -> Result<Self, AllocError> {
+        match self {
+            Outcome::Accepted(body) => Ok(Outcome::Accepted(body.try_clone(alloc)?)),
+            Outcome::Rejected(body) => Ok(Outcome::Rejected(body.try_clone(alloc)?)),
+            Outcome::Released(body) => Ok(Outcome::Released(body.try_clone(alloc)?)),
+            Outcome::Modified(body) => Ok(Outcome::Modified(body.try_clone(alloc)?)),
+            Outcome::Declared(body) => Ok(Outcome::Declared(body.try_clone(alloc)?)),
+        }
+    }
+}
+
+impl From<Outcome> for DeliveryState {
+    ghost from_gives = { λ x state. state ≡ state_of_outcome x };
+
+    fn from(outcome: Outcome) -> Self {
+        match outcome {
+            Outcome::Accepted(body) => DeliveryState::Accepted(body),
+            Outcome::Rejected(body) => DeliveryState::Rejected(body),
+            Outcome::Released(body) => DeliveryState::Released(body),
+            Outcome::Modified(body) => DeliveryState::Modified(body),
+            Outcome::Declared(body) => DeliveryState::Declared(body),
+        }
+    }
+}
+
+/// The error is the state itself, where it is no outcome.
+impl TryFrom<DeliveryState> for Outcome {
+    type Error = DeliveryState;
+
+    ghost try_from_gives = { λ state r. r ≡ outcome_of_state state };
+
+    fn try_from(state: DeliveryState) -> Result<Self, DeliveryState> {
+        match state {
+            DeliveryState::Accepted(body) => Ok(Outcome::Accepted(body)),
+            DeliveryState::Rejected(body) => Ok(Outcome::Rejected(body)),
+            DeliveryState::Released(body) => Ok(Outcome::Released(body)),
+            DeliveryState::Modified(body) => Ok(Outcome::Modified(body)),
+            DeliveryState::Declared(body) => Ok(Outcome::Declared(body)),
+            other => Err(other),
         }
     }
 }

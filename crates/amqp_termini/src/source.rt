@@ -7,13 +7,13 @@ ghost use Rattle.amqp_termini.specs.Source.{source_of, source_fields, source_in,
 use crate::outcome::Outcome;
 use crate::session_end::session_end;
 use amqp_composites::amqp_data::{Symbol, SymbolList, Text, Value, ValueList};
-use amqp_composites::amqp_fields::{BaseError, Field, FieldMap, FieldWriter, Fields};
+use amqp_composites::amqp_fields::{BaseError, Field, FieldMap, FieldWriter, Fields, TryClone};
 use amqp_composites::described::{list_value, read_list};
 use amqp_composites::kind::CompositeKind;
-use std::alloc::Global;
+use std::alloc::{AllocError, Global};
 
 /// Where the messages of a link come from (part 3, section 3.5.3).
-#[derive(Debug, Drop)]
+#[derive(Debug, Drop, PartialEq, Eq)]
 pub struct Source {
     /// The node.
     pub address: Option<Text>,
@@ -37,6 +37,32 @@ pub struct Source {
     pub outcomes: Option<SymbolList>,
     /// The extensions that are supported or desired.
     pub capabilities: Option<SymbolList>,
+}
+
+impl TryClone for Source {
+    fn try_clone(&self, alloc: Global) -> Result<Self, AllocError> {
+        let address = self.address.try_clone(alloc)?;
+        let expiry_policy = self.expiry_policy.try_clone(alloc)?;
+        let dynamic_node_properties = self.dynamic_node_properties.try_clone(alloc)?;
+        let distribution_mode = self.distribution_mode.try_clone(alloc)?;
+        let filter = self.filter.try_clone(alloc)?;
+        let default_outcome = self.default_outcome.try_clone(alloc)?;
+        let outcomes = self.outcomes.try_clone(alloc)?;
+        let capabilities = self.capabilities.try_clone(alloc)?;
+        Ok(Source {
+            address,
+            durable: self.durable,
+            expiry_policy,
+            timeout: self.timeout,
+            dynamic: self.dynamic,
+            dynamic_node_properties,
+            distribution_mode,
+            filter,
+            default_outcome,
+            outcomes,
+            capabilities,
+        })
+    }
 }
 
 #[tactic(auto, unfolding(crate::specs::Source::source_of))]

@@ -14,13 +14,13 @@ use crate::transactional::{
     TransactionalState, read_transactional_state, transactional_state_list,
 };
 use amqp_composites::amqp_data::Value;
-use amqp_composites::amqp_fields::{BaseError, Field};
+use amqp_composites::amqp_fields::{BaseError, Field, TryClone};
 use amqp_composites::described::{list_value, read_list};
 use amqp_composites::kind::CompositeKind;
-use std::alloc::Global;
+use std::alloc::{AllocError, Global};
 
 /// The state of a delivery.
-#[derive(Debug, Drop)]
+#[derive(Debug, Drop, PartialEq, Eq)]
 pub enum DeliveryState {
     /// A part of the delivery has come.
     Received(Received),
@@ -36,6 +36,22 @@ pub enum DeliveryState {
     Declared(Declared),
     /// The state of a delivery within a transaction.
     TransactionalState(TransactionalState),
+}
+
+impl TryClone for DeliveryState {
+    fn try_clone(&self, alloc: Global) -> Result<Self, AllocError> {
+        match self {
+            DeliveryState::Received(body) => Ok(DeliveryState::Received(body.try_clone(alloc)?)),
+            DeliveryState::Accepted(body) => Ok(DeliveryState::Accepted(body.try_clone(alloc)?)),
+            DeliveryState::Rejected(body) => Ok(DeliveryState::Rejected(body.try_clone(alloc)?)),
+            DeliveryState::Released(body) => Ok(DeliveryState::Released(body.try_clone(alloc)?)),
+            DeliveryState::Modified(body) => Ok(DeliveryState::Modified(body.try_clone(alloc)?)),
+            DeliveryState::Declared(body) => Ok(DeliveryState::Declared(body.try_clone(alloc)?)),
+            DeliveryState::TransactionalState(body) => Ok(DeliveryState::TransactionalState(
+                body.try_clone(alloc)?,
+            )),
+        }
+    }
 }
 
 impl Field for DeliveryState {

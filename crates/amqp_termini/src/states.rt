@@ -5,17 +5,26 @@ ghost use Rattle.amqp_composites.specs.amqp_fields.Fields.{Gives, MakesItems, tr
 ghost use Rattle.amqp_termini.specs.States.{received_of, received_fields, accepted_of, accepted_fields, rejected_of, rejected_fields, IsRejectedValid, released_of, released_fields, modified_of, modified_fields, IsModifiedValid, declared_of, declared_fields};
 
 use amqp_composites::amqp_data::{Binary, ValueList};
-use amqp_composites::amqp_fields::{BaseError, FieldMap, FieldWriter, Fields};
+use amqp_composites::amqp_fields::{BaseError, FieldMap, FieldWriter, Fields, TryClone};
 use amqp_composites::error::Error;
-use std::alloc::Global;
+use std::alloc::{AllocError, Global};
 
 /// A part of the delivery has come (part 3, section 3.4.1).
-#[derive(Debug, Drop)]
+#[derive(Debug, Drop, PartialEq, Eq)]
 pub struct Received {
     /// The section of the message up to which it has come.
     pub section_number: u32,
     /// The bytes of that section which have come.
     pub section_offset: u64,
+}
+
+impl TryClone for Received {
+    fn try_clone(&self, _alloc: Global) -> Result<Self, AllocError> {
+        Ok(Received {
+            section_number: self.section_number,
+            section_offset: self.section_offset,
+        })
+    }
 }
 
 #[tactic(auto, unfolding(crate::specs::States::received_of))]
@@ -41,8 +50,14 @@ pub(crate) fn received_list(alloc: Global, body: &Received) -> Result<ValueList,
 }
 
 /// The delivery is taken (part 3, section 3.4.2).
-#[derive(Debug, Drop)]
+#[derive(Debug, Drop, PartialEq, Eq)]
 pub struct Accepted {}
+
+impl TryClone for Accepted {
+    fn try_clone(&self, _alloc: Global) -> Result<Self, AllocError> {
+        Ok(Accepted {})
+    }
+}
 
 #[tactic(auto, unfolding(crate::specs::States::accepted_of))]
 pub(crate) fn read_accepted(_alloc: Global, fields: Fields) -> Result<Accepted, BaseError>
@@ -60,10 +75,17 @@ pub(crate) fn accepted_list(alloc: Global, _body: &Accepted) -> Result<ValueList
 }
 
 /// The delivery is invalid (part 3, section 3.4.3).
-#[derive(Debug, Drop)]
+#[derive(Debug, Drop, PartialEq, Eq)]
 pub struct Rejected {
     /// Why it is.
     pub error: Option<Error>,
+}
+
+impl TryClone for Rejected {
+    fn try_clone(&self, alloc: Global) -> Result<Self, AllocError> {
+        let error = self.error.try_clone(alloc)?;
+        Ok(Rejected { error })
+    }
 }
 
 #[tactic(auto, unfolding(crate::specs::States::rejected_of))]
@@ -85,8 +107,14 @@ pub(crate) fn rejected_list(alloc: Global, body: &Rejected) -> Result<ValueList,
 }
 
 /// The delivery is not taken, and may be sent anew (part 3, section 3.4.4).
-#[derive(Debug, Drop)]
+#[derive(Debug, Drop, PartialEq, Eq)]
 pub struct Released {}
+
+impl TryClone for Released {
+    fn try_clone(&self, _alloc: Global) -> Result<Self, AllocError> {
+        Ok(Released {})
+    }
+}
 
 #[tactic(auto, unfolding(crate::specs::States::released_of))]
 pub(crate) fn read_released(_alloc: Global, fields: Fields) -> Result<Released, BaseError>
@@ -104,7 +132,7 @@ pub(crate) fn released_list(alloc: Global, _body: &Released) -> Result<ValueList
 }
 
 /// The delivery is not taken, and is to be changed before it is sent anew (part 3, section 3.4.5).
-#[derive(Debug, Drop)]
+#[derive(Debug, Drop, PartialEq, Eq)]
 pub struct Modified {
     /// Whether it counts as a failed delivery.
     pub delivery_failed: Option<bool>,
@@ -112,6 +140,17 @@ pub struct Modified {
     pub undeliverable_here: Option<bool>,
     /// Annotations that are joined to those of the message.
     pub message_annotations: Option<FieldMap>,
+}
+
+impl TryClone for Modified {
+    fn try_clone(&self, alloc: Global) -> Result<Self, AllocError> {
+        let message_annotations = self.message_annotations.try_clone(alloc)?;
+        Ok(Modified {
+            delivery_failed: self.delivery_failed,
+            undeliverable_here: self.undeliverable_here,
+            message_annotations,
+        })
+    }
 }
 
 #[tactic(auto, unfolding(crate::specs::States::modified_of))]
@@ -141,10 +180,17 @@ pub(crate) fn modified_list(alloc: Global, body: &Modified) -> Result<ValueList,
 }
 
 /// A transaction is declared (part 4, section 4.5.5).
-#[derive(Debug, Drop)]
+#[derive(Debug, Drop, PartialEq, Eq)]
 pub struct Declared {
     /// The number of the transaction.
     pub txn_id: Binary,
+}
+
+impl TryClone for Declared {
+    fn try_clone(&self, alloc: Global) -> Result<Self, AllocError> {
+        let txn_id = self.txn_id.try_clone(alloc)?;
+        Ok(Declared { txn_id })
+    }
 }
 
 #[tactic(auto, unfolding(crate::specs::States::declared_of))]

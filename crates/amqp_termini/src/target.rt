@@ -6,11 +6,11 @@ ghost use Rattle.amqp_termini.specs.Target.{target_of, target_fields, IsTargetVa
 
 use crate::session_end::session_end;
 use amqp_composites::amqp_data::{Symbol, SymbolList, Text, ValueList};
-use amqp_composites::amqp_fields::{BaseError, FieldMap, FieldWriter, Fields};
-use std::alloc::Global;
+use amqp_composites::amqp_fields::{BaseError, FieldMap, FieldWriter, Fields, TryClone};
+use std::alloc::{AllocError, Global};
 
 /// Where the messages of a link go (part 3, section 3.5.4).
-#[derive(Debug, Drop)]
+#[derive(Debug, Drop, PartialEq, Eq)]
 pub struct Target {
     /// The node.
     pub address: Option<Text>,
@@ -26,6 +26,24 @@ pub struct Target {
     pub dynamic_node_properties: Option<FieldMap>,
     /// The extensions that are supported or desired.
     pub capabilities: Option<SymbolList>,
+}
+
+impl TryClone for Target {
+    fn try_clone(&self, alloc: Global) -> Result<Self, AllocError> {
+        let address = self.address.try_clone(alloc)?;
+        let expiry_policy = self.expiry_policy.try_clone(alloc)?;
+        let dynamic_node_properties = self.dynamic_node_properties.try_clone(alloc)?;
+        let capabilities = self.capabilities.try_clone(alloc)?;
+        Ok(Target {
+            address,
+            durable: self.durable,
+            expiry_policy,
+            timeout: self.timeout,
+            dynamic: self.dynamic,
+            dynamic_node_properties,
+            capabilities,
+        })
+    }
 }
 
 #[tactic(auto, unfolding(crate::specs::Target::target_of))]
@@ -68,10 +86,17 @@ pub(crate) fn target_list(alloc: Global, body: &Target) -> Result<ValueList, Bas
 }
 
 /// The coordinator of transactions, as a target (part 4, section 4.5.1).
-#[derive(Debug, Drop)]
+#[derive(Debug, Drop, PartialEq, Eq)]
 pub struct Coordinator {
     /// The capabilities of the coordinator.
     pub capabilities: Option<SymbolList>,
+}
+
+impl TryClone for Coordinator {
+    fn try_clone(&self, alloc: Global) -> Result<Self, AllocError> {
+        let capabilities = self.capabilities.try_clone(alloc)?;
+        Ok(Coordinator { capabilities })
+    }
 }
 
 #[tactic(auto, unfolding(crate::specs::Target::coordinator_of))]

@@ -9,18 +9,29 @@ use crate::target::{
     Coordinator, Target, coordinator_list, read_coordinator, read_target, target_list,
 };
 use amqp_composites::amqp_data::Value;
-use amqp_composites::amqp_fields::{BaseError, Field};
+use amqp_composites::amqp_fields::{BaseError, Field, TryClone};
 use amqp_composites::described::{list_value, read_list};
 use amqp_composites::kind::CompositeKind;
-use std::alloc::Global;
+use std::alloc::{AllocError, Global};
 
 /// What a link sends to.
-#[derive(Debug, Drop)]
+#[derive(Debug, Drop, PartialEq, Eq)]
 pub enum TargetArchetype {
     /// Where the messages of a link go.
     Target(Target),
     /// The coordinator of transactions, as a target.
     Coordinator(Coordinator),
+}
+
+impl TryClone for TargetArchetype {
+    fn try_clone(&self, alloc: Global) -> Result<Self, AllocError> {
+        match self {
+            TargetArchetype::Target(body) => Ok(TargetArchetype::Target(body.try_clone(alloc)?)),
+            TargetArchetype::Coordinator(body) => Ok(TargetArchetype::Coordinator(body.try_clone(
+                alloc,
+            )?)),
+        }
+    }
 }
 
 impl Field for TargetArchetype {

@@ -5,9 +5,11 @@ ghost use Rattle.amqp_termini.specs.TerminalState.{state_of_terminal, terminal_o
 
 use crate::state::DeliveryState;
 use crate::states::{Accepted, Modified, Rejected, Released};
+use amqp_composites::amqp_fields::TryClone;
+use std::alloc::{AllocError, Global};
 
 /// A state in which a delivery ends.
-#[derive(Debug, Drop)]
+#[derive(Debug, Drop, PartialEq, Eq)]
 pub enum TerminalDeliveryState {
     /// The delivery is taken.
     Accepted(Accepted),
@@ -17,6 +19,25 @@ pub enum TerminalDeliveryState {
     Released(Released),
     /// The delivery is not taken, and is to be changed before it is sent anew.
     Modified(Modified),
+}
+
+impl TryClone for TerminalDeliveryState {
+    fn try_clone(&self, alloc: Global) -> Result<Self, AllocError> {
+        match self {
+            TerminalDeliveryState::Accepted(body) => Ok(TerminalDeliveryState::Accepted(
+                body.try_clone(alloc)?,
+            )),
+            TerminalDeliveryState::Rejected(body) => Ok(TerminalDeliveryState::Rejected(
+                body.try_clone(alloc)?,
+            )),
+            TerminalDeliveryState::Released(body) => Ok(TerminalDeliveryState::Released(
+                body.try_clone(alloc)?,
+            )),
+            TerminalDeliveryState::Modified(body) => Ok(TerminalDeliveryState::Modified(
+                body.try_clone(alloc)?,
+            )),
+        }
+    }
 }
 
 impl From<Accepted> for TerminalDeliveryState {

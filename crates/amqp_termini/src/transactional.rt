@@ -6,16 +6,24 @@ ghost use Rattle.amqp_termini.specs.Transactional.{transactional_state_of, trans
 
 use crate::outcome::Outcome;
 use amqp_composites::amqp_data::{Binary, ValueList};
-use amqp_composites::amqp_fields::{BaseError, FieldWriter, Fields};
-use std::alloc::Global;
+use amqp_composites::amqp_fields::{BaseError, FieldWriter, Fields, TryClone};
+use std::alloc::{AllocError, Global};
 
 /// The state of a delivery within a transaction (part 4, section 4.5.8).
-#[derive(Debug, Drop)]
+#[derive(Debug, Drop, PartialEq, Eq)]
 pub struct TransactionalState {
     /// The number of the transaction.
     pub txn_id: Binary,
     /// What the delivery becomes if the transaction ends well.
     pub outcome: Option<Outcome>,
+}
+
+impl TryClone for TransactionalState {
+    fn try_clone(&self, alloc: Global) -> Result<Self, AllocError> {
+        let txn_id = self.txn_id.try_clone(alloc)?;
+        let outcome = self.outcome.try_clone(alloc)?;
+        Ok(TransactionalState { txn_id, outcome })
+    }
 }
 
 #[tactic(auto, unfolding(crate::specs::Transactional::transactional_state_of))]

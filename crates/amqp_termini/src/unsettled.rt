@@ -9,18 +9,29 @@ ghost use Rattle.amqp_termini.specs.Unsettled.{GivesDeliveries, MakesPairs, unse
 use crate::state::DeliveryState;
 use amqp_composites::amqp_data::map::MapError;
 use amqp_composites::amqp_data::{Binary, Entry, OrderedMap, Value};
-use amqp_composites::amqp_fields::{BaseError, Field};
-use std::alloc::Global;
+use amqp_composites::amqp_fields::{BaseError, Field, TryClone, copied_all};
+use std::alloc::{AllocError, Global};
 use std::marker::Model;
 use std::vec::IntoIter;
 
 /// A delivery that is not settled.
-#[derive(Debug, Drop)]
+#[derive(Debug, Drop, PartialEq, Eq)]
 pub struct UnsettledDelivery {
     /// Its delivery-tag.
     pub delivery_tag: Binary,
     /// Its state at the end that tells of it, if there is one.
     pub state: Option<DeliveryState>,
+}
+
+impl TryClone for UnsettledDelivery {
+    fn try_clone(&self, alloc: Global) -> Result<Self, AllocError> {
+        let delivery_tag = self.delivery_tag.try_clone(alloc)?;
+        let state = self.state.try_clone(alloc)?;
+        Ok(UnsettledDelivery {
+            delivery_tag,
+            state,
+        })
+    }
 }
 
 /// The deliveries that are not settled, each with a tag of its own, in the order in which they are written. A look-up scans them.
@@ -118,6 +129,35 @@ impl UnsettledMap {
         }
         None
     }
+}
+
+impl TryClone for UnsettledMap {
+    fn try_clone(&self, alloc: Global) -> Result<Self, AllocError> {
+        let deliveries = copied_all(alloc, &self.deliveries)?;
+        Ok(UnsettledMap { deliveries })
+    }
+}
+
+/// Two maps are equal where they have the same deliveries in the same order.
+impl PartialEq for UnsettledMap {
+    ghost use Rattle.std.specs.Cmp.{partial_equiv_from_equiv};
+    ghost use Rattle.std.specs.Cmp.Lexicographic.{pointwise, lists_equiv};
+    ghost use Rattle.amqp_termini.specs.contracts.unsettled.UnsettledDeliveryEq.TheImpl.Laws as delivery_laws;
+
+    ghost eq = { pointwise ⟦<UnsettledDelivery as PartialEq>⟧.eq };
+
+    ghost laws = { partial_equiv_from_equiv (lists_equiv delivery_laws.laws-law) };
+
+    fn eq(&self, other: &Self) -> bool {
+        self.deliveries == other.deliveries
+    }
+}
+
+impl Eq for UnsettledMap {
+    ghost use Rattle.std.specs.Cmp.Lexicographic.{lists_equiv};
+    ghost use Rattle.amqp_termini.specs.contracts.unsettled.UnsettledDeliveryEq.TheImpl.Laws as delivery_laws;
+
+    ghost laws = { lists_equiv delivery_laws.laws-law };
 }
 
 fn state_or_null(alloc: Global, value: Value) -> Result<Option<DeliveryState>, BaseError>

@@ -1,11 +1,11 @@
-//! Equality, order and hash of binaries, texts and symbols: those of their bytes.
+//! Equality, order and hash of binaries, texts and symbols: those of their bytes. Equality of lists of symbols.
 ghost use Rattle.std.specs.Str.{bytes_eq};
 ghost use Rattle.std.specs.Cmp.Lexicographic.{nat_list_eq_equiv, nat_list_cmp_total, texts_ties, texts_po};
 ghost use Rattle.std.proofs.Common.{refl};
-ghost use Rattle.amqp_text.specs.Bytes.{bytes_cmp, bytes_partial_cmp, hashed_bytes, bytes_partial_laws, hashed_alike};
+ghost use Rattle.amqp_text.specs.Bytes.{bytes_cmp, bytes_partial_cmp, hashed_bytes, bytes_partial_laws, hashed_alike, lists_eq, lists_laws, lists_partial_laws};
 
 use crate::binary::Binary;
-use crate::symbol::Symbol;
+use crate::symbol::{Symbol, SymbolList};
 use crate::text::Text;
 use std::cmp::Ordering;
 use std::hash::{Hash, Hasher};
@@ -155,4 +155,19 @@ impl Hash for Text {
         state.write_usize(self.len());
         state.write(self.as_bytes())
     }
+}
+
+/// Two lists are equal where they have the same symbols in the same order.
+impl PartialEq for SymbolList {
+    ghost eq = { lists_eq };
+
+    ghost laws = { lists_partial_laws };
+
+    fn eq(&self, other: &Self) -> bool {
+        self.as_slice() == other.as_slice()
+    }
+}
+
+impl Eq for SymbolList {
+    ghost laws = { lists_laws };
 }

@@ -7,5 +7,6 @@ pub use text::{Text, TextError};
 
 pub mod binary;
 mod compared;
+pub mod laws;
 pub mod symbol;
 pub mod text;

@@ -1,4 +1,4 @@
-use Rattle.amqp_ends.proofs.Serving.{serves_fresh, serves_looks, serves_calls, serves_polls, serves_on, serves_last, serves_hands, serves_asks, serves_sends, serves_seats, serves_frees, serves_tells, serves_links, carries}
+use Rattle.amqp_ends.proofs.Serving.{serves_fresh, serves_looks, serves_calls, serves_polls, serves_on, serves_last, serves_hands, serves_asks, serves_sends, serves_seats, serves_frees, serves_tells, serves_links, by_channel, carries}
 use Rattle.amqp_ends.proofs.serving_laws.ends_serve_their_sessions.Goals as goal
 
 pub returns-clause-begins : goal.returns-clause-begins
@@ -39,6 +39,9 @@ returns-clause-tells g c = serves_tells
 
 pub returns-clause-links : goal.returns-clause-links
 returns-clause-links g c = serves_links
+
+pub returns-clause-by_channel : goal.returns-clause-by_channel
+returns-clause-by_channel g c = by_channel
 
 pub returns-clause-carries : goal.returns-clause-carries
 returns-clause-carries g c = carries
