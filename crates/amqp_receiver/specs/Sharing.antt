@@ -1,5 +1,6 @@
 -- A receiver whose deliveries are settled apart from it (OASIS AMQP 1.0, part 2, sections 2.6.7 and 2.6.12).
-use Rattle.std.specs.Prelude.{ℕ, Bool, true, false, List, list_any, Option, Some, None}
+use Rattle.std.specs.Prelude.{ℕ, Bool, true, false, List, Option, Some, None}
+use Rattle.std.specs.List.{list_any}
 use Rattle.amqp_delivery.specs.Book.{empty_book}
 use Rattle.amqp_delivery.specs.declared.info.CreditMode.TheVariants.{Manual}
 use Rattle.amqp_delivery.specs.declared.orders.Order.{Order}

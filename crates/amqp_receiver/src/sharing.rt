@@ -1,6 +1,6 @@
 //! A receiver whose deliveries are settled apart from it: its book is taken, and it writes what is ordered (OASIS AMQP 1.0, part 2,
 //! sections 2.6.7 and 2.6.12).
-ghost use Rattle.std.specs.Prelude.{◌≡◌, list_any};
+ghost use Rattle.std.specs.Prelude.{◌≡◌};
 ghost use Rattle.amqp_receiver.specs.Receiver.{seen, Answers};
 ghost use Rattle.amqp_receiver.specs.Sharing.{is_flow, gives_credit, undrained_for, without_book, orders_written};
 
@@ -22,7 +22,7 @@ fn is_flow(order: &Order) -> bool
 fn gives_credit(orders: &[Order]) -> bool
     ensures { result ≡ gives_credit orders.now }
 {
-    orders.iter().any(is_flow)
+    orders.iter().any(|order| is_flow(order))
 }
 
 impl Receiver {
