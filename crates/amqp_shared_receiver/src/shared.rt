@@ -1,6 +1,6 @@
 //! The receiver, and how its book is taken.
 ghost use Rattle.std.specs.Prelude.{◌≡◌, false};
-ghost use Rattle.amqp_receiver.specs.Receiver as receiver;
+ghost use Rattle.amqp_receiver.specs.Receiver as of;
 ghost use Rattle.amqp_shared_receiver.specs.Shared.{seen, Takes};
 
 use amqp_delivery::BookState;
@@ -27,7 +27,7 @@ impl Drop for SharedReceiver {
 impl SharedReceiver {
     /// A receiver that has its book.
     pub fn new(receiver: Receiver) -> Self
-        ensures { seen result ≡ record { receiver = receiver.seen receiver; is_taken = false } }
+        ensures { seen result ≡ record { receiver = of.seen receiver; is_taken = false } }
     {
         SharedReceiver {
             receiver,
@@ -37,7 +37,7 @@ impl SharedReceiver {
 
     /// The receiver, lent: what it tells of itself.
     pub fn receiver(&self) -> &Receiver
-        ensures { receiver.seen result.now ≡ (seen self.now).receiver }
+        ensures { of.seen result.now ≡ (seen self.now).receiver }
     {
         &self.receiver
     }
