@@ -1,5 +1,5 @@
 -- A receiver whose book can be taken (OASIS AMQP 1.0, part 2, section 2.6).
-use Rattle.std.specs.Prelude.{◌≡◌, Bool, true, false, Option, Some, None, Result, Ok, Err}
+use Rattle.std.specs.Prelude.{◌≡◌, Bool, true, false, Option, Some, None, Result, Err}
 use Rattle.amqp_composites.specs.declared.error.Error.{Error as AmqpError}
 use Rattle.amqp_delivery.specs.declared.book.BookState.{BookState}
 use Rattle.amqp_link.specs.declared.endpoint.DetachPoll.{DetachPoll}
