@@ -5,3 +5,4 @@ pub mod AutoAccept
 pub mod Regulating
 pub mod Delivering
 pub mod Parting
+pub mod Sharing

@@ -85,7 +85,7 @@ impl Receiver {
     }
 
     /// Writes orders, in order.
-    fn say_orders(&mut self, orders: OrderList) -> Result<(), AllocError>
+    pub(crate) fn say_orders(&mut self, orders: OrderList) -> Result<(), AllocError>
         ensures { OnOk result (seen self.new ≡ record (seen self.old) { link = writing orders.list (seen self.old).link }) }
     {
         let mut left = orders.into_vec().into_iter();

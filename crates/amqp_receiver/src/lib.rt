@@ -19,4 +19,5 @@ pub mod receiver;
 pub mod receiving;
 mod regulating;
 pub mod settings;
+mod sharing;
 mod taking;
