@@ -37,8 +37,8 @@ use Rattle.call_waits.proofs.Links as links
 use Rattle.call_waits.proofs.Links.{Stays, Awaits, LetGo, keeps_on, parting_keeps}
 use Rattle.call_waits.proofs.Sides.{Holds, Keeps, unsettled_link, linked, parts_keeps, lets_go, reattached_holds}
 use Rattle.call_waits.proofs.Receivers as receivers
-use Rattle.call_waits.proofs.Pending.{attach_never, part_pending, asked_pending, stuck_known}
-use Rattle.call_waits.proofs.Keeping.{AttachFits, PartFits, UnsettledFits, OutcomeFits, Rests, rests, Base, base_on, base_then, base_rests, Loose, loose_on, loose_then, loose_attach, Calm, calm_on, calm_then, calm_either, calm_part, calm_waits, waits_by, idle_side, side_base, side_calm, none_some, nothing_waits, none_once, idle_waits}
+use Rattle.call_waits.proofs.Pending.{attach_never, part_pending, asked_pending}
+use Rattle.call_waits.proofs.Keeping.{AttachFits, PartFits, UnsettledFits, OutcomeFits, Rests, rests, Base, base_on, base_then, base_rests, Loose, loose_on, loose_then, loose_attach, Calm, calm_on, calm_then, calm_either, calm_part, calm_waits, waits_by, side_base, side_calm, none_some, nothing_waits, none_once, idle_waits}
 use Rattle.call_waits.proofs.Answering.{attach_calm, attach_now_calm, attach_now_fits, outcomes_base, outcomes_now_calm, outcomes_now_fits}
 
 -- ---- a call that leaves the link is answered

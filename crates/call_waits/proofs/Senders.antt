@@ -16,10 +16,10 @@ use Rattle.call_waits.proofs.Links.{Keeps, keeps_on, unexpected_keeps}
 -- its link keeps what it has, and a delivery of which nothing was told stays so
 pub record Keeping (s t : State) : Type 0 where
   pub link : Keeps s.link t.link
-  pub open : (place : ℕ) → slice_get s.settlements place ≡ Some Unsettled → slice_get t.settlements place ≡ Some Unsettled
+  pub unsettled : (place : ℕ) → slice_get s.settlements place ≡ Some Unsettled → slice_get t.settlements place ≡ Some Unsettled
 
 pub keeping_on : (s : State) → Keeping s s
-keeping_on s = record { link = keeps_on s.link; open = λ place h. h }
+keeping_on s = record { link = keeps_on s.link; unsettled = λ place h. h }
 
 -- ---- a message is sent
 
@@ -31,7 +31,7 @@ get_first (x ∷ xs) ys (suc i) z h = get_first xs ys i z h
 
 with_keeping : (b : Bool) (payload : List ℕ) (format : ℕ) (settled batchable : Bool) (s : State) → Keeping s (sending_with b payload format settled batchable s).state
 with_keeping true payload format settled batchable s =
-    record { link = record { stays = record { done = λ h. (h, refl, refl); remote = refl; gone = refl; stop = refl }; awaits = λ h. h }; open = λ place h. get_first s.settlements (first_settlement settled ∷ []) place Unsettled h }
+    record { link = record { stays = record { done = λ h. (h, refl, refl); remote = refl; gone = refl; stop = refl }; awaits = λ h. h }; unsettled = λ place h. get_first s.settlements (first_settlement settled ∷ []) place Unsettled h }
 with_keeping false payload format settled batchable s = keeping_on s
 
 unless_by : (d : Bool) (payload : List ℕ) (format : ℕ) (settled batchable : Bool) (s : State)
@@ -62,8 +62,8 @@ credited_by false t s p q = p
 flow_by : (p : LinkPhase) (x : Flow) (s : State) → Keeping s (flow_in p x s)
 flow_by phase.Attached x s =
     let t : State = record s { credit = credit_by x s } in
-    credited_by x.drain t s (record { link = keeps_on s.link; open = λ place h. h }) (record { link = record { stays = record { done = λ h. (h, refl, refl); remote = refl; gone = refl; stop = refl }; awaits = λ h. h }; open = λ place h. h })
-flow_by p x s = record { link = unexpected_keeps s.link; open = λ place h. h }
+    credited_by x.drain t s (record { link = keeps_on s.link; unsettled = λ place h. h }) (record { link = record { stays = record { done = λ h. (h, refl, refl); remote = refl; gone = refl; stop = refl }; awaits = λ h. h }; unsettled = λ place h. h })
+flow_by p x s = record { link = unexpected_keeps s.link; unsettled = λ place h. h }
 
 pub flow_keeping : (x : Flow) (s : State) → Keeping s (flow_read x s)
 flow_keeping x s = flow_by s.link.phase x s

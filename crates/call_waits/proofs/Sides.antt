@@ -72,7 +72,7 @@ lets_go (Receiver s) = abandoned_lets s.link
 -- ---- senders and receivers
 
 sent : (s t : SenderState) → senders.Keeping s t → Keeps (Sender s) (Sender t)
-sent s t k = record { holds = record { stays = k.link.stays; unsettled = k.open }; awaits = k.link.awaits }
+sent s t k = record { holds = record { stays = k.link.stays; unsettled = k.unsettled }; awaits = k.link.awaits }
 
 received : (s t : ReceiverState) → receivers.Stays s t → Keeps (Receiver s) (Receiver t)
 received s t k = record { holds = record { stays = k.keeps.stays; unsettled = λ place h. h }; awaits = k.keeps.awaits }
