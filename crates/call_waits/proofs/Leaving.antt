@@ -196,7 +196,7 @@ none_by : (o : Option ℕ) → ((name : ℕ) → o ≡ Some name → ⊥) → o 
 none_by None f = refl
 none_by (Some name) f = absurd (f name refl)
 
-concluded_idle : (l : Called) → is_stopped l.side ≡ true → IsIdle (hearing.concluded l)
+pub concluded_idle : (l : Called) → is_stopped l.side ≡ true → IsIdle (hearing.concluded l)
 concluded_idle l e =
     let k : Called = record l { is_concluded = true } in
     let m = attach_answered k in

@@ -1,5 +1,5 @@
 use Rattle.link_waits.proofs.Deeds.{none_waits, all_wait_on}
-use Rattle.link_waits.proofs.links.calls_wait.Goals as goal
+use Rattle.link_waits.proofs.links.all_calls_wait.Goals as goal
 
 pub returns-clause-none : goal.returns-clause-none
 returns-clause-none c = none_waits
