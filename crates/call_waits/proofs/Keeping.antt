@@ -113,9 +113,10 @@ part_kept kind.Detach s t k p = undone (link_of s) (link_of t) k p
 part_kept kind.Close s t k p = undone (link_of s) (link_of t) k p
 
 pub outcome_kept : (s t : Side) → Stays (link_of s) (link_of t) → OutcomeWaits s → OutcomeWaits t
-outcome_kept s t k p =
-    (k.gone ∙ p.0,
-    λ d c. let a = k.done d in a.2 ∙ p.1 a.0 (sym (same_closed (link_of s) (link_of t) a.1 k.remote) ∙ c))
+outcome_kept s t k p = (
+  k.gone ∙ p.0,
+  λ d c. let a = k.done d in a.2 ∙ p.1 a.0 (sym (same_closed (link_of s) (link_of t) a.1 k.remote) ∙ c),
+)
 
 pub calm_part : (l m : Called) → Calm l m → PartFits l → PartFits m
 calm_part l m c f = λ w e h. part_kept w.kind l.side m.side c.stays (f w (c.parting w e) (sym c.loose.base.stop ∙ h))
