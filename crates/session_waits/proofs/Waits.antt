@@ -1,6 +1,6 @@
 -- Whatever the sessions of an end do, a `begin` waits for the peer's Begin, and an `end` for its End.
 use Rattle.std.specs.Prelude.{◌≡◌, ◌⊎◌, ℕ, nat_eq, Bool, true, false, cond, List, [], ◌∷◌, Option, Some, None, refl}
-use Rattle.std.proofs.Common.{inl, inr, sym, ◌∙◌, ap, subst, eq-eqb}
+use Rattle.std.proofs.Common.{inl, inr, sym, ◌∙◌, ap, subst, arith}
 use Rattle.std.proofs.lemmas.Bool.{eqb-true}
 use Rattle.std.specs.Map.{lookup}
 use Rattle.amqp_calls.specs.declared.call.SessionNumbers.{SessionNumbers}
@@ -32,6 +32,7 @@ use Rattle.session_lives.specs.Deeds.{Deed, Begins, Awaits, Accepts, Refuses, En
 use Rattle.session_lives.specs.Logs.{AreKeyed}
 use Rattle.session_lives.proofs.Deeds.{one_session_lives}
 use Rattle.session_lives.proofs.Tables.{set_at, set_keyed, insert_here, insert_keyed, gone}
+use Rattle.session_waits.proofs.Held as held
 use Rattle.session_waits.specs.Laws.{NoneWaits, AllWaitOn}
 use Rattle.session_waits.specs.Waits.{BeginWaits, AreWaiting, IsOrderly, AreOrderly}
 
@@ -230,6 +231,7 @@ written_waits (Some e) n x s at w =
     record {
       begins = handed_begins n u (set_begins n e f s at (λ h sent. told_stays x e.session.state e.session sent sent) w.begins);
       ends = ends.handed_waits n u (each_set WaitsForEnd (nat_eq n) f s.endpoints (by (each_found WaitsForEnd (nat_eq n) e s.endpoints at w.ends)) w.ends);
+      held = held.written_tidy (Some e) n x s at w.held;
     }
   where
     by : WaitsForEnd e → WaitsForEnd (having_written x e)
@@ -244,6 +246,7 @@ refusing_waits (Some e) n s at w =
     record {
       begins = handed_begins n u (set_begins n e f s at (λ h sent. refused_stays e.session.state e.session sent sent) w.begins);
       ends = ends.handed_waits n u (each_set WaitsForEnd (nat_eq n) f s.endpoints (by (each_found WaitsForEnd (nat_eq n) e s.endpoints at w.ends)) w.ends);
+      held = held.refusing_tidy (Some e) n s at w.held;
     }
   where
     by : WaitsForEnd e → WaitsForEnd (having_refused e)
@@ -273,23 +276,23 @@ is_so : (t new : State) → AreWaiting t → new ≡ t → AreWaiting new
 is_so t new w e = subst AreWaiting (sym e) w
 
 deed_waits : (d : Deed) (old new : State) → IsDeed old d new → IsOrderly d old → AreKeyed old → AreWaiting old → AreWaiting new
-deed_waits (Begins name x channel limit) old new h may keyed w = is_so (begun name x channel limit old) new (record { begins = begun_begins name x channel limit old; ends = ends.begun_waits name x channel limit old w.ends }) h
-deed_waits (Awaits name x) old new h may keyed w = is_so (awaiting name x old) new (record { begins = awaiting_begins name x old; ends = ends.awaiting_waits name x old w.ends }) h
+deed_waits (Begins name x channel limit) old new h may keyed w = is_so (begun name x channel limit old) new (record { begins = begun_begins name x channel limit old; ends = ends.begun_waits name x channel limit old w.ends; held = held.all_begun_tidy name x channel limit old w.held }) h
+deed_waits (Awaits name x) old new h may keyed w = is_so (awaiting name x old) new (record { begins = awaiting_begins name x old; ends = ends.awaiting_waits name x old w.ends; held = w.held }) h
 deed_waits (Accepts name x channel limit incoming) old new h may keyed w =
-    is_so (accepted name x channel limit incoming old) new (record { begins = accepted_begins name x channel limit incoming old keyed; ends = ends.accepted_waits name x channel limit incoming old w.ends }) h
-deed_waits (Refuses name error) old new h may keyed w = is_so (refused name error old) new (record { begins = none_begins (refused name error old) refl; ends = ends.refused_waits name error old w.ends }) h
+    is_so (accepted name x channel limit incoming old) new (record { begins = accepted_begins name x channel limit incoming old keyed; ends = ends.accepted_waits name x channel limit incoming old w.ends; held = held.all_accepted_tidy name x channel limit incoming old w.held }) h
+deed_waits (Refuses name error) old new h may keyed w = is_so (refused name error old) new (record { begins = none_begins (refused name error old) refl; ends = ends.refused_waits name error old w.ends; held = w.held }) h
 deed_waits (Ends name n condition) old new h may keyed w =
-    is_so (ended name n condition old) new (record { begins = end_begins (endpoint_of n old) name n condition old refl keyed may w.begins; ends = ends.ended_waits name n condition old w.ends }) h
-deed_waits (HandsOut name) old new h may keyed w = is_so (handed_out name old) new (record { begins = handed_begins name old w.begins; ends = ends.handed_waits name old w.ends }) h
+    is_so (ended name n condition old) new (record { begins = end_begins (endpoint_of n old) name n condition old refl keyed may w.begins; ends = ends.ended_waits name n condition old w.ends; held = held.all_ended_tidy name n condition old w.held }) h
+deed_waits (HandsOut name) old new h may keyed w = is_so (handed_out name old) new (record { begins = handed_begins name old w.begins; ends = ends.handed_waits name old w.ends; held = held.handed_tidy name old w.held }) h
 deed_waits (Halts why) old new h may keyed w = absurd may
 deed_waits (Concludes why) old new h may keyed w = absurd may
-deed_waits (Hears x) old new h may keyed w = is_so (heard x old) new (record { begins = heard_begins x old keyed w.begins; ends = ends.heard_waits x old w.ends }) h
-deed_waits (Writes x) old new h may keyed w = is_so (record old { output = new.output }) new (record { begins = w.begins; ends = w.ends }) h.1
-deed_waits (Frees channel) old new h may keyed w = is_so (record old { freed = new.freed }) new (record { begins = w.begins; ends = w.ends }) h.1
-deed_waits (Gives n x) old new h may keyed w = is_so (record old { incoming = new.incoming }) new (record { begins = w.begins; ends = w.ends }) h.1
+deed_waits (Hears x) old new h may keyed w = is_so (heard x old) new (record { begins = heard_begins x old keyed w.begins; ends = ends.heard_waits x old w.ends; held = held.all_heard_tidy x old w.held }) h
+deed_waits (Writes x) old new h may keyed w = is_so (record old { output = new.output }) new (record { begins = w.begins; ends = w.ends; held = w.held }) h.1
+deed_waits (Frees channel) old new h may keyed w = is_so (record old { freed = new.freed }) new (record { begins = w.begins; ends = w.ends; held = w.held }) h.1
+deed_waits (Gives n x) old new h may keyed w = is_so (record old { incoming = new.incoming }) new (record { begins = w.begins; ends = w.ends; held = w.held }) h.1
 deed_waits (Takes n x) old new h may keyed w = is_so (written n x old) new (written_waits (endpoint_of n old) n x old refl w) h
 deed_waits (Lacks n) old new h may keyed w = is_so (refusing n old) new (refusing_waits (endpoint_of n old) n old refl w) h
-deed_waits Tells old new h may keyed w = is_so (record old { replies = [] }) new (record { begins = w.begins; ends = w.ends }) h
+deed_waits Tells old new h may keyed w = is_so (record old { replies = [] }) new (record { begins = w.begins; ends = w.ends; held = w.held }) h
 
 pub all_wait_on : AllWaitOn
 all_wait_on [] old new did may keyed w = subst AreWaiting (sym did) w
@@ -297,4 +300,4 @@ all_wait_on (d ∷ ds) old new did may keyed w =
     all_wait_on ds did.0 new did.1.1 may.1 (one_session_lives d old did.0 did.1.0 keyed).keyed (deed_waits d old did.0 did.1.0 may.0 keyed w)
 
 pub none_waits : NoneWaits
-none_waits = record { begins = λ name h. absurd cc; ends = ends.none_waits }
+none_waits = record { begins = λ name h. absurd cc; ends = ends.none_waits; held = λ k d within. absurd (omega (arith, within)) }

@@ -1,5 +1,6 @@
 -- The calls that wait at the sessions of an end (OASIS AMQP 1.0, part 2, sections 2.5.1 and 2.5.4).
-use Rattle.std.specs.Prelude.{◌≡◌, ℕ, List, [], ◌∷◌, Option, Some, None}
+use Rattle.std.specs.Prelude.{◌≡◌, ℕ, All, List, [], ◌∷◌, Option, Some, None}
+use Rattle.amqp_session.specs.Laws.{IsTidy}
 use Rattle.amqp_session.specs.declared.session.SessionState.TheVariants as state
 use Rattle.amqp_sessions.specs.declared.sessions.Waiting.TheVariants.{Begin}
 use Rattle.amqp_sessions.specs.Laws.{AllWaitForEnd}
@@ -12,10 +13,16 @@ abbrev pub BeginWaits : Option EndpointState → Type 0
 BeginWaits None = ⊥
 BeginWaits (Some e) = e.session.state ≡ state.BeginSent
 
--- a `begin` that waits does so for the peer's Begin, and an `end` for its End (section 2.5.4)
+-- of each session: a Transfer of a link waits only where the peer's window has no room (section 2.5.6)
+abbrev pub AllTidy : State → Type 0
+AllTidy s = All (λ e. IsTidy e.1.session) s.endpoints
+
+-- A `begin` that waits does so for the peer's Begin, an `end` for its End (section 2.5.4), and a Transfer for the
+-- window.
 pub record AreWaiting (s : State) : Type 0 where
   pub begins : (name : ℕ) → s.waiting ≡ Some (Begin name) → BeginWaits (endpoint_of name s)
   pub ends : AllWaitForEnd s
+  pub held : AllTidy s
 
 -- a call ends no session whose `begin` waits, and the connection has not stopped
 abbrev pub IsOrderly : Deed → State → Type 0
