@@ -1,0 +1,12 @@
+pub mod Links
+pub mod Senders
+pub mod Receivers
+pub mod Sides
+pub mod Tables
+pub mod Pending
+pub mod Keeping
+pub mod Answering
+pub mod Leaving
+pub mod Starts
+pub mod Moves
+pub mod Telling
