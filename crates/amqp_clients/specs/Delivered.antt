@@ -1,5 +1,5 @@
 -- What clients do that send messages and receive them.
-use Rattle.std.specs.Prelude.{◌≡◌, ◌+◌, ℕ, zero, suc, Bool, true, false, if◌then◌else◌, List, [], ◌∷◌, Option, Some, None, ⊤}
+use Rattle.std.specs.Prelude.{◌≡◌, ◌+◌, ℕ, zero, suc, Bool, true, false, if◌then◌else◌, List, [], ◌∷◌, ◌++◌, Option, Some, None, ⊤}
 use Rattle.list_laws.specs.Told.{Gains}
 use Rattle.amqp_wire.specs.declared.link.Link.{Ghosts}
 use Rattle.amqp_calls.specs.declared.reply.Reply.{Reply}
@@ -51,6 +51,12 @@ unfoldable pub Delivered : {L : Type 0} → Ghosts L → End L → List (List �
 Delivered link a [] refused b = RanOn link a b × (refused ≡ 0)
 Delivered {L} link a (text ∷ texts) refused b = (m : End L) × (one : ℕ) × (more : ℕ) × DeliveredOne link a m text one × Delivered link m texts more b × (refused ≡ one + more)
 
+-- the turns of these messages, the newest first
+abbrev pub delivered_turns : {L : Type 0} (link : Ghosts L) (old : End L) (texts : List (List ℕ)) (refused : ℕ) (new : End L) → Delivered link old texts refused new → List Turn
+unfolding Delivered
+delivered_turns link a [] refused b d = d.0.turns
+delivered_turns link a (text ∷ texts) refused b d = delivered_turns link d.0 texts d.2 b d.4 ++ d.3.settled.turns
+
 -- a call has asked a link for a message, and was answered by one, of which this is the line
 pub record GaveMessage {L : Type 0} (link : Ghosts L) (old new : End L) (receiver name : ℕ) (line : List ℕ) : Type 0 where
   pub turns : List Turn
@@ -90,6 +96,12 @@ pub record Got {L : Type 0} (link : Ghosts L) (old new : End L) (receiver : ℕ)
 unfoldable pub GotAll : {L : Type 0} → Ghosts L → End L → ℕ → Option (List ℕ) → ℕ → End L → Option (List ℕ) → Type 0
 GotAll link a receiver w zero b v = RanOn link a b × (v ≡ w)
 GotAll {L} link a receiver w (suc n) b v = (m : End L) × (u : Option (List ℕ)) × GotAll link a receiver w n m u × Got link m b receiver u v
+
+-- the turns of these messages, the newest first
+abbrev pub got_turns : {L : Type 0} (link : Ghosts L) (old : End L) (receiver : ℕ) (written : Option (List ℕ)) (count : ℕ) (new : End L) (written' : Option (List ℕ)) → GotAll link old receiver written count new written' → List Turn
+unfolding GotAll
+got_turns link a receiver w zero b v g = g.0.turns
+got_turns link a receiver w (suc n) b v g = g.3.accepted.turns ++ (g.3.gave.turns ++ got_turns link a receiver w n g.0 g.1 g.2)
 
 -- so many messages of some link were written and accepted, and then the connection was closed
 pub record Received {L : Type 0} (link : Ghosts L) (old new : End L) (count : ℕ) (written written' : Option (List ℕ)) : Type 0 where

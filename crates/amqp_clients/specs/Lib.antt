@@ -1,4 +1,5 @@
 pub mod Bodies
+pub mod Clients
 pub mod Delivered
 pub mod Peers
 pub mod Report

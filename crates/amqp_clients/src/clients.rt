@@ -1,6 +1,7 @@
 //! Clients of the peer that a URL names.
-ghost use Rattle.std.specs.Prelude.{◌≡◌, ◌≤◌, ◌↔◌};
+ghost use Rattle.std.specs.Prelude.{◌≡◌, ◌≤◌, ◌↔◌, IfOk};
 ghost use Rattle.amqp_serve.specs.Endings.{IsFailure};
+ghost use Rattle.amqp_clients.specs.Clients.{IsClient, HasSentTexts, HasReceived};
 ghost use Rattle.amqp_clients.specs.Delivered.{WritesLines};
 ghost use Rattle.amqp_clients.specs.Peers.{IsMisuse};
 
@@ -15,6 +16,7 @@ use amqp_serve::{Failure, ending_done, ending_of};
 use amqp_served::{Clocked, Ending};
 use amqp_text::Text;
 use amqp_waiting_words::Options;
+use amqp_wire::link::Link;
 use amqp_wire::source::Sink;
 use sasl_gate::SaslProfile;
 use std::io;
@@ -58,12 +60,15 @@ fn ending_of_address(error: &AddressError) -> Ending
     }
 }
 
+#[tactic(auto, using(crate::proofs::Owned::client_over))]
 fn dial<'a, R: Net + AllocGlobal + Clock + RandomSource + Eprint>(
     rt: &'a R,
     url: &str,
     options: &Options,
     is_shown: bool,
-) -> Result<Dialled<'a, R>, AddressError> {
+) -> Result<Dialled<'a, R>, AddressError>
+    ensures client { IfOk result (λ dialled. IsClient dialled.end) }
+{
     let alloc = rt.alloc();
     let url = read_url(alloc, url)?;
     let sasl = profile(rt, alloc, &url, options)?;
@@ -97,9 +102,20 @@ fn fail<R: AllocGlobal + Eprint>(
     ending_of(end, &failure)
 }
 
+/// How a run ends that has sent its messages, of which the peer has refused so many.
+fn ending_of_sent(end: &End<SocketLink>, refused: u64) -> Ending
+    ensures done { result ≡ Ending.Done → refused ≡ 0 }
+{
+    if refused == 0 {
+        return ending_done(end);
+    }
+    Ending::PeerFault
+}
+
 /// Sends these texts to an address at the peer of a URL, each as a message, and waits for the outcome of each (OASIS AMQP 1.0, part 2,
 /// section 2.6.14; part 3, section 3.4). `Done` where each was accepted, `PeerFault` where one was not; `Usage` where the URL, or the user
 /// that the mechanism asks for, is at fault; else how the socket, the peer or the time limit of the options (seconds) has ended it.
+#[tactic(auto, using(crate::proofs::Owned::has_sent))]
 pub fn send<R: Net + Wait + AllocGlobal + Clock + RandomSource + Eprint>(
     rt: &R,
     url: &str,
@@ -107,7 +123,9 @@ pub fn send<R: Net + Wait + AllocGlobal + Clock + RandomSource + Eprint>(
     messages: &[Text],
     options: &Options,
     is_shown: bool,
-) -> Ending {
+) -> Ending
+    ensures done { result ≡ Ending.Done → HasSentTexts ⟦<SocketLink as Link>⟧ messages.now }
+{
     let Dialled {
         mut end,
         mut moments,
@@ -123,8 +141,7 @@ pub fn send<R: Net + Wait + AllocGlobal + Clock + RandomSource + Eprint>(
     let sent = send_on(rt, &mut end, &mut moments, host, sasl, address, messages);
     moments.clear();
     match sent {
-        Ok(0) => ending_done(&end),
-        Ok(_) => Ending::PeerFault,
+        Ok(refused) => ending_of_sent(&end, refused),
         Err(failure) => fail(rt, &end, "send", failure),
     }
 }
@@ -132,7 +149,7 @@ pub fn send<R: Net + Wait + AllocGlobal + Clock + RandomSource + Eprint>(
 /// Receives so many messages from an address at the peer of a URL, writes a line of each, and accepts it (OASIS AMQP 1.0, part 2, section
 /// 2.6.12; part 3, section 3.4). `Done` where `count` lines were written; `Usage` where the URL, or the user that the mechanism asks for, is at
 /// fault; `WriteFault` where a line could not be written; else how the socket, the peer or the time limit of the options (seconds) has ended it.
-#[tactic(auto, using(crate::proofs::Deliveries::lines_of))]
+#[tactic(auto, using(crate::proofs::Deliveries::lines_of, crate::proofs::Owned::has_received))]
 pub fn receive<R: Net + Wait + AllocGlobal + Clock + RandomSource + Eprint, K: Sink>(
     rt: &R,
     url: &str,
@@ -143,6 +160,7 @@ pub fn receive<R: Net + Wait + AllocGlobal + Clock + RandomSource + Eprint, K: S
     sink: &mut K,
 ) -> Ending
     ensures done { result ≡ Ending.Done → WritesLines count (K.written sink.old) (K.written sink.new) }
+    ensures client { result ≡ Ending.Done → HasReceived ⟦<SocketLink as Link>⟧ count (K.written sink.old) (K.written sink.new) }
     ensures later { K.faults sink.old ≤ K.faults sink.new }
 {
     let Dialled {

@@ -13,8 +13,8 @@ returns-in-Connect-clause-passed g c = λ is.
 
 pub returns-in-Send-clause-passed : goal.returns-in-Send-clause-passed
 returns-in-Send-clause-passed g c = λ is.
-    passed_send _ (asked c.args.command.now) _ _ _ _ (g.K.Sink.written c.args.sink.now) (g.K.Sink.written c.args.sink.now) (ap asked c.in-Send.is)
+    passed_send _ (asked c.args.command.now) _ _ _ _ (g.K.Sink.written c.args.sink.now) (g.K.Sink.written c.args.sink.now) (ap asked c.in-Send.is) (c.send.ensures.done is)
 
 pub returns-in-Receive-clause-passed : goal.returns-in-Receive-clause-passed
 returns-in-Receive-clause-passed g c = λ is.
-    passed_receive _ (asked c.args.command.now) _ _ _ _ (g.K.Sink.written c.args.sink.now) (g.K.Sink.written c.receive.new.sink) (ap asked c.in-Receive.is)
+    passed_receive _ (asked c.args.command.now) _ _ _ _ (g.K.Sink.written c.args.sink.now) (g.K.Sink.written c.receive.new.sink) (ap asked c.in-Receive.is) (c.receive.ensures.client is)
