@@ -129,7 +129,7 @@ ruled_more some all link message outcome f x =
 module _ {L : Type 0} (link : Ghosts L) where
   -- ---- the answers of sessions
 
-  turn_answers : (m n : End L) (t : Turn) → IsTurn link m t n → AreOfSessions (seen m.sessions).replies → AreOfSessions (seen n.sessions).replies
+  pub turn_answers : (m n : End L) (t : Turn) → IsTurn link m t n → AreOfSessions (seen m.sessions).replies → AreOfSessions (seen n.sessions).replies
   turn_answers m n (calls name call) k o = sessions_answer link k.1 m.connection (seen m.sessions) (linked m.links) k.2.deeds n.connection (seen n.sessions) (linked n.links) k.2.did o
   turn_answers m n polls k o = sessions_answer link k.0 m.connection (seen m.sessions) (linked m.links) k.1.deeds n.connection (seen n.sessions) (linked n.links) k.1.did o
   turn_answers m n waits k o = subst (λ (e : End L). AreOfSessions (seen e.sessions).replies) (sym k.rest) o

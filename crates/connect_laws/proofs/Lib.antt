@@ -11,3 +11,5 @@ mod Sides
 mod Steps
 mod Told
 mod Walks
+mod Frames
+mod Standing

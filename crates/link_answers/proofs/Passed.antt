@@ -52,7 +52,7 @@ module _ (p : Passed) where
   begun_stands near far name (Call call) l k = record { coming = k.coming; passes = k.passes }
 
   -- deeds behind those of a life
-  first_passed : (es ds : List Deed) → HavePassed p (es ++ ds) → HavePassed p ds
+  pub first_passed : (es ds : List Deed) → HavePassed p (es ++ ds) → HavePassed p ds
   first_passed es ds h = record {
     frames = all_front (Contains p.frames) (added frames_of ds) (added frames_of es) (subst (All (Contains p.frames)) (added_then frames_of es ds) h.frames);
     gave = all_front (Contains p.gave) (gave_by ds) (gave_by es) (subst (All (Contains p.gave)) (gave_then es ds) h.gave);
@@ -60,7 +60,7 @@ module _ (p : Passed) where
     accepted = all_front (Contains p.accepted) (added accepted_of ds) (added accepted_of es) (subst (All (Contains p.accepted)) (added_then accepted_of es ds) h.accepted);
   }
 
-  then_passed : (es ds : List Deed) → HavePassed p (es ++ ds) → HavePassed p es
+  pub then_passed : (es ds : List Deed) → HavePassed p (es ++ ds) → HavePassed p es
   then_passed es ds h = record {
     frames = all_back (Contains p.frames) (added frames_of ds) (added frames_of es) (subst (All (Contains p.frames)) (added_then frames_of es ds) h.frames);
     gave = all_back (Contains p.gave) (gave_by ds) (gave_by es) (subst (All (Contains p.gave)) (gave_then es ds) h.gave);
@@ -68,7 +68,7 @@ module _ (p : Passed) where
     accepted = all_back (Contains p.accepted) (added accepted_of ds) (added accepted_of es) (subst (All (Contains p.accepted)) (added_then accepted_of es ds) h.accepted);
   }
 
-  both_pass : (es ds : List Deed) → Passes p es → Passes p ds → Passes p (es ++ ds)
+  pub both_pass : (es ds : List Deed) → Passes p es → Passes p ds → Passes p (es ++ ds)
   both_pass es ds x y = record {
     handed = subst (All (HandedStands p)) (sym (read_then es ds)) (All-append (HandedStands p) (read_by ds) (read_by es) y.handed x.handed);
     given = subst (All (GivenStands p)) (sym (given_then es ds)) (All-append (GivenStands p) (given_by ds) (given_by es) y.given x.given);

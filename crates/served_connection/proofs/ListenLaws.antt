@@ -19,3 +19,4 @@ pub mod Disposes
 pub mod Wholly
 pub mod Accepts
 pub mod Runs
+pub mod Asked

@@ -3,3 +3,4 @@ pub mod Carried
 pub mod Received
 pub mod Disposed
 pub mod Laws
+pub mod Accepts

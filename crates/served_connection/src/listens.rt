@@ -1,4 +1,5 @@
 //! Which frames the messages of an end came in.
+ghost use Rattle.served_connection.specs.ListenLaws.Accepts.{RunsAccept};
 ghost use Rattle.served_connection.specs.ListenLaws.Disposed.{TellsWhatIsDisposed, TellsWhatIsAccepted};
 ghost use Rattle.served_connection.specs.ListenLaws.Laws.{MessagesCame, ServedCame, ServedWhole};
 ghost use Rattle.served_connection.specs.ListenLaws.Received.{AnswersWhatIsWhole};
@@ -42,4 +43,10 @@ pub fn tells_what_is_disposed()
 /// accepted is to go out on the session of the link.
 pub fn tells_what_is_accepted()
     ensures { TellsWhatIsAccepted }
+{}
+
+/// Whatever is done with an end over a link: for each call that accepts a delivery its links were asked to accept it, once, and it is as
+/// `tells_what_is_accepted` says of such a call.
+pub fn runs_accept<L: Link>()
+    ensures { RunsAccept L.Link }
 {}
