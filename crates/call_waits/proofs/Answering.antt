@@ -1,48 +1,35 @@
 -- Calls that have waited at a link are answered.
 use Rattle.std.specs.Prelude.{◌≡◌, ◌⊎◌, ℕ, zero, suc, nat_eq, Bool, true, false, not, ◌&&◌, ◌||◌, is_some, slice_get, slice_set, List, [], ◌∷◌, Option, Some, None, Result, Ok, Err, if◌then◌else◌, refl}
 use Rattle.std.proofs.Common.{inl, inr, sym, ◌∙◌, ap, subst, eq-eqb}
-use Rattle.std.specs.List.{IsDistinct}
-use Rattle.std.specs.Map.{keys_of, lookup}
+use Rattle.std.specs.Map.{lookup}
 use Rattle.indexmap.specs.IndexMap.{swap_remove_entry}
 use Rattle.amqp_termini.specs.declared.state.DeliveryState.{DeliveryState}
 use Rattle.amqp_performatives.specs.declared.attach.Attach.{Attach}
-use Rattle.amqp_performatives.specs.declared.detach.Detach.{Detach}
 use Rattle.amqp_frames.specs.declared.shared.CoveredDelivery.{CoveredDelivery}
-use Rattle.amqp_frames.specs.declared.shared.SessionStopReason.{SessionStopReason}
 use Rattle.amqp_link.specs.declared.endpoint.AttachPoll.{AttachPoll}
 use Rattle.amqp_link.specs.declared.endpoint.AttachPoll.TheVariants.{Pending, Done}
-use Rattle.amqp_link.specs.declared.endpoint.LinkPhase.{LinkPhase}
-use Rattle.amqp_link.specs.declared.endpoint.LinkPhase.TheVariants as phase
 use Rattle.amqp_link.specs.declared.error.AttachError.{AttachError}
-use Rattle.amqp_link.specs.Link as link
-use Rattle.amqp_link.specs.Link.{Link, is_done, is_closed_by_one}
-use Rattle.amqp_link_words.specs.declared.link_reply.LinkReply.{LinkReply}
-use Rattle.amqp_link_words.specs.declared.link_reply.LinkReply.TheVariants as reply
-use Rattle.amqp_link_calls.specs.Answering.{attach_told, attach_polled, attach_answered_to, attach_answered, attach_answered_now, outcome_answered_to, outcome_answered, outcomes_answered, outcomes_answered_now}
-use Rattle.amqp_link_calls.specs.Called.{Called, with_side, answering, stopped, awaits_outcome}
+use Rattle.amqp_link.specs.Link.{is_done, is_closed_by_one}
+use Rattle.amqp_link_calls.specs.Answering.{attach_told, attach_polled, attach_answered_to, attach_answered, attach_answered_now, outcome_answered_to, outcomes_answered, outcomes_answered_now}
+use Rattle.amqp_link_calls.specs.Called.{Called, with_side, awaits_outcome}
 use Rattle.amqp_link_calls.specs.Calling.{outcome_given_up}
 use Rattle.amqp_link_calls.specs.Hearing as hearing
-use Rattle.amqp_link_calls.specs.Leaving.{closed_by, known, left_by, told_part, part_answered_to, part_answered, part_answered_now}
-use Rattle.amqp_link_calls.specs.Replies.{is_pending}
 use Rattle.amqp_link_calls.specs.Side as side
 use Rattle.amqp_link_calls.specs.Side.{Side, Sender, Receiver, link_of, with_link, is_stopped, is_closed_by_both, polled, polled_answer}
-use Rattle.amqp_link_calls.specs.declared.leave.PartKind.{PartKind}
-use Rattle.amqp_link_calls.specs.declared.leave.WaitingPart.{WaitingPart}
 use Rattle.amqp_receiver.specs.Receiving as receiving
 use Rattle.amqp_sender.specs.declared.sender.Settlement.{Settlement}
 use Rattle.amqp_sender.specs.declared.sender.Settlement.TheVariants.{Unsettled, Settled, NonTerminal, Illegal}
 use Rattle.amqp_sender.specs.Sender.{State as SenderState}
 use Rattle.amqp_sender.specs.Settling as settling
 use Rattle.amqp_sender.specs.Settling.{is_known, settlement_of, place_of, settled_at, settled, echoed, outcome_read, disposition_read}
-use Rattle.call_waits.specs.Waits.{AttachWaits, PartWaits, OutcomeWaits, IsUnsettled, IsIdle, Waits}
+use Rattle.call_waits.specs.Waits.{AttachWaits, OutcomeWaits, IsUnsettled, IsIdle, Waits}
 use Rattle.call_waits.proofs.Links as links
 use Rattle.call_waits.proofs.Links.{Stays, Awaits, keeps_on}
-use Rattle.call_waits.proofs.Sides.{Holds, Keeps, unsettled_link, polls_keeps, lets_go, attach_holds}
-use Rattle.call_waits.proofs.Senders.{Keeping}
+use Rattle.call_waits.proofs.Sides.{Keeps, polls_keeps, attach_holds}
 use Rattle.call_waits.proofs.Receivers as receivers
-use Rattle.call_waits.proofs.Tables.{IsKeyed, gone, left}
-use Rattle.call_waits.proofs.Pending.{attach_pending, attach_never, part_pending}
-use Rattle.call_waits.proofs.Keeping.{AttachFits, PartFits, UnsettledFits, OutcomeFits, Once, Rests, rests, Base, base_on, base_then, base_rests, Loose, loose_on, loose_then, loose_attach, Calm, calm_on, calm_then, calm_either, calm_part, calm_outcome, part_kept, outcome_kept, waits_by, side_base, side_calm, none_some, nothing_waits, none_once, idle_waits}
+use Rattle.call_waits.proofs.Tables.{gone, left}
+use Rattle.call_waits.proofs.Pending.{attach_pending}
+use Rattle.call_waits.proofs.Keeping.{AttachFits, PartFits, UnsettledFits, OutcomeFits, Once, rests, Base, base_then, base_rests, Calm, calm_on, calm_then, calm_either, calm_part, calm_outcome, part_kept, outcome_kept, waits_by, side_base, side_calm, none_some, none_once}
 
 -- ---- the attach
 

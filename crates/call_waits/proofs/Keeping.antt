@@ -1,9 +1,8 @@
 -- One link with its calls goes on, and these wait as before.
-use Rattle.std.specs.Prelude.{◌≡◌, ℕ, nat_eq, Bool, true, false, is_some, List, [], ◌∷◌, Option, Some, None, if◌then◌else◌, refl}
+use Rattle.std.specs.Prelude.{◌≡◌, ℕ, nat_eq, Bool, true, false, is_some, [], Option, Some, None, if◌then◌else◌, refl}
 use Rattle.std.proofs.Common.{sym, ◌∙◌, ap, subst}
 use Rattle.std.specs.List.{IsDistinct}
 use Rattle.std.specs.Map.{keys_of, lookup}
-use Rattle.amqp_link.specs.Link.{is_closed_by_one, is_done}
 use Rattle.amqp_link_calls.specs.Called.{Called, with_side}
 use Rattle.amqp_link_calls.specs.Side.{Side, link_of, is_stopped}
 use Rattle.amqp_link_calls.specs.declared.leave.PartKind.{PartKind}
@@ -12,7 +11,7 @@ use Rattle.amqp_link_calls.specs.declared.leave.WaitingPart.{WaitingPart}
 use Rattle.call_waits.specs.Waits.{AttachWaits, PartWaits, OutcomeWaits, IsUnsettled, IsIdle, Waits}
 use Rattle.call_waits.proofs.Links.{Stays, Awaits, stays_then, undone, same_closed}
 use Rattle.call_waits.proofs.Links as links
-use Rattle.call_waits.proofs.Sides.{Holds, Keeps}
+use Rattle.call_waits.proofs.Sides.{Keeps}
 use Rattle.call_waits.proofs.Tables.{none_keyed}
 
 -- ---- what waits, one by one

@@ -1,13 +1,11 @@
 -- A link is left, by its peer, by calls, or since its session is over.
-use Rattle.std.specs.Prelude.{◌≡◌, ℕ, nat_eq, Bool, true, false, not, ◌&&◌, ◌||◌, is_some, List, [], ◌∷◌, Option, Some, None, Result, Ok, Err, if◌then◌else◌, refl}
+use Rattle.std.specs.Prelude.{◌≡◌, ℕ, Bool, true, false, ◌&&◌, is_some, List, [], Option, Some, None, Result, Ok, Err, if◌then◌else◌, refl}
 use Rattle.std.proofs.Common.{sym, ◌∙◌, ap, subst}
-use Rattle.std.specs.Map.{lookup}
 use Rattle.amqp_composites.specs.declared.error.Error.{Error as AmqpError}
 use Rattle.amqp_performatives.specs.declared.detach.Detach.{Detach}
 use Rattle.amqp_frames.specs.declared.shared.SessionStopReason.{SessionStopReason}
 use Rattle.amqp_link.specs.declared.endpoint.AttachPoll.{AttachPoll}
 use Rattle.amqp_link.specs.declared.endpoint.AttachPoll.TheVariants.{Pending, Done}
-use Rattle.amqp_link.specs.declared.endpoint.DetachPoll.{DetachPoll}
 use Rattle.amqp_link.specs.declared.endpoint.LinkPhase.{LinkPhase}
 use Rattle.amqp_link.specs.declared.endpoint.LinkPhase.TheVariants as phase
 use Rattle.amqp_link.specs.declared.error.AttachError.{AttachError}
@@ -21,10 +19,10 @@ use Rattle.amqp_link_words.specs.declared.link_call.Parting.{Parting}
 use Rattle.amqp_link_words.specs.declared.link_call.Parting.TheVariants as words
 use Rattle.amqp_link_words.specs.declared.link_reply.LinkReply.{LinkReply}
 use Rattle.amqp_link_words.specs.declared.link_reply.LinkReply.TheVariants as reply
-use Rattle.amqp_link_calls.specs.Answering.{attach_told, attach_polled, attach_answered_to, attach_answered, attach_answered_now, outcome_now, outcomes_answered, outcomes_answered_now}
+use Rattle.amqp_link_calls.specs.Answering.{attach_told, attach_answered_to, attach_answered, attach_answered_now, outcomes_answered_now}
 use Rattle.amqp_link_calls.specs.Called.{Called, with_side, answering, stopped}
 use Rattle.amqp_link_calls.specs.Hearing as hearing
-use Rattle.amqp_link_calls.specs.Leaving.{closed_by, known, left_by, part_reply, told_part, part_answered_to, part_answered, part_answered_now, asked_part, detach_asked, closed_side, closed_unless, receiver_closed, credit_taken, closes, close_asked, closed_at_once, abandoned, leaves, awaits_part, part_given_up, awaits_both, is_parting, wants_handle, handle_given, handle_refused}
+use Rattle.amqp_link_calls.specs.Leaving.{closed_by, known, left_by, part_reply, told_part, part_answered_to, part_answered, part_answered_now, asked_part, detach_asked, closed_side, closed_unless, credit_taken, closes, close_asked, closed_at_once, abandoned, leaves, awaits_part, part_given_up, awaits_both, is_parting, wants_handle, handle_given, handle_refused}
 use Rattle.amqp_link_calls.specs.Replies.{is_pending, error_of}
 use Rattle.amqp_link_calls.specs.Side as side
 use Rattle.amqp_link_calls.specs.Side.{Side, Sender, Receiver, link_of, with_link, is_stopped, polled, polled_answer}
@@ -32,14 +30,14 @@ use Rattle.amqp_link_calls.specs.declared.leave.PartKind.{PartKind}
 use Rattle.amqp_link_calls.specs.declared.leave.PartKind.TheVariants as kind
 use Rattle.amqp_link_calls.specs.declared.leave.WaitingPart.{WaitingPart}
 use Rattle.amqp_receiver.specs.Receiver.{State as ReceiverState}
-use Rattle.call_waits.specs.Waits.{PartWaits, OutcomeWaits, IsUnsettled, IsIdle, Waits}
+use Rattle.call_waits.specs.Waits.{PartWaits, OutcomeWaits, IsIdle, Waits}
 use Rattle.call_waits.proofs.Links as links
 use Rattle.call_waits.proofs.Links.{Stays, Awaits, LetGo, keeps_on, parting_keeps}
-use Rattle.call_waits.proofs.Sides.{Holds, Keeps, unsettled_link, linked, parts_keeps, lets_go, reattached_holds}
+use Rattle.call_waits.proofs.Sides.{Keeps, unsettled_link, parts_keeps, lets_go, reattached_holds}
 use Rattle.call_waits.proofs.Receivers as receivers
 use Rattle.call_waits.proofs.Pending.{attach_never, part_pending, asked_pending}
-use Rattle.call_waits.proofs.Keeping.{AttachFits, PartFits, UnsettledFits, OutcomeFits, Rests, rests, Base, base_on, base_then, base_rests, Loose, loose_on, loose_then, loose_attach, Calm, calm_on, calm_then, calm_either, calm_part, calm_waits, waits_by, side_base, side_calm, none_some, nothing_waits, none_once, idle_waits}
-use Rattle.call_waits.proofs.Answering.{attach_calm, attach_now_calm, attach_now_fits, outcomes_base, outcomes_now_calm, outcomes_now_fits}
+use Rattle.call_waits.proofs.Keeping.{PartFits, Rests, rests, Base, base_then, base_rests, Loose, loose_on, loose_then, loose_attach, Calm, calm_on, calm_either, calm_part, calm_waits, waits_by, side_base, side_calm, none_some, nothing_waits, none_once, idle_waits}
+use Rattle.call_waits.proofs.Answering.{attach_calm, attach_now_calm, attach_now_fits, outcomes_now_calm, outcomes_now_fits}
 
 -- ---- a call that leaves the link is answered
 

@@ -1,24 +1,22 @@
 -- Whatever a link goes through, each call that waits does so for the peer.
-use Rattle.std.specs.Prelude.{◌≡◌, ℕ, nat_eq, Bool, true, false, List, [], ◌∷◌, Option, Some, None, if◌then◌else◌, refl}
-use Rattle.std.proofs.Common.{sym, ◌∙◌, ap, subst}
+use Rattle.std.specs.Prelude.{◌≡◌, ℕ, Bool, true, false, [], Some, refl}
+use Rattle.std.proofs.Common.{subst}
 use Rattle.std.proofs.lemmas.Bool.{eqb-true}
-use Rattle.std.specs.Map.{lookup}
-use Rattle.indexmap.specs.IndexMap.{insert_entry}
 use Rattle.amqp_link_calls.specs.Answering.{outcome_now, outcome_at, put_off}
 use Rattle.amqp_link_calls.specs.Called.{Called, with_side}
-use Rattle.amqp_link_calls.specs.Calling.{awaiting, outcome_asked, sends, having_received, disposes, sets_credit}
+use Rattle.amqp_link_calls.specs.Calling.{awaiting, sends, having_received, disposes, sets_credit}
 use Rattle.amqp_link_calls.specs.Disposers.{disposes_by}
 use Rattle.amqp_link_calls.specs.Regulating.{regulates}
 use Rattle.amqp_link_calls.specs.Replies.{is_pending}
 use Rattle.amqp_link_calls.specs.Side as side
 use Rattle.amqp_link_calls.specs.Side.{Side, link_of, with_link, is_stopped}
 use Rattle.call_waits.specs.Laws.{WaitsOn}
-use Rattle.call_waits.specs.Moves.{Move, HearsAttach, HearsFlow, HearsTransfer, HearsDetach, HearsDisposition, Stops, Concludes, Sends, AsksOutcome, Receives, Disposes, DisposesBy, SetsCredit, Regulates, Leaves, GivesUpOutcome, GivesUpPart, Writes, Answers, GetsHandle, GetsNoHandle, May, after}
+use Rattle.call_waits.specs.Moves.{HearsAttach, HearsFlow, HearsTransfer, HearsDetach, HearsDisposition, Stops, Concludes, Sends, AsksOutcome, Receives, Disposes, DisposesBy, SetsCredit, Regulates, Leaves, GivesUpOutcome, GivesUpPart, Writes, Answers, GetsHandle, GetsNoHandle, after}
 use Rattle.call_waits.specs.Waits.{IsUnsettled, OutcomeWaits, Waits}
 use Rattle.call_waits.proofs.Sides.{Keeps, flow_keeps, transfer_keeps, sends_keeps, receives_keeps, disposes_keeps, disposes_by_keeps, credit_keeps, regulates_keeps, written_keeps}
 use Rattle.call_waits.proofs.Tables.{insert_holds, insert_keyed}
 use Rattle.call_waits.proofs.Pending.{unsettled_pending, outcome_pending, outcome_never}
-use Rattle.call_waits.proofs.Keeping.{calm_waits, side_calm, Calm}
+use Rattle.call_waits.proofs.Keeping.{calm_waits, side_calm}
 use Rattle.call_waits.proofs.Answering.{hears_attach, disposition_calm, outcome_given_up_calm}
 use Rattle.call_waits.proofs.Leaving.{hears_detach, session_stops, session_concludes, leaves_waits, part_given_up_calm, handle_calm, refused_waits}
 

@@ -1,6 +1,6 @@
 -- What is told where nothing is known yet: only then is an answer `Pending`.
-use Rattle.std.specs.Prelude.{◌≡◌, ℕ, Bool, true, false, not, ◌&&◌, ◌||◌, is_some, slice_get, Option, Some, None, Result, Ok, Err, if◌then◌else◌, refl}
-use Rattle.std.proofs.Common.{sym, ◌∙◌, ap, subst}
+use Rattle.std.specs.Prelude.{◌≡◌, ℕ, Bool, true, false, ◌||◌, is_some, slice_get, Option, Some, None, Ok, Err, if◌then◌else◌, refl}
+use Rattle.std.proofs.Common.{sym, ◌∙◌, ap}
 use Rattle.amqp_composites.specs.declared.error.Error.{Error as AmqpError}
 use Rattle.amqp_performatives.specs.declared.detach.Detach.{Detach}
 use Rattle.amqp_frames.specs.declared.shared.SessionStopReason.{SessionStopReason}
@@ -14,9 +14,8 @@ use Rattle.amqp_link.specs.declared.error.DetachError.TheVariants as detach
 use Rattle.amqp_link.specs.declared.error.LinkStateError.TheVariants as state
 use Rattle.amqp_link.specs.Link as link
 use Rattle.amqp_link.specs.Link.{Link, tells, polled, poll_waiting, poll_failing, is_awaited, is_done, closes, closed_by, detached_by, stopped_by}
-use Rattle.amqp_link.specs.Parting.{late_poll, parting, done_poll, stuck_poll, met_poll, open_poll, opened_poll, close_poll, closing_poll, closed_poll, waiting_poll, parted_poll, news_of}
+use Rattle.amqp_link.specs.Parting.{late_poll, parting, done_poll, stuck_poll, met_poll, opened_poll, close_poll, closing_poll, closed_poll, waiting_poll, news_of}
 use Rattle.amqp_link_words.specs.declared.link_reply.LinkReply.{LinkReply}
-use Rattle.amqp_link_words.specs.declared.link_reply.LinkReply.TheVariants as reply
 use Rattle.amqp_link_calls.specs.Answering.{outcome_at, put_off}
 use Rattle.amqp_link_calls.specs.Leaving.{done_reply, part_reply, news_reply, known}
 use Rattle.amqp_link_calls.specs.Replies.{is_pending, outcome_reply}

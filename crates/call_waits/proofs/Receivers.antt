@@ -1,5 +1,5 @@
 -- What a receiver keeps as it goes on.
-use Rattle.std.specs.Prelude.{◌≡◌, ℕ, nat_lt, Bool, true, false, not, ◌&&◌, codes, unwrap_or, List, [], ◌∷◌, Option, Some, None, Result, Ok, Err, if◌then◌else◌, refl}
+use Rattle.std.specs.Prelude.{◌≡◌, ℕ, nat_lt, Bool, true, false, not, ◌&&◌, codes, unwrap_or, List, [], ◌∷◌, Option, Some, None, Result, if◌then◌else◌, refl}
 use Rattle.std.proofs.Common.{sym, subst}
 use Rattle.amqp_termini.specs.declared.state.DeliveryState.{DeliveryState}
 use Rattle.amqp_performatives.specs.declared.attach.Attach.{Attach}

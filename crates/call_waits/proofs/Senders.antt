@@ -1,5 +1,5 @@
 -- What a sender keeps as it goes on.
-use Rattle.std.specs.Prelude.{◌≡◌, ℕ, nat_lt, Bool, true, false, zero, suc, slice_get, length, List, [], ◌∷◌, ◌++◌, Option, Some, None, Result, Ok, Err, if◌then◌else◌, refl}
+use Rattle.std.specs.Prelude.{◌≡◌, ℕ, nat_lt, Bool, true, false, zero, suc, slice_get, length, List, [], ◌∷◌, ◌++◌, Option, Some, None, Err, if◌then◌else◌, refl}
 use Rattle.amqp_performatives.specs.declared.flow.Flow.{Flow}
 use Rattle.amqp_link.specs.declared.endpoint.LinkPhase.{LinkPhase}
 use Rattle.amqp_link.specs.declared.endpoint.LinkPhase.TheVariants as phase

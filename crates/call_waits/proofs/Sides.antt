@@ -1,5 +1,5 @@
 -- What one end of a link keeps as it goes on.
-use Rattle.std.specs.Prelude.{◌≡◌, ℕ, Bool, true, List, [], slice_get, Option, Some, None, refl}
+use Rattle.std.specs.Prelude.{ℕ, Bool, List, [], Option, refl}
 use Rattle.amqp_composites.specs.declared.error.Error.{Error as AmqpError}
 use Rattle.amqp_performatives.specs.declared.attach.Attach.{Attach}
 use Rattle.amqp_performatives.specs.declared.flow.Flow.{Flow}

@@ -1,14 +1,10 @@
 -- Where a link is made its calls wait for the peer, or none waits.
-use Rattle.std.specs.Prelude.{◌≡◌, ℕ, nat_eq, Bool, true, false, List, [], Option, Some, None, Result, Ok, Err, refl}
-use Rattle.std.proofs.Common.{sym, ◌∙◌}
-use Rattle.amqp_performatives.specs.declared.attach.Attach.{Attach}
-use Rattle.amqp_delivery.specs.declared.info.CreditMode.{CreditMode}
+use Rattle.std.specs.Prelude.{ℕ, None, Result, Ok, Err, refl}
 use Rattle.amqp_link.specs.declared.endpoint.AttachPoll.{AttachPoll}
 use Rattle.amqp_link.specs.declared.endpoint.AttachPoll.TheVariants.{Pending, Done}
 use Rattle.amqp_link.specs.declared.error.AttachError.{AttachError}
-use Rattle.amqp_link.specs.declared.settings.AcceptSettings.{AcceptSettings}
 use Rattle.amqp_link_calls.specs.Answering.{accept_told}
-use Rattle.amqp_link_calls.specs.Called.{Called, with_side, begun, answering_side}
+use Rattle.amqp_link_calls.specs.Called.{begun, answering_side}
 use Rattle.amqp_link_calls.specs.Side.{Side, polled, polled_answer}
 use Rattle.call_waits.specs.Laws.{SenderWaits, ReceiverWaits, AcceptedWaits}
 use Rattle.call_waits.specs.Waits.{Waits}

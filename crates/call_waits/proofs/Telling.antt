@@ -1,6 +1,6 @@
 -- Why a call is told to wait that has no other answer.
-use Rattle.std.specs.Prelude.{◌≡◌, ℕ, nat_lt, Bool, true, false, length, List, [], Option, Some, None, Result, Ok, Err, if◌then◌else◌, refl}
-use Rattle.std.proofs.Common.{sym, ◌∙◌, ap, arith}
+use Rattle.std.specs.Prelude.{◌≡◌, ℕ, nat_lt, Bool, true, false, length, List, Option, Some, None, Result, Err, if◌then◌else◌, refl}
+use Rattle.std.proofs.Common.{sym, ◌∙◌, arith}
 use Rattle.std.proofs.lemmas.Bool.Decides.{nat_tests}
 use Rattle.amqp_performatives.specs.declared.detach.Detach.{Detach}
 use Rattle.amqp_frames.specs.declared.shared.SessionStopReason.{SessionStopReason}
@@ -8,19 +8,17 @@ use Rattle.amqp_link.specs.declared.error.DetachError.TheVariants.{IllegalState}
 use Rattle.amqp_link.specs.declared.error.LinkStateError.{LinkStateError}
 use Rattle.amqp_link.specs.declared.error.LinkStateError.TheVariants as state
 use Rattle.amqp_link.specs.Link as link
-use Rattle.amqp_link_words.specs.declared.link_call.Sendable.{Sendable}
 use Rattle.amqp_link_words.specs.declared.link_reply.LinkReply.TheVariants as reply
-use Rattle.amqp_link_calls.specs.Calling.{sends}
 use Rattle.amqp_link_calls.specs.Replies.{sent_reply}
-use Rattle.amqp_link_calls.specs.Side.{Sender, Receiver}
+use Rattle.amqp_link_calls.specs.Side.{Sender}
 use Rattle.amqp_receiver.specs.declared.error.RecvError.{RecvError}
 use Rattle.amqp_receiver.specs.declared.error.RecvError.TheVariants as recv
 use Rattle.amqp_receiver.specs.Receiver.{State as ReceiverState}
-use Rattle.amqp_receiver.specs.Receiving.{Got, fails, next, receiving, ended, ended_as, received}
+use Rattle.amqp_receiver.specs.Receiving.{Got, fails, next, receiving, ended, ended_as}
 use Rattle.amqp_sender.specs.declared.error.SendError.{SendError}
 use Rattle.amqp_sender.specs.declared.error.SendError.TheVariants as error
 use Rattle.amqp_sender.specs.Sender.{State as SenderState}
-use Rattle.amqp_sender.specs.Sending.{Made, tells, is_too_large, is_settled, sending_with, sending_unless, sending}
+use Rattle.amqp_sender.specs.Sending.{Made, tells, is_too_large, is_settled, sending_with, sending_unless}
 use Rattle.call_waits.specs.Laws.{SendWaits, RecvWaits}
 use Rattle.call_waits.proofs.Receivers as receivers
 

@@ -1,7 +1,6 @@
 -- Links are made, by a call that attaches one or by one that accepts one, and calls wait as before.
 use Rattle.std.specs.Prelude.{◌≡◌, ℕ, nat_eq, Bool, true, false, cond, List, [], ◌∷◌, Option, Some, None, Result, Ok, Err, if◌then◌else◌, refl}
 use Rattle.std.proofs.Common.{sym, ◌∙◌, ap, subst, eq-eqb}
-use Rattle.std.specs.Map.{lookup}
 use Rattle.amqp_composites.specs.declared.modes.Role.{Role}
 use Rattle.amqp_composites.specs.declared.modes.Role.TheVariants as role
 use Rattle.amqp_frames.specs.declared.shared.SessionStopReason.{SessionStopReason}
@@ -14,7 +13,6 @@ use Rattle.amqp_sender.specs.declared.settings.SenderSettings.{SenderSettings}
 use Rattle.amqp_session.specs.declared.session.LinkInput.{LinkInput}
 use Rattle.amqp_link_calls.specs.Answering.{accept_answered, accept_reply}
 use Rattle.amqp_link_calls.specs.Called.{Called, sender_asked, receiver_asked, accepted}
-use Rattle.amqp_link_calls.specs.Replies.{accept_error}
 use Rattle.amqp_link_words.specs.declared.link_reply.LinkReply.TheVariants as reply
 use Rattle.amqp_session_links.specs.declared.place.Claim.{Claim}
 use Rattle.amqp_session_links.specs.declared.place.Claim.TheVariants.{Handle, Refused}
@@ -22,10 +20,10 @@ use Rattle.amqp_session_links.specs.declared.place.WaitingAccept.{WaitingAccept}
 use Rattle.amqp_session_links.specs.Claims.{claimed_by, claimed_up_to, claimed_unless}
 use Rattle.amqp_session_links.specs.Incoming.{attach_pushed, attach_taken, first_of, rest_of, early_taken, early_put}
 use Rattle.amqp_session_links.specs.State.{State as Place, awaiting_answer, awaiting_attach, accept_taken}
-use Rattle.amqp_links.specs.Accepting.{first_at, first_attach, early_at, heard_early, catching_up, attach_accepted, first_accepted_at, first_accepted, met_by, met_at, met, waiting, accepting_at, accepting, accept_of, meeting, waiting_met, attach_waits, awaiting, attach_for, attach_came}
+use Rattle.amqp_links.specs.Accepting.{first_at, first_attach, early_at, heard_early, catching_up, attach_accepted, first_accepted_at, first_accepted, met_by, met_at, met, waiting, accepting_at, accepting, accept_of, meeting, attach_waits, awaiting, attach_for, attach_came}
 use Rattle.amqp_links.specs.Attaching.{claimed_at, claimed, standing, begun, sender_by, attaching_sender, receiver_by, attaching_receiver, joining}
 use Rattle.amqp_links.specs.Hearing.{is_detach, hearing, other_role, answered_at}
-use Rattle.amqp_links.specs.State.{State, place_of, link_of, with_place, stepped, at_place, answering}
+use Rattle.amqp_links.specs.State.{State, place_of, with_place, stepped, at_place, answering}
 use Rattle.amqp_links.specs.Taking.{taken_up}
 use Rattle.call_waits.specs.Waits.{Waits}
 use Rattle.call_waits.proofs.Starts.{sender_waits, receiver_waits, accepted_waits}

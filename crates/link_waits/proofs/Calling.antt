@@ -1,13 +1,13 @@
 -- Calls on links are made, and calls wait as before.
-use Rattle.std.specs.Prelude.{◌≡◌, ℕ, Bool, true, false, not, ◌&&◌, is_none, IsTrue, List, [], ◌∷◌, Option, Some, None, refl}
-use Rattle.std.proofs.Common.{sym, ◌∙◌, ap, subst}
+use Rattle.std.specs.Prelude.{◌≡◌, ℕ, Bool, true, false, not, ◌&&◌, is_none, List, [], ◌∷◌, Option, Some, None, refl}
+use Rattle.std.proofs.Common.{sym, subst}
 use Rattle.amqp_composites.specs.declared.modes.Role.TheVariants as role
 use Rattle.amqp_delivery.specs.declared.info.DeliveryInfo.{DeliveryInfo}
 use Rattle.amqp_delivery.specs.declared.info.DisposerView.{DisposerView}
 use Rattle.amqp_sender.specs.declared.sender.DeliveryToken.{DeliveryToken}
 use Rattle.amqp_link_calls.specs.Answering as known
-use Rattle.amqp_link_calls.specs.Called.{Called, with_side, stays, is_dropped, takes_calls, may_abandon}
-use Rattle.amqp_link_calls.specs.Calling.{Receives, sends, token_of, having_sent, outcome_asked, having_received, disposes, sets_credit}
+use Rattle.amqp_link_calls.specs.Called.{Called, with_side, stays, is_dropped}
+use Rattle.amqp_link_calls.specs.Calling.{sends, token_of, having_sent, outcome_asked, having_received, disposes, sets_credit}
 use Rattle.amqp_link_calls.specs.Disposers.{view_of, disposes_by, settles, settles_at_once}
 use Rattle.amqp_link_calls.specs.Leaving.{leaves}
 use Rattle.amqp_link_calls.specs.Regulating.{regulates}

@@ -1,8 +1,7 @@
 -- Whatever the links of an end do, each call that waits does so for the peer.
-use Rattle.std.specs.Prelude.{◌≡◌, ℕ, nat_eq, Bool, true, false, not, ◌&&◌, IsTrue, List, [], ◌∷◌, Option, Some, None, refl}
-use Rattle.std.proofs.Common.{sym, ◌∙◌, ap, subst, eq-eqb}
+use Rattle.std.specs.Prelude.{◌≡◌, ℕ, nat_eq, Bool, true, false, not, ◌&&◌, IsTrue, [], ◌∷◌, Option, Some, None, refl}
+use Rattle.std.proofs.Common.{sym, subst, eq-eqb}
 use Rattle.std.specs.Map.{lookup}
-use Rattle.amqp_link_calls.specs.Called.{Called}
 use Rattle.amqp_link_words.specs.declared.link_call.LinkCall.{LinkCall}
 use Rattle.amqp_link_words.specs.declared.link_call.LinkCall.TheVariants as call
 use Rattle.amqp_session.specs.declared.session.LinkInput.{LinkInput}
@@ -14,14 +13,13 @@ use Rattle.amqp_links.specs.Calling.{Calls, waiting_as}
 use Rattle.amqp_links.specs.Hearing.{link_from_at, frame_at}
 use Rattle.amqp_links.specs.Inputs.{word_read, read_at, input_read}
 use Rattle.amqp_links.specs.May.{MayCall, may_leave_at}
-use Rattle.amqp_links.specs.Parts.{Told}
 use Rattle.amqp_links.specs.State.{State, place_of, link_of, entered_at, entered}
 use Rattle.amqp_links.specs.Stops.{links_at}
 use Rattle.amqp_links.specs.Timing.{at_moment, is_sending, looked, timed_sending}
-use Rattle.link_lives.specs.Deeds.{Deed, Asks, Hears, Hands, Knows, Looks, Tells, IsDeed, Did}
+use Rattle.link_lives.specs.Deeds.{Deed, Asks, Hears, Hands, Knows, Looks, Tells, IsDeed}
 use Rattle.link_lives.proofs.Tables.{insert_here}
 use Rattle.link_waits.specs.Laws.{NoneWaits, AllWaitOn}
-use Rattle.link_waits.specs.Waits.{AreWaiting, AreStopped, IsOrderly, AreOrderly}
+use Rattle.link_waits.specs.Waits.{AreWaiting, AreStopped, IsOrderly}
 use Rattle.link_waits.proofs.Steps.{Goes, goes_still, goes_then, goes_same, entered_goes}
 use Rattle.link_waits.proofs.Timing.{timed_sending_goes, looked_goes}
 use Rattle.link_waits.proofs.Hearing.{hearing_goes, kept_goes, left_goes, disposition_goes, session_stopped_goes, session_over_goes}

@@ -7,7 +7,6 @@ use Rattle.amqp_composites.specs.declared.modes.Role.TheVariants as role
 use Rattle.amqp_termini.specs.declared.state.DeliveryState.{DeliveryState}
 use Rattle.amqp_performatives.specs.declared.attach.Attach.{Attach}
 use Rattle.amqp_performatives.specs.declared.disposition.Disposition.{Disposition}
-use Rattle.amqp_performatives.specs.declared.transfer.Transfer.{Transfer}
 use Rattle.amqp_frames.specs.declared.shared.CoveredDelivery.{CoveredDelivery}
 use Rattle.amqp_frames.specs.declared.shared.SessionStopReason.{SessionStopReason}
 use Rattle.amqp_link_calls.specs.Answering.{answers_taken}
@@ -26,21 +25,21 @@ use Rattle.amqp_session_links.specs.Incoming.{kept_at, kept}
 use Rattle.amqp_session_links.specs.Numbers as numbers
 use Rattle.amqp_session_links.specs.State.{State as Place, stopped, attach_ended}
 use Rattle.amqp_links.specs.Attaching.{joining}
-use Rattle.amqp_links.specs.Hearing.{is_detach, parting, hearing_at, hearing, attach_heard_at, attach_heard, answered_at, answer_read_at, answer_read}
-use Rattle.amqp_links.specs.Numbering.{begun_by, begun_as, receives_at, transfer_numbered, numbering}
+use Rattle.amqp_links.specs.Hearing.{is_detach, parting, hearing_at, hearing, attach_heard_at, attach_heard, answer_read_at}
+use Rattle.amqp_links.specs.Numbering.{begun_by, begun_as, receives_at, numbering}
 use Rattle.amqp_links.specs.Parts.{heard, is_heard, disposition_heard, name_of}
 use Rattle.amqp_links.specs.Settling.{left, forgetting, link_settled, forgets, settled_at, delivery_at, covered_by, settled_by, settled, all_settled, covered_at, disposition_read}
 use Rattle.amqp_links.specs.State.{State, place_of, link_of, with_link, stepped, at_place, answering_all}
 use Rattle.amqp_links.specs.Stops.{links_at, stopped_at, all_stopped, session_stopped, concluded_at, all_concluded, session_over}
 use Rattle.amqp_links.specs.Taking.{told_on, attach_told_on, attach_told, spent_by_at, taken_up}
 use Rattle.amqp_links.specs.Timing.{tried_again}
-use Rattle.call_waits.specs.Moves.{HearsAttach, HearsFlow, HearsTransfer, HearsDetach, HearsDisposition, Stops, Answers}
+use Rattle.call_waits.specs.Moves.{HearsAttach, HearsFlow, HearsTransfer, HearsDetach, HearsDisposition, Stops}
 use Rattle.call_waits.specs.Waits.{IsIdle, Waits}
 use Rattle.call_waits.proofs.Leaving.{concluded_idle}
 use Rattle.call_waits.proofs.Keeping.{idle_waits}
 use Rattle.call_waits.proofs.Moves.{waits_on}
 use Rattle.link_lives.proofs.Tables.{set_holds}
-use Rattle.link_waits.specs.Waits.{AcceptWaits, AreWaiting, AreStopped}
+use Rattle.link_waits.specs.Waits.{AcceptWaits, AreStopped}
 use Rattle.link_waits.proofs.Steps.{Goes, goes_still, goes_then, goes_either, goes_same, link_goes, place_goes}
 use Rattle.link_waits.proofs.Taking.{taken_goes, attach_told_goes}
 use Rattle.link_waits.proofs.Timing.{tried_again_goes}

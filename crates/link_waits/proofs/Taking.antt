@@ -1,5 +1,5 @@
 -- What has become of a link is taken up, and calls wait as before.
-use Rattle.std.specs.Prelude.{◌≡◌, ℕ, nat_eq, Bool, true, false, List, [], ◌∷◌, Option, Some, None, Result, Ok, Err, if◌then◌else◌, refl}
+use Rattle.std.specs.Prelude.{◌≡◌, ℕ, nat_eq, Bool, true, false, List, Option, Some, None, Result, Ok, Err, if◌then◌else◌, refl}
 use Rattle.std.proofs.Common.{sym, ◌∙◌, ap, subst}
 use Rattle.std.specs.Map.{lookup}
 use Rattle.amqp_composites.specs.declared.modes.Role.{Role}
@@ -16,7 +16,7 @@ use Rattle.amqp_session_links.specs.declared.place.Claim.TheVariants.{Handle, Re
 use Rattle.amqp_session_links.specs.Claims.{is_at, released, spending, reclaimed_by, reclaimed_up_to}
 use Rattle.amqp_session_links.specs.State.{State as Place, attach_ended}
 use Rattle.amqp_links.specs.Parts.{emptied, handle_of, name_of, is_over}
-use Rattle.amqp_links.specs.State.{State, place_of, link_of, with_place, at_place, answering}
+use Rattle.amqp_links.specs.State.{State, place_of, link_of, at_place, answering}
 use Rattle.amqp_links.specs.Taking.{written_at, written, told_at, told, told_on, spent_by_at, spent_by, attach_told_on, attach_told, freed_at, freed, reclaimed_at, reclaimed, given_at, refused_at, placed_by, placed, reattached_at, reattached, taken_up, finished}
 use Rattle.call_waits.specs.Moves.{Writes, Answers, GetsHandle, GetsNoHandle}
 use Rattle.call_waits.proofs.Moves.{waits_on}

@@ -1,5 +1,5 @@
 -- Calls with a time go on, and calls wait as before.
-use Rattle.std.specs.Prelude.{◌≡◌, ℕ, Bool, true, false, List, [], ◌∷◌, Option, Some, None, if◌then◌else◌, refl}
+use Rattle.std.specs.Prelude.{◌≡◌, ℕ, Bool, true, false, List, [], ◌∷◌, Option, Some, None, refl}
 use Rattle.amqp_sender.specs.declared.sender.DeliveryToken.{DeliveryToken}
 use Rattle.amqp_link_calls.specs.Answering as known
 use Rattle.amqp_link_calls.specs.Called.{Called, awaits_outcome}
@@ -15,7 +15,7 @@ use Rattle.amqp_links.specs.declared.timed.TimedCall.{TimedCall}
 use Rattle.amqp_links.specs.declared.timed.Timer.{Timer}
 use Rattle.amqp_links.specs.State.{State, link_of, with_link, answering}
 use Rattle.amqp_links.specs.Taking.{taken_up}
-use Rattle.amqp_links.specs.Timing.{is_due, timer, timed_of, waiting_as, waiting_for, waiting_no_more, send_kept, awaiting_as, awaiting_at, awaiting, sent, unsent, tried, trying_at, message_for, trying, tried_again, elapsed_if, outcome_elapsed, part_elapsed, elapsed, looked_at, all_looked, looked, waiting_send, waiting_told, told_waiting_as, told_waiting, timed_sending, waiting_part, part_told}
+use Rattle.amqp_links.specs.Timing.{is_due, timer, timed_of, waiting_as, waiting_for, waiting_no_more, send_kept, awaiting_as, awaiting_at, sent, unsent, tried, trying_at, message_for, trying, tried_again, elapsed_if, outcome_elapsed, part_elapsed, elapsed, looked_at, all_looked, looked, waiting_send, waiting_told, told_waiting_as, told_waiting, timed_sending, waiting_part, part_told}
 use Rattle.call_waits.specs.Moves.{Sends, AsksOutcome, GivesUpOutcome, GivesUpPart}
 use Rattle.call_waits.proofs.Moves.{waits_on}
 use Rattle.link_waits.proofs.Steps.{Goes, goes_still, goes_then, goes_either, goes_same, link_goes}

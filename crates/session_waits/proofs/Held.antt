@@ -1,6 +1,5 @@
 -- Whatever the sessions of an end do, a Transfer waits for the window of the peer alone.
 use Rattle.std.specs.Prelude.{◌≡◌, ℕ, nat_eq, Bool, true, false, List, [], ◌∷◌, Option, Some, None, refl}
-use Rattle.std.proofs.Common.{sym, ◌∙◌, ap, subst}
 use Rattle.std.specs.Map.{lookup}
 use Rattle.amqp_calls.specs.declared.call.SessionNumbers.{SessionNumbers}
 use Rattle.amqp_frames.specs.declared.shared.IncomingSession.{IncomingSession}
@@ -10,16 +9,16 @@ use Rattle.amqp_session.specs.declared.session.SessionState.{SessionState}
 use Rattle.amqp_session.specs.declared.session.SessionState.TheVariants as state
 use Rattle.amqp_session.specs.Begin as session
 use Rattle.amqp_session.specs.Laws.{IsTidy}
-use Rattle.amqp_session.specs.State.{State as Session, Framed}
+use Rattle.amqp_session.specs.State.{Framed}
 use Rattle.amqp_session.proofs.Tidy.{heard_tidy, told_in_tidy, refused_tidy, end_tidy, begun_tidy, accepted_tidy}
 use Rattle.amqp_sessions.specs.declared.endpoint.Change.{Change}
 use Rattle.amqp_sessions.specs.declared.endpoint.Change.TheVariants.{Same, Begun, Refused, Gone, Answered}
-use Rattle.amqp_sessions.specs.Calls.{settings, entered, begun, accepted, left_in, left_at, left, end_told, end_at, ended}
+use Rattle.amqp_sessions.specs.Calls.{settings, entered, begun, accepted, left_in, left_at, end_told, end_at, ended}
 use Rattle.amqp_sessions.specs.Endpoint.{hearing, change_of, having_heard, having_written, having_refused, error_of, asking_end, waits_for, having_asked, emptied}
 use Rattle.amqp_sessions.specs.Frames.{place_of, joined, freed_at, freed, freed_own, concluding_for, concluding, changed, hearing_at, kept_at, heard_by, heard, heard_all, heard_early_at, written_at, refusing_at}
 use Rattle.amqp_sessions.specs.Parts.{EndpointState, idle, with_session}
 use Rattle.amqp_sessions.specs.State.{State, endpoint_of, with_endpoint, let_go, handing, handed_out}
-use Rattle.amqp_sessions.proofs.Gone.{Each, each_inserted, each_set, each_found, but_of, each_gone}
+use Rattle.amqp_sessions.proofs.Gone.{each_inserted, each_set, each_found, but_of, each_gone}
 use Rattle.session_waits.specs.Waits.{AllTidy}
 
 abbrev Tidy : EndpointState → Type 0

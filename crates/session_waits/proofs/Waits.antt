@@ -1,5 +1,5 @@
 -- Whatever the sessions of an end do, a `begin` waits for the peer's Begin, and an `end` for its End.
-use Rattle.std.specs.Prelude.{◌≡◌, ◌⊎◌, ℕ, nat_eq, Bool, true, false, cond, List, [], ◌∷◌, Option, Some, None, refl}
+use Rattle.std.specs.Prelude.{◌≡◌, ℕ, nat_eq, Bool, true, false, cond, List, [], ◌∷◌, Option, Some, None, refl}
 use Rattle.std.proofs.Common.{inl, inr, sym, ◌∙◌, ap, subst, arith}
 use Rattle.std.proofs.lemmas.Bool.{eqb-true}
 use Rattle.std.specs.Map.{lookup}
@@ -18,23 +18,23 @@ use Rattle.amqp_session.specs.Frames.{heard_unanswered, heard_in, told_in}
 use Rattle.amqp_session.specs.State.{State as Session, Framed}
 use Rattle.amqp_sessions.specs.declared.endpoint.Change.{Change}
 use Rattle.amqp_sessions.specs.declared.endpoint.Change.TheVariants.{Same, Begun, Refused, Gone, Answered}
-use Rattle.amqp_sessions.specs.declared.sessions.Waiting.TheVariants.{Begin, Accept}
-use Rattle.amqp_sessions.specs.Calls.{settings, entered, begun, awaiting, accepted, left_in, left_at, left, end_told, end_at, ended}
+use Rattle.amqp_sessions.specs.declared.sessions.Waiting.TheVariants.{Begin}
+use Rattle.amqp_sessions.specs.Calls.{settings, entered, begun, awaiting, accepted, left_in, left_at, end_told, end_at, ended}
 use Rattle.amqp_sessions.specs.Endpoint.{change_between, hearing, change_of, having_heard, having_written, having_refused, asking_end, having_asked, emptied}
-use Rattle.amqp_sessions.specs.Frames.{place_of, joined, refused, freed_at, freed_own, freed, concluding_for, concluding, changed, hearing_at, kept_at, kept, heard_by, heard, heard_all, heard_early_at, heard_early, written_at, written, refusing_at, refusing}
-use Rattle.amqp_sessions.specs.Laws.{WaitsForEnd, AllWaitForEnd}
+use Rattle.amqp_sessions.specs.Frames.{place_of, joined, refused, freed_at, freed, concluding_for, concluding, changed, hearing_at, kept_at, heard_by, heard, heard_all, heard_early_at, written_at, written, refusing_at, refusing}
+use Rattle.amqp_sessions.specs.Laws.{WaitsForEnd}
 use Rattle.amqp_sessions.specs.Parts.{EndpointState, idle}
-use Rattle.amqp_sessions.specs.State.{State, none_begun, endpoint_of, with_endpoint, let_go, handing, handed_out}
+use Rattle.amqp_sessions.specs.State.{State, endpoint_of, with_endpoint, let_go, handing, handed_out}
 use Rattle.amqp_sessions.proofs.Gone.{each_set, each_found}
 use Rattle.amqp_sessions.proofs.Meant.{released_state, ended_state}
 use Rattle.amqp_sessions.proofs.Waits as ends
-use Rattle.session_lives.specs.Deeds.{Deed, Begins, Awaits, Accepts, Refuses, Ends, HandsOut, Halts, Concludes, Hears, Writes, Frees, Gives, Takes, Lacks, Tells, IsDeed, Did}
+use Rattle.session_lives.specs.Deeds.{Deed, Begins, Awaits, Accepts, Refuses, Ends, HandsOut, Halts, Concludes, Hears, Writes, Frees, Gives, Takes, Lacks, Tells, IsDeed}
 use Rattle.session_lives.specs.Logs.{AreKeyed}
 use Rattle.session_lives.proofs.Deeds.{one_session_lives}
 use Rattle.session_lives.proofs.Tables.{set_at, set_keyed, insert_here, insert_keyed, gone}
 use Rattle.session_waits.proofs.Held as held
 use Rattle.session_waits.specs.Laws.{NoneWaits, AllWaitOn}
-use Rattle.session_waits.specs.Waits.{BeginWaits, AreWaiting, IsOrderly, AreOrderly}
+use Rattle.session_waits.specs.Waits.{BeginWaits, AreWaiting, IsOrderly}
 
 abbrev Begins' : State → Type 0
 Begins' s = (name : ℕ) → s.waiting ≡ Some (Begin name) → BeginWaits (endpoint_of name s)
