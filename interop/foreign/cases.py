@@ -71,6 +71,15 @@ def receiving(title, credit=10, max=None, rcv=None):
     return it
 
 
+def accepting(title, handles=255):
+    """A listener with a session: 0 is the accept, 2 the accept_session; the peer's channel is 4."""
+    it = Case(title, "l")
+    it.call("accept id=l", "@ pending", wrote=HEADER)
+    it.hears(HEADER, frame(0, Open("p")), replies=["0 connection"], wrote=frame(0, Open("l")))
+    it.call("accept_session" + (f" handles={handles}" if handles != 255 else ""), "@ pending")
+    return it.hears(frame(4, Begin(None)), replies=["2 session"], wrote=frame(0, Begin(4, hmax=handles)))
+
+
 def tag(n):
     return n.to_bytes(4, "big")
 
@@ -78,6 +87,11 @@ def tag(n):
 def ended(condition):
     """The End of a session that was not kept to (part 2, section 2.7.7)."""
     return frame(0, End(Error(condition)))
+
+
+def stopped(condition):
+    """The Close of a connection that was not kept to (part 2, section 2.7.9)."""
+    return frame(0, Close(Error(condition)))
 
 
 def closed_for(condition):
@@ -109,6 +123,14 @@ client("the channels of a session that is ended are taken again").hears(frame(4,
 client("a frame on a channel above the channel-max of both").hears(frame(256, End()), wrote=frame(0, Close(Error("amqp:connection:framing-error"))))
 client("an answer on a channel above it").hears(frame(256, Begin(0)), wrote=frame(0, Close(Error("amqp:connection:framing-error"))))
 client("a frame on the highest channel, which no session has").hears(frame(255, End()), wrote=frame(0, Close(Error("amqp:not-found"))))
+
+# ---- handles above the handle-max that this end has announced (part 2, section 2.7.2): the connection is closed with framing-error
+for what, body, payload in [("an Attach", Attach("t", 8, RECEIVER, Source(), Target("q")), b""), ("a Transfer", Transfer(8, 0, tag(0), 0), M),
+                            ("a Flow", Flow(0, 9, 0, 9, 8, 0, 1), b""), ("a Detach", Detach(8, True), b"")]:
+    client(f"{what} with a handle above the handle-max of this end", "handles=7").hears(frame(4, body, payload), wrote=stopped("amqp:connection:framing-error"))
+client("a Detach of the highest handle, which no link has", "handles=7").hears(frame(4, Detach(7, True)), wrote=ended("amqp:session:unattached-handle"))
+client("a handle above it on a channel that no session has", "handles=7").hears(frame(5, Detach(8, True)), wrote=stopped("amqp:not-found"))
+
 client("a second Open").hears(frame(0, Open("p")), wrote=frame(0, Close(Error("amqp:illegal-state"))))
 
 # ---- Flows (part 2, sections 2.5.6, 2.6.7 and 2.7.4)
@@ -218,13 +240,8 @@ sending("a message for one link comes whole, while a frame for another handle en
 
 # ---- a listener
 def listener(title, accept="accept_link 2 credit=manual"):
-    """A listener with a session: 0 is the accept, 2 the accept_session, 4 the accept_link; the peer's channel is 4."""
-    it = Case(title, "l")
-    it.call("accept id=l", "@ pending", wrote=HEADER)
-    it.hears(HEADER, frame(0, Open("p")), replies=["0 connection"], wrote=frame(0, Open("l")))
-    it.call("accept_session", "@ pending")
-    it.hears(frame(4, Begin(None)), replies=["2 session"], wrote=frame(0, Begin(4)))
-    return it.call(accept, "@ pending")
+    """As `accepting`, and 4 is the accept_link."""
+    return accepting(title).call(accept, "@ pending")
 
 
 def refused(title, error, condition, peer, own):
@@ -233,6 +250,8 @@ def refused(title, error, condition, peer, own):
     listener(title).hears(frame(4, peer), replies=[f"4 error Accept.{side}.{error}"], wrote=frame(0, own) + frame(0, Detach(0, True, Error(condition, error))))
 
 
+accepting("an Attach with a handle above the handle-max with which a listener has answered", 7) \
+    .hears(frame(4, Attach("t", 8, SENDER, Source(), Target("q"), idc=0)), wrote=stopped("amqp:connection:framing-error"))
 refused("a listener is asked for a link to a coordinator", "CoordinatorIsNotImplemented", "amqp:not-implemented",
         Attach("t", 9, SENDER, Source(), Coordinator(), idc=0), Attach("t", 0, RECEIVER, Source(), None))
 refused("a listener is asked by a sender without initial-delivery-count", "InitialDeliveryCountIsNone", "amqp:invalid-field",
